@@ -1,0 +1,68 @@
+use crate::{read_all, write_all, MemorySink, MemorySource, ReadFault, RealSink, RealSource};
+use crate::{Sent, Sink, Source, Taken};
+use std::alloc::{AllocGlobal, Global};
+use std::test::Fail;
+use wl_octets::{Memory, Octets, Row};
+
+/// The list of one number.
+fn only(alloc: Global, number: u64) -> Result<Row<u64>, Memory> {
+    let mut row = Row::empty(alloc);
+    row.push(number)?;
+    Ok(row)
+}
+
+#[test]
+fn reads_to_the_end(rt: HostRuntime) -> Result<(), Fail> {
+    let alloc = rt.alloc();
+    for piece in 0..8 {
+        let mut source = MemorySource::start(Octets::from_slice(alloc, b"abcdef")?, piece, Row::empty(alloc));
+        let bytes = read_all(alloc, &mut source, 100)?;
+        assert_eq!(rt; bytes.as_slice(), b"abcdef".as_slice());
+    }
+    let mut source = MemorySource::start(Octets::from_slice(alloc, b"abcdef")?, 4, Row::empty(alloc));
+    let bytes = read_all(alloc, &mut source, 5)?;
+    assert_eq!(rt; bytes.as_slice(), b"abcde".as_slice());
+    let mut one = [0];
+    assert_eq!(rt; source.read(&mut one), Taken::Got(1));
+    assert_eq!(rt; one, *b"f");
+    assert_eq!(rt; source.read(&mut one), Taken::End);
+    Ok(())
+}
+
+#[test]
+fn a_failing_read_is_told_and_the_next_goes_on(rt: HostRuntime) -> Result<(), Fail> {
+    let alloc = rt.alloc();
+    let mut source = MemorySource::start(Octets::from_slice(alloc, b"abcdef")?, 4, only(alloc, 1)?);
+    assert_eq!(rt; read_all(alloc, &mut source, 100).err(), Some(ReadFault::Failed));
+    let bytes = read_all(alloc, &mut source, 100)?;
+    assert_eq!(rt; bytes.as_slice(), b"ef".as_slice());
+    Ok(())
+}
+
+#[test]
+fn writes_the_whole_or_a_front(rt: HostRuntime) -> Result<(), Fail> {
+    let alloc = rt.alloc();
+    let mut sink = MemorySink::start(alloc, 10, 100, 2, Row::empty(alloc))?;
+    assert!(rt; write_all(&mut sink, b"abcde"));
+    assert_eq!(rt; sink.bytes(), b"abcde".as_slice());
+    let mut failing = MemorySink::start(alloc, 10, 100, 2, only(alloc, 1)?)?;
+    assert!(rt; !write_all(&mut failing, b"abcde"));
+    assert_eq!(rt; failing.bytes(), b"ab".as_slice());
+    let mut small = MemorySink::start(alloc, 10, 3, 2, Row::empty(alloc))?;
+    assert!(rt; !write_all(&mut small, b"abcde"));
+    assert_eq!(rt; small.bytes(), b"abc".as_slice());
+    let mut few = MemorySink::start(alloc, 1, 100, 2, Row::empty(alloc))?;
+    assert!(rt; !write_all(&mut few, b"abcde"));
+    assert_eq!(rt; few.bytes(), b"ab".as_slice());
+    Ok(())
+}
+
+#[test]
+fn real_streams(rt: HostRuntime) -> Result<(), Fail> {
+    let alloc = rt.alloc();
+    let mut source = RealSource::start(b"ab".as_slice());
+    assert_eq!(rt; read_all(alloc, &mut source, 9)?.as_slice(), b"ab".as_slice());
+    let mut sink = RealSink::start(Vec::new(alloc));
+    assert_eq!(rt; sink.write(b"ab"), Sent::Took(2));
+    Ok(())
+}
