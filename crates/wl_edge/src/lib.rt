@@ -14,14 +14,9 @@ mod source;
 #[cfg(test)]
 mod tests;
 
-pub use drain::read_all;
-pub use drain::write_all;
-pub use drain::ReadFault;
+pub use drain::{ReadFault, read_all, write_all};
 pub use memory_sink::MemorySink;
 pub use memory_source::MemorySource;
-pub use real::RealSink;
-pub use real::RealSource;
-pub use sink::Sent;
-pub use sink::Sink;
-pub use source::Source;
-pub use source::Taken;
+pub use real::{RealSink, RealSource};
+pub use sink::{Sent, Sink};
+pub use source::{Source, Taken};

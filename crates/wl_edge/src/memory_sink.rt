@@ -22,7 +22,13 @@ pub struct MemorySink {
 impl MemorySink {
     /// A sink with room for `answers` writes and `room` bytes, of which a write takes at most `piece` (at least
     /// 1), and whose writes of these numbers fail.
-    pub fn start(alloc: Global, answers: u64, room: usize, piece: usize, failing: Row<u64>) -> Result<MemorySink, Memory> {
+    pub fn start(
+        alloc: Global,
+        answers: u64,
+        room: usize,
+        piece: usize,
+        failing: Row<u64>,
+    ) -> Result<MemorySink, Memory> {
         Ok(MemorySink {
             bytes: Octets::from_vec(Vec::with_capacity(alloc, room)?),
             room,
@@ -50,7 +56,9 @@ impl Sink for MemorySink {
         self.writes = self.writes.saturating_add(1);
         let room = self.room.saturating_sub(self.bytes.len());
         let count = bytes.len().min(self.piece.max(1)).min(room);
-        let fails = number >= self.answers || count == 0 || self.failing.as_slice().contains(&number);
+        let fails = number >= self.answers
+            || count == 0
+            || self.failing.as_slice().contains(&number);
         if fails || self.bytes.push_slice(&bytes[..count]).is_err() {
             self.faults = self.faults.saturating_add(1);
             return Sent::Failed;

@@ -1,5 +1,7 @@
-use crate::{read_all, write_all, MemorySink, MemorySource, ReadFault, RealSink, RealSource};
-use crate::{Sent, Sink, Source, Taken};
+use crate::{
+    MemorySink, MemorySource, ReadFault, RealSink, RealSource, Sent, Sink, Source, Taken, read_all,
+    write_all,
+};
 use std::alloc::{AllocGlobal, Global};
 use std::test::Fail;
 use wl_octets::{Memory, Octets, Row};
@@ -15,11 +17,19 @@ fn only(alloc: Global, number: u64) -> Result<Row<u64>, Memory> {
 fn reads_to_the_end(rt: HostRuntime) -> Result<(), Fail> {
     let alloc = rt.alloc();
     for piece in 0..8 {
-        let mut source = MemorySource::start(Octets::from_slice(alloc, b"abcdef")?, piece, Row::empty(alloc));
+        let mut source = MemorySource::start(
+            Octets::from_slice(alloc, b"abcdef")?,
+            piece,
+            Row::empty(alloc),
+        );
         let bytes = read_all(alloc, &mut source, 100)?;
         assert_eq!(rt; bytes.as_slice(), b"abcdef".as_slice());
     }
-    let mut source = MemorySource::start(Octets::from_slice(alloc, b"abcdef")?, 4, Row::empty(alloc));
+    let mut source = MemorySource::start(
+        Octets::from_slice(alloc, b"abcdef")?,
+        4,
+        Row::empty(alloc),
+    );
     let bytes = read_all(alloc, &mut source, 5)?;
     assert_eq!(rt; bytes.as_slice(), b"abcde".as_slice());
     let mut one = [0];
@@ -33,7 +43,10 @@ fn reads_to_the_end(rt: HostRuntime) -> Result<(), Fail> {
 fn a_failing_read_is_told_and_the_next_goes_on(rt: HostRuntime) -> Result<(), Fail> {
     let alloc = rt.alloc();
     let mut source = MemorySource::start(Octets::from_slice(alloc, b"abcdef")?, 4, only(alloc, 1)?);
-    assert_eq!(rt; read_all(alloc, &mut source, 100).err(), Some(ReadFault::Failed));
+    assert_eq!(rt;
+        read_all(alloc, &mut source, 100).err(),
+        Some(ReadFault::Failed)
+    );
     let bytes = read_all(alloc, &mut source, 100)?;
     assert_eq!(rt; bytes.as_slice(), b"ef".as_slice());
     Ok(())
@@ -61,7 +74,10 @@ fn writes_the_whole_or_a_front(rt: HostRuntime) -> Result<(), Fail> {
 fn real_streams(rt: HostRuntime) -> Result<(), Fail> {
     let alloc = rt.alloc();
     let mut source = RealSource::start(b"ab".as_slice());
-    assert_eq!(rt; read_all(alloc, &mut source, 9)?.as_slice(), b"ab".as_slice());
+    assert_eq!(rt;
+        read_all(alloc, &mut source, 9)?.as_slice(),
+        b"ab".as_slice()
+    );
     let mut sink = RealSink::start(Vec::new(alloc));
     assert_eq!(rt; sink.write(b"ab"), Sent::Took(2));
     Ok(())

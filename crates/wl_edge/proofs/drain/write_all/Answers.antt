@@ -1,4 +1,4 @@
-use Rattle.std.proofs.Common.{◌≤◌, ◌≡◌, arith}
+use Rattle.std.proofs.Common.{arith}
 use Rattle.wl_edge.proofs.Sending.{send_more}
 use Rattle.wl_edge.proofs.drain.write_all.Goals as goal
 
