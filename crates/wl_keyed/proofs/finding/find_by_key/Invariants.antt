@@ -1,0 +1,13 @@
+use Rattle.std.proofs.Common.{◌≡◌, map, length}
+use Rattle.wl_words.specs.Lists.{Rises}
+use Rattle.wl_keyed.specs.Keys.{item_at}
+use Rattle.wl_keyed.proofs.finding.find_by_key.Given as goal
+
+abbrev pub invariant-halves : goal.invariant-halves
+invariant-halves g l = record {
+  rises : Rises (map g.T.Keyed.key l.rest);
+  same : item_at g.T.Keyed.key l.rest l.key ≡ item_at g.T.Keyed.key l.items l.key;
+}
+
+abbrev pub decreases-halves : goal.decreases-halves
+decreases-halves g l = length l.rest

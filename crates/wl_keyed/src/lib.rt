@@ -1,0 +1,12 @@
+//! Lists by ascending key, as entries by id and bundles by domain.
+//!
+//! [`find_by_key`] gives the item of a key by halving, so that no call walks over a whole list for one item.
+#![tactic(auto)]
+
+mod finding;
+mod keyed;
+#[cfg(test)]
+mod tests;
+
+pub use finding::find_by_key;
+pub use keyed::Keyed;
