@@ -1,0 +1,36 @@
+//! Base 128 varints (Protocol Buffers encoding, "Base 128 Varints").
+
+ghost use Rattle.std.specs.Prelude.{◌≡◌, ◌≤◌, ◌++◌, length, OnOk, OnErr};
+ghost use Rattle.pb_wire.specs.Varint.{varint};
+ghost use Rattle.wl_words.specs.Lists.{GainsFront};
+
+use crate::fault::Memory;
+
+/// Appends the shortest varint of a number, one to ten bytes. After `Memory` a front of it was appended.
+pub fn put_varint(out: &mut Vec<u8>, value: u64) -> Result<(), Memory>
+    ensures ok { OnOk result (out.new.items ≡ out.old.items ++ varint value) }
+    ensures err { OnErr result (GainsFront (varint value) out.old.items out.new.items) }
+{
+    let mut rest = value;
+    while rest >= 128 {
+        out.push((rest % 128) as u8 + 128)?;
+        rest /= 128;
+    }
+    out.push(rest as u8)?;
+    Ok(())
+}
+
+/// How many bytes the shortest varint of a number has, 1 to 10.
+pub fn size_of_varint(value: u64) -> usize
+    ensures size { result ≡ length (varint value) }
+    ensures least { 1 ≤ result }
+    ensures most { result ≤ 10 }
+{
+    let mut rest = value;
+    let mut size = 1;
+    while rest >= 128 {
+        rest /= 128;
+        size += 1;
+    }
+    size
+}

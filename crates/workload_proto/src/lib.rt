@@ -1,0 +1,24 @@
+//! The messages of the SPIFFE Workload API: those that are answered to bytes, those that are asked from bytes.
+//!
+//! Each message has one spelling (specs/Spelling): the `encode_` calls give it, in one allocation of the counted size,
+//! and the `size_` calls count it without making it. Requests are read by the grammar of proto3 in this project's
+//! profile (specs/Requests); bytes outside it have the first fault in them.
+#![tactic(auto)]
+
+mod encode;
+mod items;
+mod message;
+mod size;
+
+pub use encode::{encode_bundles, encode_jwt, encode_jwt_bundles, encode_x509};
+pub use message::{
+    BundlesResponse, JwtBundlesResponse, JwtItem, JwtRequest, JwtResponse, MapItem, X509Item,
+    X509Response,
+};
+pub use size::{
+    jwt_item_size, map_item_size, size_bundles, size_jwt, size_jwt_bundles, size_x509,
+    x509_item_size,
+};
+
+#[cfg(test)]
+mod tests;
