@@ -1,0 +1,3 @@
+mod Texts
+mod Members
+pub mod Subsets

@@ -1,0 +1,76 @@
+//! What can be wrong with a selector, and with a list of them.
+
+use std::alloc::{AllocError, AllocFailed};
+
+/// Memory ran out.
+#[derive(Clone, Copy, Debug, PartialEq, Eq)]
+pub struct Memory;
+
+impl From<AllocError> for Memory {
+    fn from(_: AllocError) -> Memory {
+        Memory
+    }
+}
+
+/// The first fault of a text that is to be a selector: UTF-8 is judged first, then the parts.
+#[derive(Clone, Copy, Debug, PartialEq, Eq)]
+pub enum SelectorFault {
+    /// There is no colon.
+    NoColon,
+    /// Nothing stands before the first colon.
+    EmptyKind,
+    /// Nothing stands behind the first colon.
+    EmptyValue,
+    /// The text is no UTF-8.
+    NotUtf8,
+    /// Memory ran out.
+    Memory,
+}
+
+/// Why a list gives no set.
+#[derive(Clone, Copy, Debug, PartialEq, Eq)]
+pub enum SelectorsFault {
+    /// The list has so many items, more than the limit.
+    TooMany(usize),
+    /// Memory ran out.
+    Memory,
+}
+
+impl<T: Drop> From<AllocFailed<T>> for Memory {
+    fn from(_: AllocFailed<T>) -> Memory {
+        Memory
+    }
+}
+
+impl From<AllocError> for SelectorFault {
+    ghost use Rattle.std.specs.Prelude.{◌≡◌};
+    ghost use Rattle.wl_selector.specs.declared.faults.SelectorFault.TheVariants.{Memory};
+
+    ghost from_gives = { λ _ fault. fault ≡ Memory };
+
+    fn from(_: AllocError) -> SelectorFault {
+        SelectorFault::Memory
+    }
+}
+
+impl From<AllocError> for SelectorsFault {
+    ghost use Rattle.std.specs.Prelude.{◌≡◌};
+    ghost use Rattle.wl_selector.specs.declared.faults.SelectorsFault.TheVariants.{Memory};
+
+    ghost from_gives = { λ _ fault. fault ≡ Memory };
+
+    fn from(_: AllocError) -> SelectorsFault {
+        SelectorsFault::Memory
+    }
+}
+
+impl<T: Drop> From<AllocFailed<T>> for SelectorsFault {
+    ghost use Rattle.std.specs.Prelude.{◌≡◌};
+    ghost use Rattle.wl_selector.specs.declared.faults.SelectorsFault.TheVariants.{Memory};
+
+    ghost from_gives = { λ _ fault. fault ≡ Memory };
+
+    fn from(_: AllocFailed<T>) -> SelectorsFault {
+        SelectorsFault::Memory
+    }
+}
