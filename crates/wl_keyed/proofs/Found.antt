@@ -1,5 +1,7 @@
 -- In a list by ascending key each item is found by its key.
-use Rattle.std.specs.Prelude.{◌≡◌, ℕ, List, [], ◌∷◌, ◌++◌, map, Some}
+use Rattle.std.specs.Prelude.{◌≡◌, ℕ, List, [], ◌∷◌, ◌++◌, map, find, Bool, true, false, if◌then◌else◌, Option, Some, IfSome}
+use Rattle.std.specs.Str.{bytes_eq}
+use Rattle.std.proofs.lemmas.Slice.Eq.{bytes_eq-Decides}
 use Rattle.std.specs.List.{AllByRecursion}
 use Rattle.std.specs.Ordering.{nat_cmp, ordering_reverse}
 use Rattle.std.specs.Cmp.Lexicographic.{slice_cmp, nat_list_cmp_total}
@@ -29,3 +31,13 @@ found_behind key front (x ∷ xs) rises =
 -- each item is the one of its key
 pub found_all : {X : Type 0} (key : X → List ℕ) (xs : List X) → Rises (map key xs) → AllByRecursion (λ x. item_at key xs (key x) ≡ Some x) xs
 found_all key xs rises = found_behind key [] xs rises
+
+there_go : {X : Type 0} (P : X → Type 0) (key : X → List ℕ) (k : List ℕ) (x : X) (rest : Option X) (b : Bool) → b ≡ bytes_eq (key x) k → P x → IfSome rest (λ y. P y × (key y ≡ k)) → IfSome (if b then Some x else rest) (λ y. P y × (key y ≡ k))
+there_go P key k x rest true same here there = (here, (bytes_eq-Decides (key x) k).0 (sym same))
+there_go P key k x rest false same here there = there
+
+-- the item that is found has the key, and what each item has
+pub found_has : {X : Type 0} (P : X → Type 0) (key : X → List ℕ) (xs : List X) (k : List ℕ) → AllByRecursion P xs → IfSome (item_at key xs k) (λ y. P y × (key y ≡ k))
+unfolding item_at
+found_has P key [] k all = tt
+found_has P key (x ∷ xs) k all = there_go P key k x (find (λ y. bytes_eq (key y) k) xs) (bytes_eq (key x) k) refl all.0 (found_has P key xs k all.1)
