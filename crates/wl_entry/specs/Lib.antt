@@ -1,0 +1,4 @@
+pub mod Asks
+pub mod Fitness
+pub mod Limits
+pub mod Same

@@ -1,0 +1,32 @@
+//! What is asked to be signed for an entry.
+
+ghost use Rattle.std.specs.Prelude.{◌≡◌, IfOk};
+
+use crate::copying::{copy_id, copy_row};
+use spiffe_id::SpiffeId;
+use std::alloc::Global;
+use wl_octets::{Memory, Octets, Row};
+
+/// What a signer is asked for: an identity for an entry, with its DNS names, for so many seconds.
+#[derive(PartialEq, Drop)]
+pub struct Ask {
+    pub entry_id: Octets,
+    pub spiffe_id: SpiffeId,
+    pub dns_names: Row<Octets>,
+    /// How long the identity is to last, in seconds.
+    pub ttl: u32,
+}
+
+impl Ask {
+    /// The same ask once more.
+    pub fn copy(&self, alloc: Global) -> Result<Ask, Memory>
+        ensures { IfOk result (λ a. a ≡ self.now) }
+    {
+        Ok(Ask {
+            entry_id: self.entry_id.copy(alloc)?,
+            spiffe_id: copy_id(alloc, &self.spiffe_id)?,
+            dns_names: copy_row(alloc, &self.dns_names)?,
+            ttl: self.ttl,
+        })
+    }
+}

@@ -1,0 +1,31 @@
+//! Bundles of trust domains.
+
+ghost use Rattle.std.specs.Prelude.{◌≡◌, IfOk};
+
+use crate::copying::copy_domain;
+use spiffe_id::TrustDomain;
+use std::alloc::Global;
+use wl_octets::{Memory, Octets};
+
+/// What a trust domain is verified by. An empty part is absent.
+#[derive(PartialEq, Drop)]
+pub struct Bundle {
+    pub domain: TrustDomain,
+    /// Certificates, one after the other in DER.
+    pub x509: Octets,
+    /// A JWK set.
+    pub jwks: Octets,
+}
+
+impl Bundle {
+    /// The same bundle once more.
+    pub fn copy(&self, alloc: Global) -> Result<Bundle, Memory>
+        ensures { IfOk result (λ b. b ≡ self.now) }
+    {
+        Ok(Bundle {
+            domain: copy_domain(alloc, &self.domain)?,
+            x509: self.x509.copy(alloc)?,
+            jwks: self.jwks.copy(alloc)?,
+        })
+    }
+}

@@ -1,0 +1,65 @@
+//! Registration entries.
+
+ghost use Rattle.std.specs.Prelude.{◌≡◌, IfOk};
+ghost use Rattle.wl_entry.specs.Asks.{ask_of, is_ask_of};
+
+use crate::asks::Ask;
+use crate::copying::{copy_domains, copy_id, copy_row, copy_selectors};
+use spiffe_id::{SpiffeId, TrustDomain};
+use std::alloc::Global;
+use wl_octets::{Memory, Octets, Row};
+use wl_selector::Selectors;
+
+/// A registration entry: the identity of the workloads that have all its selectors.
+#[derive(PartialEq, Drop)]
+pub struct Entry {
+    pub id: Octets,
+    pub spiffe_id: SpiffeId,
+    pub selectors: Selectors,
+    /// The domains whose bundles those workloads see beside the own one.
+    pub federates_with: Row<TrustDomain>,
+    pub dns_names: Row<Octets>,
+    /// How long an identity is to last, in seconds.
+    pub ttl: u32,
+    /// Empty where there is none.
+    pub hint: Octets,
+}
+
+impl Entry {
+    /// What is to be signed for it. The hint is no part of that.
+    pub fn ask(&self, alloc: Global) -> Result<Ask, Memory>
+        ensures { IfOk result (λ a. a ≡ ask_of self.now) }
+    {
+        Ok(Ask {
+            entry_id: self.id.copy(alloc)?,
+            spiffe_id: copy_id(alloc, &self.spiffe_id)?,
+            dns_names: copy_row(alloc, &self.dns_names)?,
+            ttl: self.ttl,
+        })
+    }
+
+    /// Whether the ask is this entry's.
+    pub fn asks(&self, ask: &Ask) -> bool
+        ensures { result ≡ is_ask_of self.now ask.now }
+    {
+        self.id == ask.entry_id
+            && self.spiffe_id == ask.spiffe_id
+            && self.dns_names == ask.dns_names
+            && self.ttl == ask.ttl
+    }
+
+    /// The same entry once more.
+    pub fn copy(&self, alloc: Global) -> Result<Entry, Memory>
+        ensures { IfOk result (λ e. e ≡ self.now) }
+    {
+        Ok(Entry {
+            id: self.id.copy(alloc)?,
+            spiffe_id: copy_id(alloc, &self.spiffe_id)?,
+            selectors: copy_selectors(alloc, &self.selectors)?,
+            federates_with: copy_domains(alloc, &self.federates_with)?,
+            dns_names: copy_row(alloc, &self.dns_names)?,
+            ttl: self.ttl,
+            hint: self.hint.copy(alloc)?,
+        })
+    }
+}

@@ -1,0 +1,87 @@
+//! Signed identities.
+
+ghost use Rattle.std.specs.Prelude.{◌≡◌, IfOk};
+ghost use Rattle.wl_entry.specs.Fitness.{signed_unfit, is_half_over};
+
+use crate::asks::Ask;
+use crate::unfit::Unfit;
+use std::alloc::Global;
+use wl_octets::{Memory, Octets};
+
+/// The most bytes of a chain and its key together.
+const SIGNED_LIMIT: usize = 65536;
+
+/// A signed identity, from its first second on. Times are Unix seconds.
+#[derive(PartialEq, Drop)]
+pub struct Signed {
+    /// Certificates in DER, the leaf first.
+    pub chain: Octets,
+    /// The private key, in PKCS#8 DER.
+    pub key: Octets,
+    pub not_before: u64,
+    pub not_after: u64,
+}
+
+impl Signed {
+    /// The first reason for which it is of no use at this time, of those that its times and lengths give.
+    #[tactic(auto, unfolding(crate::specs::Fitness::signed_unfit))]
+    pub fn unfit(&self, now: u64) -> Option<Unfit>
+        ensures { result ≡ signed_unfit now self.now }
+    {
+        if self.not_after <= self.not_before {
+            return Some(Unfit::Times);
+        }
+        if self.not_after <= now {
+            return Some(Unfit::Expired);
+        }
+        if self.chain.len() == 0 {
+            return Some(Unfit::EmptyChain);
+        }
+        if self.key.len() == 0 {
+            return Some(Unfit::EmptyKey);
+        }
+        let size = self.chain.len() + self.key.len();
+        if size > SIGNED_LIMIT {
+            return Some(Unfit::TooLong(size));
+        }
+        None
+    }
+
+    /// Whether half of its time is over, so that a new one is due.
+    pub fn is_due(&self, now: u64) -> bool
+        ensures { result ≡ is_half_over now self.now }
+    {
+        self.not_before as u128 + self.not_after as u128 <= 2 * now as u128
+    }
+
+    /// The same identity once more.
+    pub fn copy(&self, alloc: Global) -> Result<Signed, Memory>
+        ensures { IfOk result (λ s. s ≡ self.now) }
+    {
+        Ok(Signed {
+            chain: self.chain.copy(alloc)?,
+            key: self.key.copy(alloc)?,
+            not_before: self.not_before,
+            not_after: self.not_after,
+        })
+    }
+}
+
+/// An identity beside the ask for which it was signed.
+#[derive(PartialEq, Drop)]
+pub struct Svid {
+    pub ask: Ask,
+    pub signed: Signed,
+}
+
+impl Svid {
+    /// The same SVID once more.
+    pub fn copy(&self, alloc: Global) -> Result<Svid, Memory>
+        ensures { IfOk result (λ s. s ≡ self.now) }
+    {
+        Ok(Svid {
+            ask: self.ask.copy(alloc)?,
+            signed: self.signed.copy(alloc)?,
+        })
+    }
+}
