@@ -1,4 +1,5 @@
 pub mod Asks
 pub mod Fitness
+pub mod Keys
 pub mod Limits
 pub mod Same

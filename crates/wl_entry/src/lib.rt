@@ -9,6 +9,7 @@ mod asks;
 mod bundles;
 mod copying;
 mod entries;
+mod keys;
 mod signing;
 #[cfg(test)]
 mod tests;

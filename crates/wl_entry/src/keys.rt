@@ -1,0 +1,33 @@
+//! The keys by which entries, SVIDs and bundles are put in order and found.
+
+ghost use Rattle.wl_entry.specs.Keys.{entry_key, svid_key, bundle_key};
+
+use wl_keyed::Keyed;
+
+use crate::bundles::Bundle;
+use crate::entries::Entry;
+use crate::signing::Svid;
+
+impl Keyed for Entry {
+    ghost key = { entry_key };
+
+    fn key(&self) -> &[u8] {
+        self.id.as_slice()
+    }
+}
+
+impl Keyed for Svid {
+    ghost key = { svid_key };
+
+    fn key(&self) -> &[u8] {
+        self.ask.entry_id.as_slice()
+    }
+}
+
+impl Keyed for Bundle {
+    ghost key = { bundle_key };
+
+    fn key(&self) -> &[u8] {
+        self.domain.as_bytes()
+    }
+}
