@@ -1,0 +1,205 @@
+//! Making views.
+
+ghost use Rattle.std.specs.Prelude.{◌≡◌, ◌<◌, ◌≤◌, ◌||◌, List, map, filter, length, All, IfOk, OnOk, option_map, ◌++◌, option_to_list, slice_get};
+ghost use Rattle.std.specs.Str.{bytes_eq};
+ghost use Rattle.std.specs.List.{list_any};
+ghost use Rattle.std.specs.List.Sorted.{IsStrictlySortedBy};
+ghost use Rattle.std.specs.Ordering.{nat_cmp};
+ghost use Rattle.wl_words.specs.Lists.{Rises};
+ghost use Rattle.wl_entry.specs.Keys.{entry_key, svid_key};
+ghost use Rattle.wl_snapshot.specs.Views.{view_in, sight_of, entries_at, is_entitled, held_of, is_federated, is_seen, ChosenFrom};
+
+use crate::seen::{Held, View};
+use crate::snapshot::Snapshot;
+use std::alloc::Global;
+use wl_entry::{Bundle, Entry, Svid};
+use wl_keyed::find_by_key;
+use wl_octets::{Memory, Row, Shared};
+use wl_selector::Selectors;
+
+/// Whether the caller is entitled to an entry.
+#[tactic(auto, unfolding(crate::specs::Views::is_entitled))]
+fn entitles(selectors: &Selectors, entry: &Entry) -> bool
+    ensures { result ≡ is_entitled selectors.now entry.now }
+{
+    entry.selectors.is_subset(selectors)
+}
+
+/// The entries to which the caller is entitled.
+fn entitled_in(
+    alloc: Global,
+    entries: &[Shared<Entry>],
+    selectors: &Selectors,
+) -> Result<Vec<Shared<Entry>>, Memory>
+    ensures { IfOk result (λ v. v.items ≡ filter (is_entitled selectors.now) entries.now) }
+{
+    let mut chosen = Vec::new(alloc);
+    for entry in entries {
+        if entitles(selectors, entry.part()) {
+            chosen.push(entry.share()?)?;
+        }
+    }
+    Ok(chosen)
+}
+
+/// An entry with its SVID.
+#[tactic(auto, unfolding(crate::specs::Views::held_of))]
+fn hold(svids: &[Shared<Svid>], entry: &Shared<Entry>) -> Result<Held, Memory>
+    requires { Rises (map svid_key svids.now) }
+    ensures { IfOk result (λ h. h ≡ held_of svids.now entry.now) }
+{
+    let svid = match find_by_key(svids, entry.part().id.as_slice()) {
+        Some(svid) => Some(svid.share()?),
+        None => None,
+    };
+    Ok(Held {
+        entry: entry.share()?,
+        svid,
+    })
+}
+
+/// The entries with their SVIDs.
+fn hold_all(
+    alloc: Global,
+    svids: &[Shared<Svid>],
+    entries: &[Shared<Entry>],
+) -> Result<Row<Held>, Memory>
+    requires { Rises (map svid_key svids.now) }
+    ensures { IfOk result (λ r. r ≡ map (held_of svids.now) entries.now) }
+{
+    let mut held = Row::empty(alloc);
+    for entry in entries {
+        held.push(hold(svids, entry)?)?;
+    }
+    Ok(held)
+}
+
+/// Whether an entry federates with a domain.
+fn federates(entry: &Entry, domain: &[u8]) -> bool
+    ensures { result ≡ list_any (λ other. bytes_eq other domain.now) entry.now.federates_with }
+{
+    entry
+        .federates_with
+        .as_slice()
+        .iter()
+        .any(|other| other.as_bytes() == domain)
+}
+
+/// Whether one of the entries federates with a domain.
+#[tactic(auto, unfolding(crate::specs::Views::is_federated))]
+fn some_federates(entries: &[Shared<Entry>], domain: &[u8]) -> bool
+    ensures { result ≡ is_federated entries.now domain.now }
+{
+    for entry in entries {
+        if federates(entry.part(), domain) {
+            return true;
+        }
+    }
+    false
+}
+
+/// Whether a bundle is seen by one who is entitled to these entries.
+#[tactic(auto, unfolding(crate::specs::Views::is_seen))]
+fn sees(own: &[u8], entries: &[Shared<Entry>], bundle: &Bundle) -> bool
+    ensures { result ≡ is_seen own.now entries.now bundle.now }
+{
+    bundle.domain.as_bytes() == own || some_federates(entries, bundle.domain.as_bytes())
+}
+
+/// The bundles that are seen by one who is entitled to these entries.
+fn bundles_in(
+    alloc: Global,
+    bundles: &[Shared<Bundle>],
+    own: &[u8],
+    entries: &[Shared<Entry>],
+) -> Result<Row<Shared<Bundle>>, Memory>
+    ensures { IfOk result (λ r. r ≡ filter (is_seen own.now entries.now) bundles.now) }
+{
+    let mut seen = Row::empty(alloc);
+    for bundle in bundles {
+        if sees(own, entries, bundle.part()) {
+            seen.push(bundle.share()?)?;
+        }
+    }
+    Ok(seen)
+}
+
+/// The view that is made of these entries of the publication.
+#[tactic(auto, unfolding(crate::specs::Views::sight_of))]
+fn view_with(alloc: Global, snapshot: &Snapshot, entries: &[Shared<Entry>]) -> Result<View, Memory>
+    requires { ChosenFrom snapshot.now entries.now }
+    ensures { IfOk result (λ v. v ≡ sight_of snapshot.now entries.now) }
+{
+    let domain = match snapshot.domain.copy(alloc) {
+        Ok(domain) => domain,
+        Err(_) => return Err(Memory),
+    };
+    let bundles = bundles_in(
+        alloc,
+        snapshot.bundles.as_slice(),
+        domain.as_bytes(),
+        entries,
+    )?;
+    let held = hold_all(alloc, snapshot.svids.as_slice(), entries)?;
+    Ok(View {
+        domain,
+        held,
+        bundles,
+    })
+}
+
+/// The view of a caller with these selectors.
+#[tactic(auto, unfolding(crate::specs::Views::view_in))]
+pub fn view(alloc: Global, snapshot: &Snapshot, selectors: &Selectors) -> Result<View, Memory>
+    ensures { IfOk result (λ v. v ≡ view_in snapshot.now selectors.now) }
+{
+    let entries = entitled_in(alloc, snapshot.entries.as_slice(), selectors)?;
+    view_with(alloc, snapshot, entries.as_slice())
+}
+
+fn entry_at(entries: &[Shared<Entry>], place: usize) -> Option<&Shared<Entry>>
+    ensures { option_map (λ e. e.now) result ≡ slice_get entries.now place }
+{
+    entries.get(place)
+}
+
+/// Adds the entry at this place, where there is one.
+fn pick(
+    entries: &[Shared<Entry>],
+    place: usize,
+    chosen: &mut Vec<Shared<Entry>>,
+) -> Result<(), Memory>
+    ensures { OnOk result (chosen.new.items ≡ chosen.old.items ++ option_to_list (slice_get entries.now place)) }
+{
+    match entry_at(entries, place) {
+        Some(entry) => Ok(chosen.push(entry.share()?)?),
+        None => Ok(()),
+    }
+}
+
+/// The entries at these places.
+#[tactic(auto, unfolding(crate::specs::Views::entries_at))]
+fn picked(
+    alloc: Global,
+    entries: &[Shared<Entry>],
+    places: &[u32],
+) -> Result<Vec<Shared<Entry>>, Memory>
+    ensures { IfOk result (λ v. v.items ≡ entries_at entries.now places.now) }
+{
+    let mut chosen = Vec::new(alloc);
+    for place in places {
+        pick(entries, *place as usize, &mut chosen)?;
+    }
+    Ok(chosen)
+}
+
+/// The view that is made of the entries at these places, counted from 0, which rise and are below the number of
+/// entries.
+pub fn view_of(alloc: Global, snapshot: &Snapshot, places: &[u32]) -> Result<View, Memory>
+    requires rising { IsStrictlySortedBy nat_cmp places.now }
+    requires there { All (λ place. place < length snapshot.now.entries) places.now }
+    ensures { IfOk result (λ v. v ≡ sight_of snapshot.now (entries_at snapshot.now.entries places.now)) }
+{
+    let entries = picked(alloc, snapshot.entries.as_slice(), places)?;
+    view_with(alloc, snapshot, entries.as_slice())
+}
