@@ -14,6 +14,8 @@ mod parser;
 mod payload;
 mod reading;
 mod stage;
+#[cfg(test)]
+mod tests;
 mod writing;
 
 pub use fault::FrameFault;

@@ -1,6 +1,6 @@
 //! Frames as bytes.
 
-ghost use Rattle.std.specs.Prelude.{◌≡◌, ◌≤◌, ◌<◌, ◌^◌, ℕ, if◌then◌else◌, List, flat_map, length, OnOk, ◌++◌};
+ghost use Rattle.std.specs.Prelude.{◌≡◌, ◌≤◌, ◌<◌, ◌^◌, ℕ, if◌then◌else◌, List, flat_map, length, OnOk, nat_le, ◌++◌};
 ghost use Rattle.h2_frame.specs.Reading.{first_frame, whole};
 ghost use Rattle.h2_frame.specs.Writing.{spelling, payload_of, kind_of, flags_of, setting_bytes, IsWritable};
 ghost use Rattle.wl_words.specs.Lists.{GainsFront};
@@ -25,6 +25,22 @@ pub fn put_frame(out: &mut Octets, frame: &Frame) -> Result<(), Memory>
     let head = head_of_frame(payload_len(body), kind(body), flags(body), frame.stream);
     out.push_slice(&head)?;
     put_payload(out, body)
+}
+
+impl Body {
+    /// Whether the payload has at most 16,384 bytes, as `put_frame` asks.
+    #[tactic(auto, using(crate::proofs::Settings::settings_length))]
+    pub fn fits(&self) -> bool
+        ensures { result ≡ nat_le (length (payload_of self.now)) 16384 }
+    {
+        match self {
+            Body::Bytes { bytes, .. } => bytes.len() <= 16_384,
+            Body::Headers { block, .. } => block.len() <= 16_384,
+            Body::Continuation { block, .. } => block.len() <= 16_384,
+            Body::Settings { pairs } => pairs.len() <= 2730,
+            _ => true,
+        }
+    }
 }
 
 fn kind(body: &Body) -> u8
