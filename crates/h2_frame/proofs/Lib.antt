@@ -1,0 +1,7 @@
+pub mod Gains
+pub mod Fronts
+pub mod Cuts
+pub mod Settings
+pub mod Openings
+pub mod Spelled
+pub mod Feeding

@@ -1,0 +1,13 @@
+use Rattle.std.proofs.Common.{length, ◌-◌, ◌≡◌, ◌≤◌, drop}
+use Rattle.h2_frame.specs.Reading.{opened}
+use Rattle.h2_frame.proofs.opening.common.Given as goal
+
+abbrev pub invariant-loop-count : goal.invariant-loop-count
+invariant-loop-count l = record {
+  left : l.count ≤ length l.left;
+  piece : l.count ≤ length l.piece;
+  same : opened l.left l.piece ≡ opened (drop l.count l.left) (drop l.count l.piece);
+}
+
+abbrev pub decreases-loop-count : goal.decreases-loop-count
+decreases-loop-count l = length l.left - l.count

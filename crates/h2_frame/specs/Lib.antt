@@ -1,0 +1,5 @@
+pub mod Heads
+pub mod Parsing
+pub mod Payloads
+pub mod Reading
+pub mod Writing

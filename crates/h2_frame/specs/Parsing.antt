@@ -1,0 +1,25 @@
+-- What a parser keeps.
+use Rattle.std.specs.Prelude.{◌≡◌, ℕ, ◌≤◌, List, [], length, drop}
+use Rattle.h2_frame.specs.declared.fault.FrameFault.TheVariants as faults
+use Rattle.h2_frame.specs.declared.opening.Greeting.{Greeting}
+use Rattle.h2_frame.specs.declared.opening.Greeting.TheVariants.{Whole, Partly, Wrong}
+use Rattle.h2_frame.specs.declared.stage.Stage.{Stage}
+use Rattle.h2_frame.specs.declared.stage.Stage.TheVariants.{Preface, Frames, Failed}
+use Rattle.h2_frame.specs.Reading.{End, Opening, Rest, Fault, Reading, preface, frames_of}
+
+-- where the bytes so far end
+abbrev pub ending_of : Stage → List ℕ → End
+ending_of (Preface matched) pending = Opening (drop matched preface)
+ending_of Frames pending = Rest pending
+ending_of (Failed fault) pending = Fault fault
+
+abbrev pub IsWithin : Stage → Type 0
+IsWithin (Preface matched) = matched ≤ 24
+IsWithin Frames = Unit {0}
+IsWithin (Failed fault) = Unit {0}
+
+-- what a piece makes of the preface, where this is due of it
+abbrev pub Greets : Greeting → Reading → List ℕ → Type 0
+Greets (Whole used) due piece = (due ≡ frames_of (drop used piece)) × (used ≤ length piece)
+Greets (Partly matched) due piece = (due ≡ record { frames = []; ending = Opening (drop matched preface) }) × (matched ≤ 24)
+Greets (Wrong at) due piece = due ≡ record { frames = []; ending = Fault (faults.BadPreface at) }

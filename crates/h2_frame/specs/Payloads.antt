@@ -1,0 +1,45 @@
+-- What a payload says.
+use Rattle.std.specs.Prelude.{ℕ, ◌-◌, ◌%◌, ◌^◌, ◌==◌, nat_lt, if◌then◌else◌, List, [], ◌∷◌, length, take, drop, slice_index, Result, Ok, Err}
+use Rattle.std.specs.Int.{w16, w32, w64, from_be_bytes}
+use Rattle.h2_frame.specs.declared.fault.FrameFault.{FrameFault}
+use Rattle.h2_frame.specs.declared.fault.FrameFault.TheVariants as faults
+use Rattle.h2_frame.specs.declared.frame.Body.{Body}
+use Rattle.h2_frame.specs.declared.frame.Body.TheVariants.{Bytes, Headers, Priority, Reset, Settings, SettingsAck, PushPromise, Ping, GoAway, WindowUpdate, Continuation, Unknown}
+use Rattle.h2_frame.specs.declared.frame.Setting.{Setting}
+use Rattle.h2_frame.specs.declared.head.Head.{Head}
+use Rattle.h2_frame.specs.Heads.{has, front_of}
+
+-- sections 6.1 and 6.2: the content of DATA and HEADERS, without what stands before it and the padding behind it
+unfoldable pub content_of : Head → List ℕ → Result (List ℕ) FrameFault
+content_of h payload =
+    let pad = (if has h.flags 8 then slice_index payload 0 else 0) in
+    let content = drop (front_of h) payload in
+    if nat_lt (length content) pad then Err faults.BadPadding else Ok (take (length content - pad) content)
+
+-- section 6.5.1: two bytes of an identifier and four of a value
+abbrev pub setting_of : List ℕ → Setting
+setting_of b = record { id = from_be_bytes w16 b; value = from_be_bytes w32 (drop 2 b) }
+
+-- a setting for each six bytes
+abbrev pub settings_of : List ℕ → List Setting
+settings_of (a ∷ b ∷ c ∷ d ∷ e ∷ f ∷ rest) = setting_of (a ∷ b ∷ c ∷ d ∷ e ∷ f ∷ []) ∷ settings_of rest
+settings_of rest = []
+
+abbrev pub with_content : Result (List ℕ) FrameFault → (List ℕ → Body) → Result Body FrameFault
+with_content (Ok content) body = Ok (body content)
+with_content (Err fault) body = Err fault
+
+-- section 6: what a frame of each type says
+unfoldable pub body_of : Head → List ℕ → Result Body FrameFault
+body_of h payload =
+    if h.kind == 0 then with_content (content_of h payload) (λ bytes. Bytes bytes h.length (has h.flags 1))
+    else if h.kind == 1 then with_content (content_of h payload) (λ block. Headers block (has h.flags 1) (has h.flags 4))
+    else if h.kind == 2 then Ok Priority
+    else if h.kind == 3 then Ok (Reset (from_be_bytes w32 payload))
+    else if h.kind == 4 then (if has h.flags 1 then Ok SettingsAck else Ok (Settings (settings_of payload)))
+    else if h.kind == 5 then Ok PushPromise
+    else if h.kind == 6 then Ok (Ping (has h.flags 1) (from_be_bytes w64 payload))
+    else if h.kind == 7 then Ok (GoAway (from_be_bytes w32 payload % 2 ^ 31) (from_be_bytes w32 (drop 4 payload)))
+    else if h.kind == 8 then Ok (WindowUpdate (from_be_bytes w32 payload % 2 ^ 31))
+    else if h.kind == 9 then Ok (Continuation payload (has h.flags 4))
+    else Ok (Unknown h.kind)

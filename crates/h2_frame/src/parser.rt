@@ -1,0 +1,228 @@
+//! A parser that is fed pieces of a stream.
+
+ghost use Rattle.std.specs.Prelude.{◌≡◌, ℕ, List, [], ◌++◌, OnOk, IfErr, Err};
+ghost use Rattle.h2_frame.specs.declared.fault.FrameFault.{FrameFault};
+ghost use Rattle.h2_frame.specs.declared.stage.Stage.TheVariants.{Frames};
+ghost use Rattle.h2_frame.specs.Reading.{End, Opening, Rest, Fault, preface, frames_of, resumed, Refuses, Feeds, StandsFor};
+ghost use Rattle.h2_frame.specs.Parsing.{ending_of, IsWithin};
+ghost use Rattle.wl_words.specs.Lists.{GainsFront};
+
+use crate::fault::FrameFault;
+use crate::frame::Frame;
+use crate::head::Head;
+use crate::opening::{Greeting, PREFACE, greet};
+use crate::reading::{HEAD, frames};
+use crate::stage::Stage;
+use std::alloc::Global;
+use std::marker::Model;
+use wl_octets::Row;
+
+/// Reads the frames of one stream, however it is cut.
+///
+/// Contracts see where the bytes so far end: within the preface, within a frame, or at a
+/// fault. Bytes of a frame that is whole are not kept.
+#[derive(Drop)]
+pub struct Parser {
+    stage: Stage,
+    /// The bytes of a frame that isn't whole.
+    pending: Vec<u8>,
+}
+
+impl Model for Parser {
+    ghost Value = { End };
+
+    ghost view = { λ a. ending_of a.stage a.pending.items };
+
+    ghost invariant = { λ a. IsWithin a.stage };
+}
+
+impl Parser {
+    /// A parser of a stream that begins with the preface (RFC 9113, section 3.4).
+    pub fn start(alloc: Global) -> Parser
+        ensures { result ≡ Opening preface }
+    {
+        Parser {
+            stage: Stage::Preface(0),
+            pending: Vec::new(alloc),
+        }
+    }
+
+    /// A parser of a stream without a preface, as a server sends it.
+    pub fn start_bare(alloc: Global) -> Parser
+        ensures { result ≡ Rest [] }
+    {
+        Parser {
+            stage: Stage::Frames,
+            pending: Vec::new(alloc),
+        }
+    }
+
+    /// Reads on with more bytes of the stream, and puts each frame that is whole behind what
+    /// `into` holds. After a fault, each later call answers that fault again; the frames
+    /// before it are in `into`.
+    ///
+    /// A byte is copied once into its frame, and once before that if its frame comes in
+    /// several pieces.
+    #[tactic(auto, using(crate::proofs::Feeding::stands_on))]
+    pub fn feed(
+        &mut self,
+        alloc: Global,
+        piece: &[u8],
+        into: &mut Row<Frame>,
+    ) -> Result<(), FrameFault>
+        ensures fed { Feeds result (resumed self.old piece.now) into.old into.new self.new }
+        ensures front { GainsFront (resumed self.old piece.now).frames into.old into.new }
+        ensures again { (fault : FrameFault) → self.old ≡ Fault fault → result ≡ Err fault }
+        ensures stands { (first : End) (fed : List ℕ) → StandsFor first self.old fed → StandsFor first self.new (fed ++ piece.now) }
+    {
+        self.feed_parts(alloc, piece, into)
+    }
+
+    /// What completes a frame that was begun goes behind its other bytes; all else is read
+    /// where it lies.
+    fn feed_parts(
+        &mut self,
+        alloc: Global,
+        piece: &[u8],
+        into: &mut Row<Frame>,
+    ) -> Result<(), FrameFault>
+        ensures fed { Feeds result (resumed self.old piece.now) into.old into.new self.new }
+        ensures front { GainsFront (resumed self.old piece.now).frames into.old into.new }
+        ensures again { (fault : FrameFault) → self.old ≡ Fault fault → result ≡ Err fault }
+    {
+        let (head, rest) = piece.split_at(self.lacking().min(piece.len()));
+        match self.advance(alloc, head, into) {
+            Ok(()) => self.feed_behind(alloc, rest, into),
+            Err(fault) => Err(fault),
+        }
+    }
+
+    /// As `feed`, where the head of a frame that was begun is whole.
+    fn feed_behind(
+        &mut self,
+        alloc: Global,
+        piece: &[u8],
+        into: &mut Row<Frame>,
+    ) -> Result<(), FrameFault>
+        ensures fed { Feeds result (resumed self.old piece.now) into.old into.new self.new }
+        ensures front { GainsFront (resumed self.old piece.now).frames into.old into.new }
+        ensures again { (fault : FrameFault) → self.old ≡ Fault fault → result ≡ Err fault }
+    {
+        let (payload, rest) = piece.split_at(self.lacking().min(piece.len()));
+        match self.advance(alloc, payload, into) {
+            Ok(()) => self.advance(alloc, rest, into),
+            Err(fault) => Err(fault),
+        }
+    }
+
+    /// How many bytes complete what was begun: the preface, a head, or a payload.
+    fn lacking(&self) -> usize {
+        match self.stage {
+            Stage::Preface(matched) => PREFACE.len() - matched,
+            Stage::Frames => lacking_of(self.pending.as_slice()),
+            Stage::Failed(_) => 0,
+        }
+    }
+
+    #[tactic(auto, unfolding(crate::specs::Reading::resumed))]
+    fn advance(
+        &mut self,
+        alloc: Global,
+        piece: &[u8],
+        into: &mut Row<Frame>,
+    ) -> Result<(), FrameFault>
+        ensures fed { Feeds result (resumed self.old piece.now) into.old into.new self.new }
+        ensures front { GainsFront (resumed self.old piece.now).frames into.old into.new }
+        ensures again { (fault : FrameFault) → self.old ≡ Fault fault → result ≡ Err fault }
+    {
+        match self.stage {
+            Stage::Preface(matched) => match greet(matched, piece) {
+                Greeting::Whole(used) => {
+                    let (_, rest) = piece.split_at(used);
+                    self.stage = Stage::Frames;
+                    self.pending.clear();
+                    read(alloc, &mut self.stage, &mut self.pending, rest, into)
+                }
+                Greeting::Partly(matched) => {
+                    self.stage = Stage::Preface(matched);
+                    Ok(())
+                }
+                Greeting::Wrong(at) => {
+                    self.stage = Stage::Failed(FrameFault::BadPreface(at));
+                    Err(FrameFault::BadPreface(at))
+                }
+            },
+            Stage::Frames => read(alloc, &mut self.stage, &mut self.pending, piece, into),
+            Stage::Failed(fault) => Err(fault),
+        }
+    }
+}
+
+/// How many bytes complete a frame of which these are the first.
+fn lacking_of(pending: &[u8]) -> usize {
+    if pending.is_empty() {
+        0
+    } else if pending.len() < HEAD {
+        HEAD - pending.len()
+    } else {
+        (HEAD + Head::read(pending).length as usize).saturating_sub(pending.len())
+    }
+}
+
+/// Reads frames, and keeps the fault.
+#[tactic(auto, unfolding(crate::specs::Reading::resumed))]
+fn read(
+    alloc: Global,
+    stage: &mut Stage,
+    pending: &mut Vec<u8>,
+    piece: &[u8],
+    into: &mut Row<Frame>,
+) -> Result<(), FrameFault>
+    requires { stage.old ≡ Frames }
+    ensures fed { Feeds result (resumed (Rest pending.old.items) piece.now) into.old into.new (ending_of stage.new pending.new.items) }
+    ensures within { IsWithin stage.new }
+    ensures front { GainsFront (resumed (Rest pending.old.items) piece.now).frames into.old into.new }
+{
+    match take_in(alloc, pending, piece, into) {
+        Ok(()) => Ok(()),
+        Err(fault) => {
+            *stage = Stage::Failed(fault);
+            Err(fault)
+        }
+    }
+}
+
+/// Reads frames from the bytes that were kept and a piece behind them, and keeps the rest.
+fn take_in(
+    alloc: Global,
+    pending: &mut Vec<u8>,
+    piece: &[u8],
+    into: &mut Row<Frame>,
+) -> Result<(), FrameFault>
+    ensures ok { OnOk result ((into.new ≡ into.old ++ (frames_of (pending.old.items ++ piece.now)).frames) × ((frames_of (pending.old.items ++ piece.now)).ending ≡ Rest pending.new.items)) }
+    ensures fault { IfErr result (λ fault. Refuses fault ((into.new ≡ into.old ++ (frames_of (pending.old.items ++ piece.now)).frames) × ((frames_of (pending.old.items ++ piece.now)).ending ≡ Fault fault))) }
+    ensures front { GainsFront (frames_of (pending.old.items ++ piece.now)).frames into.old into.new }
+{
+    if pending.is_empty() {
+        let used = frames(alloc, piece, into)?;
+        let (_, rest) = piece.split_at(used);
+        return keep(pending, rest);
+    }
+    keep(pending, piece)?;
+    let used = frames(alloc, pending.as_slice(), into)?;
+    if used > 0 {
+        pending.rotate_left(used);
+        pending.truncate(pending.len() - used);
+    }
+    Ok(())
+}
+
+fn keep(pending: &mut Vec<u8>, bytes: &[u8]) -> Result<(), FrameFault>
+    ensures ok { OnOk result (pending.new.items ≡ pending.old.items ++ bytes.now) }
+    ensures err { IfErr result (λ fault. fault ≡ FrameFault.Memory) }
+{
+    match pending.extend_from_slice(bytes) {
+        Ok(()) => Ok(()),
+        Err(_) => Err(FrameFault::Memory),
+    }
+}
