@@ -14,6 +14,10 @@ mod huffman;
 mod integers;
 mod static_table;
 mod tables;
+#[cfg(test)]
+mod tests;
+#[cfg(test)]
+mod vectors;
 
 pub use decoder::Decoder;
 pub use encode::encode_plain;
