@@ -1,0 +1,28 @@
+use Rattle.std.proofs.Common.{arith, sym, ◌∙◌, refl}
+use Rattle.std.proofs.lemmas.Result.{err_from_is_err_and}
+use Rattle.wl_document.specs.Walks.{bundle_beside, put_bundle, kept_bundles}
+use Rattle.wl_document.proofs.Walks.{each_more, each_faults, each_end}
+use Rattle.wl_document.proofs.bundles.bundles.Goals as goal
+
+pub returns-in_err-bundle : goal.returns-in_err-bundle
+unfolding kept_bundles bundle_beside
+returns-in_err-bundle c =
+    let p = err_from_is_err_and c.from_residual.result c.from_residual.ensures.1 in
+    let fault = rw c.value-item.is at c.in_err-bundle.ensures in
+    rw (p.1, p.2) (each_faults bundle_beside put_bundle c.args.values.now c.loop-value.index c.loop-value.value-index c.value-item.result c.loop-value.done.entries _ _ (omega arith) c.loop-value.invariant.so_far fault)
+
+pub loop-value-preserved : goal.loop-value-preserved
+unfolding bundle_beside
+loop-value-preserved c =
+    let ok = rw c.value-item.is at c.in_ok-bundle.ensures in
+    record {
+      counted = omega (arith, c.loop-value.invariant.counted);
+      so_far = rw (c.in_ok-add.ensures.ok, c.in_ok-key.ensures, c.as_bytes.ensures.value) (sym (each_more bundle_beside put_bundle c.args.values.now c.loop-value.index c.loop-value.value-index c.value-item.result c.loop-value.done.entries _ (omega arith) ok) ∙ c.loop-value.invariant.so_far);
+    }
+
+pub returns : goal.returns
+unfolding kept_bundles
+returns c = sym c.loop-value.invariant.so_far ∙ each_end bundle_beside put_bundle c.args.values.now c.loop-value.index c.loop-value.value-index c.loop-value.done.entries (omega arith)
+
+pub loop-value-init : goal.loop-value-init
+loop-value-init c = rw c.new-done.ensures.empty (record { counted = refl; so_far = refl })

@@ -1,0 +1,8 @@
+use Rattle.std.proofs.Common.{[]}
+use Rattle.wl_document.proofs.Walks.{Reached}
+use Rattle.wl_document.specs.Arrays.{at_end}
+use Rattle.wl_document.specs.Entries.{federated_of}
+use Rattle.wl_document.proofs.lists.federates.Given as goal
+
+abbrev pub invariant-loop-value : goal.invariant-loop-value
+invariant-loop-value l = Reached (λ k before d. federated_of l.place k d) at_end [] l.values l.index l.value-index l.done.items

@@ -1,0 +1,67 @@
+//! What a document says.
+
+ghost use Rattle.std.specs.Prelude.{◌≡◌, IfOk};
+
+use crate::copies::{copy_bundles, copy_domain, copy_entries, copy_svids};
+use spiffe_id::TrustDomain;
+use std::alloc::Global;
+use std::marker::Model;
+use wl_entry::{Bundle, Entry, Signed};
+use wl_octets::{Memory, Octets, Row};
+
+/// A signed identity that a document gives: that of the entry with this id.
+#[derive(PartialEq, Drop)]
+pub struct DocSvid {
+    pub entry_id: Octets,
+    pub signed: Signed,
+}
+
+impl DocSvid {
+    /// The same signed identity once more.
+    pub fn copy(&self, alloc: Global) -> Result<DocSvid, Memory>
+        ensures { IfOk result (λ s. s ≡ self.now) }
+    {
+        Ok(DocSvid {
+            entry_id: self.entry_id.copy(alloc)?,
+            signed: self.signed.copy(alloc)?,
+        })
+    }
+}
+
+/// The state of an authority: its trust domain, the bundles by ascending domain, the entries by ascending id, and
+/// the signed identities by ascending id of their entries; each key once, and nothing past the limits.
+#[derive(Drop)]
+pub struct AuthorityState {
+    pub domain: TrustDomain,
+    pub bundles: Row<Bundle>,
+    pub entries: Row<Entry>,
+    pub svids: Row<DocSvid>,
+}
+
+impl Model for AuthorityState {
+    ghost use Rattle.wl_document.specs.States.{State, Within};
+
+    ghost Value = { State };
+
+    ghost view = { λ s. record { domain = s.domain; bundles = s.bundles; entries = s.entries; svids = s.svids } };
+
+    ghost invariant = { λ s. Within (record { domain = s.domain; bundles = s.bundles; entries = s.entries; svids = s.svids }) };
+}
+
+impl AuthorityState {
+    /// The same state once more.
+    pub fn copy(&self, alloc: Global) -> Result<AuthorityState, Memory>
+        ensures { IfOk result (λ s. s ≡ self.now) }
+    {
+        let domain = copy_domain(alloc, &self.domain)?;
+        let bundles = copy_bundles(alloc, self.bundles.as_slice())?;
+        let entries = copy_entries(alloc, self.entries.as_slice())?;
+        let svids = copy_svids(alloc, self.svids.as_slice())?;
+        Ok(AuthorityState {
+            domain,
+            bundles,
+            entries,
+            svids,
+        })
+    }
+}
