@@ -5,3 +5,5 @@ pub mod Forms
 pub mod Fields
 pub mod Messages
 pub mod Written
+pub mod Texts
+pub mod Faults

@@ -6,7 +6,7 @@ use Rattle.pb_wire.specs.declared.fault.WireFault.{WireFault}
 use Rattle.pb_wire.specs.declared.field.Field.{Field}
 use Rattle.pb_wire.specs.Grammar.{kind_of, IsField}
 use Rattle.pb_wire.specs.Reading.{field_at}
-use Rattle.pb_wire.specs.Message.{AreFields, then_fields, fields_in, fields_from, content_in, contents_in, last_of}
+use Rattle.pb_wire.specs.Message.{AreFields, then_fields, fields_in, fields_from, text_in, texts_in, last_of}
 use Rattle.pb_wire.proofs.Steps.{behind_front}
 use Rattle.pb_wire.proofs.Forms.{AreBytes, form_some}
 use Rattle.pb_wire.proofs.Fields.{field_holds, field_again}
@@ -117,15 +117,15 @@ fields_again bytes at (f ∷ fs) fits is =
     let others = fields_again bytes f.next fs fits (subst (λ (xs : List ℕ). AreFields f.next xs fs) (sym behind) is.4) in
     rw (fields-more bytes at f fits lt read, others) refl
 
--- ---- contents
+-- ---- texts
 
-pub contents_in-none : (number : ℕ) (bytes : List ℕ) → contents_in number bytes [] ≡ []
-unfolding contents_in
-contents_in-none number bytes = refl
+pub texts_in-none : (number : ℕ) (bytes : List ℕ) → texts_in number bytes [] ≡ []
+unfolding texts_in
+texts_in-none number bytes = refl
 
-pub contents_in-more : (number : ℕ) (bytes : List ℕ) (f : Field) (fs : List Field) → contents_in number bytes (f ∷ fs) ≡ content_in number bytes f ++ contents_in number bytes fs
-unfolding contents_in
-contents_in-more number bytes f fs = refl
+pub texts_in-more : (number : ℕ) (bytes : List ℕ) (f : Field) (fs : List Field) → texts_in number bytes (f ∷ fs) ≡ text_in number bytes f ++ texts_in number bytes fs
+unfolding texts_in
+texts_in-more number bytes f fs = refl
 
 pub last_of-append : (before : List ℕ) (xs ys : List (List ℕ)) → last_of before (xs ++ ys) ≡ last_of (last_of before xs) ys
 last_of-append before [] ys = refl

@@ -1,8 +1,10 @@
 -- A message is its fields, one after the other (Protocol Buffers encoding, "Message Structure").
 use Rattle.std.specs.Prelude.{◌≡◌, ℕ, zero, suc, ◌-◌, ◌==◌, nat_lt, option_map, if◌then◌else◌, List, [], ◌∷◌, ◌++◌, length, take, drop, Option, Some, None, Result, Ok, Err}
 use Rattle.std.specs.List.{flat_map}
-use Rattle.std.specs.Option.{option_to_list}
 use Rattle.pb_wire.specs.declared.fault.WireFault.{WireFault}
+use Rattle.std.specs.Str.{IsUtf8, is_utf8}
+use Rattle.pb_wire.specs.declared.fault.TextFault.{TextFault}
+use Rattle.pb_wire.specs.declared.fault.TextFault.TheVariants.{Kind, NotUtf8}
 use Rattle.pb_wire.specs.declared.field.Field.{Field}
 use Rattle.pb_wire.specs.declared.field.Value.{Value}
 use Rattle.pb_wire.specs.declared.field.Value.TheVariants.{Varint, Eight, Span, Four}
@@ -35,12 +37,28 @@ content_of bytes (Eight n) = None
 content_of bytes (Span start len) = Some (take len (drop start bytes))
 content_of bytes (Four n) = None
 
--- the contents of the fields of this number, in their order
-abbrev pub content_in : ℕ → List ℕ → Field → List (List ℕ)
-content_in number bytes f = if f.number == number then option_to_list (content_of bytes f.value) else []
+-- a string has wire type 2 and is UTF-8 (proto3, "Scalar Value Types")
+abbrev pub IsText : List ℕ → Value → Type 0
+IsText bytes v = (text : List ℕ) × (content_of bytes v ≡ Some text) × IsUtf8 text
 
-unfoldable pub contents_in : ℕ → List ℕ → List Field → List (List ℕ)
-contents_in number bytes fs = flat_map (content_in number bytes) fs
+-- it, or what is wrong with it
+abbrev pub utf8_text : Option (List ℕ) → Result (List ℕ) TextFault
+utf8_text None = Err Kind
+utf8_text (Some text) = if is_utf8 text then Ok text else Err NotUtf8
+
+unfoldable pub text_of : List ℕ → Value → Result (List ℕ) TextFault
+text_of bytes v = utf8_text (content_of bytes v)
+
+-- the texts of the fields of this number, in their order
+abbrev pub text_list : Result (List ℕ) TextFault → List (List ℕ)
+text_list (Ok text) = text ∷ []
+text_list (Err e) = []
+
+abbrev pub text_in : ℕ → List ℕ → Field → List (List ℕ)
+text_in number bytes f = if f.number == number then text_list (text_of bytes f.value) else []
+
+unfoldable pub texts_in : ℕ → List ℕ → List Field → List (List ℕ)
+texts_in number bytes fs = flat_map (text_in number bytes) fs
 
 -- the last of several, or the one before them where there is none (proto3: of a field that is not repeated the last
 -- value stands)
@@ -56,3 +74,8 @@ or_else None later = later
 abbrev pub first_fault : {E : Type 0} → (WireFault → E) → (Field → Option E) → List Field → Option WireFault → Option E
 first_fault wire wrong [] behind = option_map wire behind
 first_fault wire wrong (f ∷ fs) behind = or_else (wrong f) (first_fault wire wrong fs behind)
+
+-- what the fields say, unless there is a fault
+abbrev pub unless_fault : {E A : Type 0} → Option E → A → Result A E
+unless_fault (Some e) said = Err e
+unless_fault None said = Ok said

@@ -30,3 +30,12 @@ pub enum WireFault {
     /// The field's number is 0 or above 536,870,911.
     Number(usize),
 }
+
+/// Why a field is no string.
+#[derive(Clone, Copy, Debug, PartialEq, Eq)]
+pub enum TextFault {
+    /// It has another wire type than 2.
+    Kind,
+    /// Its content is not UTF-8.
+    NotUtf8,
+}

@@ -1,7 +1,10 @@
 //! A field that was read.
 
-ghost use Rattle.std.specs.Prelude.{◌≡◌, option_map};
-ghost use Rattle.pb_wire.specs.Message.{content_of};
+ghost use Rattle.std.specs.Prelude.{◌≡◌, Ok, Err, option_map, MatchResult};
+ghost use Rattle.std.specs.Str.{is_utf8};
+ghost use Rattle.pb_wire.specs.Message.{content_of, text_of};
+
+use crate::fault::TextFault;
 
 /// A field: its number, its value, and the place behind it.
 #[derive(Clone, Copy, Debug, PartialEq, Eq)]
@@ -38,4 +41,25 @@ impl Value {
             Value::Varint(_) | Value::Eight(_) | Value::Four(_) => None,
         }
     }
+
+    /// The content of a string that was read from these bytes: it has wire type 2 and is UTF-8.
+    #[tactic(auto, unfolding(crate::specs::Message::text_of))]
+    pub fn text<'a>(&self, bytes: &'a [u8]) -> Result<&'a [u8], TextFault>
+        ensures { MatchResult result (λ text. text_of bytes.now self.now ≡ Ok text.now) (λ e. text_of bytes.now self.now ≡ Err e) }
+    {
+        let Some(text) = self.content(bytes) else {
+            return Err(TextFault::Kind);
+        };
+        if !is_text(text) {
+            return Err(TextFault::NotUtf8);
+        }
+        Ok(text)
+    }
+}
+
+/// Whether the bytes are UTF-8.
+fn is_text(bytes: &[u8]) -> bool
+    ensures { result ≡ is_utf8 bytes.now }
+{
+    str::from_utf8(bytes).is_ok()
 }
