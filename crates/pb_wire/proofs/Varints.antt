@@ -2,7 +2,7 @@
 use Rattle.std.proofs.Common.{◌≡◌, ℕ, zero, suc, ◌+◌, ◌*◌, ◌/◌, ◌%◌, ◌^◌, ◌<◌, ◌≤◌, List, [], ◌∷◌, length, refl, ap, arith, inl, inr}
 use Rattle.std.proofs.lemmas.Bool.{cases_lt, lt-ltb, le-ltb}
 use Rattle.std.proofs.Math.Nat.{pow-succ'}
-use Rattle.pb_wire.specs.Varint.{IsVarint, varint_in, varint}
+use Rattle.pb_wire.specs.Varint.{IsVarint, IsForm, Encodes, varint_in, varint}
 
 -- enough fuel is enough
 same_in : (k j n : ℕ) → n ≤ k → n ≤ j → varint_in k n ≡ varint_in j n
@@ -75,3 +75,12 @@ only_varint (b ∷ c ∷ bs) n h =
     let rest : n / 128 ≡ high = omega (arith, h.0, h.1, h.3, h.4) in
     let head : 128 + n % 128 ≡ b = omega arith in
     rw (varint-more n (omega (arith, h.0, h.3, h.4)), head, rest, ← only_varint (c ∷ bs) high h.5) refl
+
+form_of : (bytes : List ℕ) (n : ℕ) → IsVarint bytes n → IsForm bytes n
+form_of [] n h = h
+form_of (b ∷ []) n h = h
+form_of (b ∷ c ∷ bs) n h = (h.0, h.1, h.2, h.4, form_of (c ∷ bs) h.2 h.5)
+
+-- the shortest form of a number of 64 bits is read as it
+pub varint_encodes : (n : ℕ) → n < 2 ^ 64 → Encodes (varint n) n
+varint_encodes n lt = record { form = form_of (varint n) n (is_varint n); few = varint-most n lt; fits = lt }

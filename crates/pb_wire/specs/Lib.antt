@@ -1,2 +1,5 @@
 pub mod Varint
 pub mod Spelling
+pub mod Grammar
+pub mod Reading
+pub mod Message

@@ -6,10 +6,14 @@
 #![tactic(auto)]
 
 mod fault;
+mod field;
+mod reading;
 mod varint;
 mod writing;
 
-pub use fault::Memory;
+pub use fault::{Memory, TextFault, WireFault};
+pub use field::{Field, Value};
+pub use reading::read_field;
 pub use varint::{put_varint, size_of_varint};
 pub use writing::{put_bytes, put_head, size_of_bytes};
 

@@ -1,13 +1,12 @@
 //! Base 128 varints (Protocol Buffers encoding, "Base 128 Varints").
 
-ghost use Rattle.std.specs.Prelude.{◌≡◌, ◌≤◌, ◌++◌, length, OnOk, OnErr};
-ghost use Rattle.pb_wire.specs.Varint.{varint};
+ghost use Rattle.std.specs.Prelude.{◌≡◌, ◌≤◌, ◌++◌, ℕ, List, length, OnOk, OnErr};
+ghost use Rattle.pb_wire.specs.Varint.{IsVarint, varint};
 ghost use Rattle.wl_words.specs.Lists.{GainsFront};
 
 use crate::fault::Memory;
 
-/// Appends the shortest varint of a number, one to ten bytes. After `Memory` a front of it was appended.
-pub fn put_varint(out: &mut Vec<u8>, value: u64) -> Result<(), Memory>
+fn write_varint(out: &mut Vec<u8>, value: u64) -> Result<(), Memory>
     ensures ok { OnOk result (out.new.items ≡ out.old.items ++ varint value) }
     ensures err { OnErr result (GainsFront (varint value) out.old.items out.new.items) }
 {
@@ -18,6 +17,17 @@ pub fn put_varint(out: &mut Vec<u8>, value: u64) -> Result<(), Memory>
     }
     out.push(rest as u8)?;
     Ok(())
+}
+
+/// Appends the shortest varint of a number, one to ten bytes. After `Memory` a front of it was appended.
+pub fn put_varint(out: &mut Vec<u8>, value: u64) -> Result<(), Memory>
+    ensures ok { OnOk result (out.new.items ≡ out.old.items ++ varint value) }
+    ensures err { OnErr result (GainsFront (varint value) out.old.items out.new.items) }
+    // What is appended is a form of the number, and there is no other one.
+    ensures form { IsVarint (varint value) value }
+    ensures only { (bytes : List ℕ) → IsVarint bytes value → bytes ≡ varint value }
+{
+    write_varint(out, value)
 }
 
 /// How many bytes the shortest varint of a number has, 1 to 10.

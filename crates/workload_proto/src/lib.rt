@@ -5,12 +5,16 @@
 //! profile (specs/Requests); bytes outside it have the first fault in them.
 #![tactic(auto)]
 
+mod decode;
 mod encode;
+mod fault;
 mod items;
 mod message;
 mod size;
 
+pub use decode::{decode_empty, decode_jwt_request};
 pub use encode::{encode_bundles, encode_jwt, encode_jwt_bundles, encode_x509};
+pub use fault::ProtoFault;
 pub use message::{
     BundlesResponse, JwtBundlesResponse, JwtItem, JwtRequest, JwtResponse, MapItem, X509Item,
     X509Response,

@@ -146,10 +146,9 @@ fn jwt_items_size(svids: &[JwtItem]) -> u64
 pub fn size_x509(message: &X509Response) -> u64
     ensures { result ≡ capped (length (spell_x509 message.now)) }
 {
-    x509_items_size(message.svids.as_slice()).saturating_add(map_items_size(
-        3,
-        message.federated.as_slice(),
-    ))
+    let svids = x509_items_size(message.svids.as_slice());
+    let federated = map_items_size(3, message.federated.as_slice());
+    svids.saturating_add(federated)
 }
 
 /// The size of an `X509BundlesResponse`.
