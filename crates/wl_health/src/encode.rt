@@ -1,0 +1,29 @@
+//! A response to bytes.
+
+ghost use Rattle.std.specs.Prelude.{◌≡◌, ◌≤◌, ◌++◌, IfOk, OnOk};
+ghost use Rattle.wl_health.specs.Messages.{spell_state};
+
+use pb_wire::put_varint;
+use std::alloc::Global;
+use wl_octets::{Memory, Octets};
+
+#[tactic(auto, unfolding(crate::specs::Messages::spell_state))]
+fn put_state(out: &mut Vec<u8>, state: u32) -> Result<(), pb_wire::Memory>
+    ensures { OnOk result (out.new.items ≡ out.old.items ++ spell_state state) }
+{
+    put_varint(out, 8)?;
+    put_varint(out, u64::from(state))
+}
+
+/// The spelling of a `HealthCheckResponse` of this state, which is 1, 2 or 3: two bytes.
+pub fn encode_health(alloc: Global, state: u32) -> Result<Octets, Memory>
+    requires least { 1 ≤ state }
+    requires most { state ≤ 3 }
+    ensures { IfOk result (λ o. o ≡ spell_state state) }
+{
+    let mut out = Vec::with_capacity(alloc, 2)?;
+    match put_state(&mut out, state) {
+        Ok(()) => Ok(Octets::from_vec(out)),
+        Err(_) => Err(Memory),
+    }
+}
