@@ -1,0 +1,145 @@
+-- What each call does to the numbers of the streams.
+use Rattle.std.proofs.Common.{◌≡◌, inl, inr, ℕ, zero, suc, ◌+◌, ◌==◌, Bool, true, false, not, cond, nat_lt, pos, ◌+ℤ◌, List, [], ◌∷◌, ◌++◌, map, filter, length, drop, Option, Some, None, Result, Ok, Err, refl, ◌∙◌, int_lt}
+use Rattle.std.proofs.lemmas.Bool.{cases_Bool}
+use Rattle.std.proofs.lemmas.List.{map-append}
+use Rattle.h2_flow.specs.declared.flow.Flow.{Flow}
+use Rattle.h2_flow.specs.declared.overflow.Overflow.{Overflow}
+use Rattle.h2_flow.specs.declared.stream.Stream.{Stream}
+use Rattle.h2_flow.specs.Windows.{window_of, allowed_of}
+use Rattle.h2_flow.specs.Streams.{Turn, headers_turn, data_turn, last_turn, next_turn, body_turn, head_turn, turn}
+use Rattle.h2_flow.specs.Pulls.{Round, round, rounds, all_work, all_rounds}
+use Rattle.h2_flow.specs.Outboxes.{Out, is_number, changed, new_stream, with_offer, added, removed, controlled, shrunk, headed, offered, withdrawn, closed_by, largest_window, credit_of, grown_room, grown_stream, grown, first_over, with_initial, initialed, pulled, numbers}
+
+-- ---- one stream is changed
+
+changed_numbers : (n : ℕ) (f : Stream → Stream) → ((s : Stream) → (f s).number ≡ s.number) → (ss : List Stream) → map (λ s. s.number) (changed n f ss) ≡ map (λ s. s.number) ss
+changed_numbers n f keeps [] = refl
+changed_numbers n f keeps (s ∷ ss) =
+    elim (cases_Bool (s.number == n)) [
+      | inl here ↦ rw (here, keeps s) refl
+      | inr here ↦ rw (here, changed_numbers n f keeps ss) refl
+    ]
+
+pub numbers_added : (n : ℕ) (o : Out) → numbers (added n o) ≡ numbers o ++ n ∷ []
+unfolding added
+numbers_added n o = map-append (λ s. s.number) o.streams (new_stream n ∷ [])
+
+filter_numbers : (n : ℕ) (ss : List Stream) → map (λ s. s.number) (filter (λ s. not (is_number n s)) ss) ≡ filter (λ m. not (m == n)) (map (λ s. s.number) ss)
+filter_numbers n [] = refl
+filter_numbers n (s ∷ ss) =
+    elim (cases_Bool (s.number == n)) [
+      | inl here ↦ rw here (filter_numbers n ss)
+      | inr here ↦ rw (here, filter_numbers n ss) refl
+    ]
+
+pub numbers_removed : (n : ℕ) (o : Out) → numbers (removed n o) ≡ filter (λ m. not (m == n)) (numbers o)
+unfolding removed
+numbers_removed n o = filter_numbers n o.streams
+
+pub numbers_controlled : (frame : List ℕ) (o : Out) → numbers (controlled frame o) ≡ numbers o
+unfolding controlled
+numbers_controlled frame o = refl
+
+pub numbers_shrunk : (o : Out) → numbers (shrunk o) ≡ numbers o
+unfolding shrunk
+numbers_shrunk o = refl
+
+pub numbers_headed : (n : ℕ) (block : List ℕ) (o : Out) → numbers (headed n block o) ≡ numbers o
+unfolding headed
+numbers_headed n block o = changed_numbers n (λ s. record s { head = Some block }) (λ s. refl) o.streams
+
+pub numbers_offered : (n : ℕ) (message : List ℕ) (o : Out) → numbers (offered n message o) ≡ numbers o
+unfolding offered
+numbers_offered n message o = changed_numbers n (with_offer message) (λ s. refl) o.streams
+
+pub numbers_withdrawn : (n : ℕ) (o : Out) → numbers (withdrawn n o) ≡ numbers o
+unfolding withdrawn
+numbers_withdrawn n o = changed_numbers n (λ s. record s { waiting = None }) (λ s. refl) o.streams
+
+pub numbers_closed : (n : ℕ) (block : List ℕ) (o : Out) → numbers (closed_by n block o) ≡ numbers o
+unfolding closed_by
+numbers_closed n block o = changed_numbers n (λ s. record s { trailers = Some block; finished = true }) (λ s. refl) o.streams
+
+-- ---- windows
+
+abbrev pub KeepsNumbers : Result Out Overflow → Out → Type 0
+KeepsNumbers (Ok new) o = numbers new ≡ numbers o
+KeepsNumbers (Err e) o = Unit {0}
+
+keeps_cond : (b : Bool) (x y : Result Out Overflow) (o : Out) → KeepsNumbers x o → KeepsNumbers y o → KeepsNumbers (cond b x y) o
+keeps_cond true x y o h k = h
+keeps_cond false x y o h k = k
+
+keeps_room : (step : ℕ) (o : Out) → KeepsNumbers (grown_room step o) o
+unfolding grown_room
+keeps_room step o = keeps_cond (nat_lt largest_window (o.flow.room + step)) _ _ o tt refl
+
+keeps_stream : (n step : ℕ) (o : Out) → KeepsNumbers (grown_stream n step o) o
+unfolding grown_stream
+keeps_stream n step o = keeps_cond (int_lt (pos largest_window) (window_of o.flow.initial (credit_of n o.streams) +ℤ pos step)) _ _ o tt (changed_numbers n (λ s. record s { credit = s.credit +ℤ pos step }) (λ s. refl) o.streams)
+
+pub numbers_grown : (n step : ℕ) (o : Out) → KeepsNumbers (grown n step o) o
+unfolding grown
+numbers_grown n step o = keeps_cond (n == 0) (grown_room step o) (grown_stream n step o) o (keeps_room step o) (keeps_stream n step o)
+
+keeps_initial : (value : ℕ) (o : Out) (first : Option ℕ) → KeepsNumbers (with_initial value o first) o
+keeps_initial value o None = refl
+keeps_initial value o (Some n) = tt
+
+pub numbers_initialed : (value : ℕ) (o : Out) → KeepsNumbers (initialed value o) o
+unfolding initialed
+numbers_initialed value o = keeps_initial value o (first_over value o.streams)
+
+-- ---- a pull
+
+turn_cond : (b : Bool) (x y : Turn) (n : ℕ) → x.stream.number ≡ n → y.stream.number ≡ n → (cond b x y).stream.number ≡ n
+turn_cond true x y n h k = h
+turn_cond false x y n h k = k
+
+number_headers : (f : Flow) (s : Stream) (block : List ℕ) (ended : Bool) → (headers_turn f s block ended).stream.number ≡ s.number
+unfolding headers_turn
+number_headers f s block ended = refl
+
+number_data : (f : Flow) (s : Stream) → (data_turn f s).stream.number ≡ s.number
+unfolding data_turn
+number_data f s = turn_cond (allowed_of f s.credit (length (drop s.sent s.last)) == 0) _ _ s.number refl refl
+
+number_last : (f : Flow) (s : Stream) (t : Option (List ℕ)) → (last_turn f s t).stream.number ≡ s.number
+unfolding last_turn
+number_last f s None = refl
+number_last f s (Some block) = number_headers f (record s { trailers = None }) block true
+
+number_next : (f : Flow) (s : Stream) (w : Option (List ℕ)) → (next_turn f s w).stream.number ≡ s.number
+unfolding next_turn
+number_next f s None = number_last f s s.trailers
+number_next f s (Some message) = turn_cond (allowed_of f s.credit (length message) == 0) _ _ s.number refl (number_data (record f { begun = f.begun + 1 }) (record s { last = message; sent = 0; waiting = None }))
+
+number_body : (f : Flow) (s : Stream) → (body_turn f s).stream.number ≡ s.number
+unfolding body_turn
+number_body f s = turn_cond (nat_lt s.sent (length s.last)) _ _ s.number (number_data f s) (number_next f s s.waiting)
+
+number_head : (f : Flow) (s : Stream) (h : Option (List ℕ)) → (head_turn f s h).stream.number ≡ s.number
+number_head f s None = number_body f s
+number_head f s (Some block) = number_headers f (record s { head = None }) block false
+
+number_turn : (f : Flow) (s : Stream) → (turn f s).stream.number ≡ s.number
+unfolding turn
+number_turn f s = number_head f s s.head
+
+numbers_round : (f : Flow) (ss : List Stream) → map (λ s. s.number) (round f ss).streams ≡ map (λ s. s.number) ss
+unfolding round
+numbers_round f [] = refl
+numbers_round f (s ∷ ss) = rw (number_turn f s, numbers_round (turn f s).flow ss) refl
+
+round_cond : (b : Bool) (x y : Round) (ns : List ℕ) → map (λ s. s.number) x.streams ≡ ns → map (λ s. s.number) y.streams ≡ ns → map (λ s. s.number) (cond b x y).streams ≡ ns
+round_cond true x y ns h k = h
+round_cond false x y ns h k = k
+
+numbers_rounds : (n : ℕ) (f : Flow) (ss : List Stream) → map (λ s. s.number) (rounds n f ss).streams ≡ map (λ s. s.number) ss
+unfolding rounds
+numbers_rounds zero f ss = refl
+numbers_rounds (suc n) f ss = round_cond (length (round f ss).sent == 0) _ _ _ (numbers_round f ss) (numbers_rounds n (round f ss).flow (round f ss).streams ∙ numbers_round f ss)
+
+pub numbers_pulled : (o : Out) → numbers (pulled o).left ≡ numbers o
+unfolding pulled all_rounds
+numbers_pulled o = numbers_rounds (all_work o.streams + 1) o.flow o.streams

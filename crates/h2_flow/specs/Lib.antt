@@ -1,0 +1,4 @@
+pub mod Windows
+pub mod Streams
+pub mod Pulls
+pub mod Outboxes

@@ -1,0 +1,153 @@
+-- An outbox and its calls.
+use Rattle.std.specs.Prelude.{◌≡◌, ℕ, ◌+◌, ◌<◌, ◌==◌, nat_lt, ℤ, pos, ◌+ℤ◌, int_lt, Bool, true, false, not, ◌&&◌, if◌then◌else◌, List, [], ◌∷◌, ◌++◌, map, filter, Option, Some, None, Result, Ok, Err, bytes_eq}
+use Rattle.std.specs.List.{list_any, AllByRecursion}
+use Rattle.h2_flow.specs.declared.flow.Flow.{Flow}
+use Rattle.h2_flow.specs.declared.flow.Update.TheVariants.{Unasked, Due}
+use Rattle.h2_flow.specs.declared.overflow.Overflow.{Overflow}
+use Rattle.h2_flow.specs.declared.stream.Stream.{Stream}
+use Rattle.h2_flow.specs.Windows.{window_of}
+use Rattle.h2_flow.specs.Streams.{Sent}
+use Rattle.h2_flow.specs.Pulls.{all_rounds, bytes_of, ended_of}
+
+-- the windows and counts, the queued control frames as bytes, the streams by ascending number, and whether memory ran out
+pub record Out : Type 0 where
+  pub flow : Flow
+  pub control : List ℕ
+  pub streams : List Stream
+  pub failed : Bool
+
+-- RFC 9113, section 6.9.2: both windows begin with 65,535
+abbrev pub fresh : Out
+fresh = record { flow = record { room = 65535; initial = 65535; update = Unasked; begun = 0 }; control = []; streams = []; failed = false }
+
+abbrev pub failing : Out → Out
+failing o = record o { failed = true }
+
+-- ---- the streams
+
+abbrev pub is_number : ℕ → Stream → Bool
+is_number n s = s.number == n
+
+-- the stream is there
+abbrev pub has : ℕ → Out → Bool
+has n o = list_any (is_number n) o.streams
+
+-- it is there, and its last block was not given
+abbrev pub is_open : ℕ → Out → Bool
+is_open n o = list_any (λ s. is_number n s && not s.finished) o.streams
+
+-- a frame was written on it
+abbrev pub is_written : ℕ → Out → Bool
+is_written n o = list_any (λ s. is_number n s && s.written) o.streams
+
+-- the numbers of the streams that are there
+abbrev pub numbers : Out → List ℕ
+numbers o = map (λ s. s.number) o.streams
+
+-- the number is above all others
+abbrev pub IsAbove : ℕ → List Stream → Type 0
+IsAbove n streams = AllByRecursion (λ s. s.number < n) streams
+
+-- the stream of this number is changed so
+abbrev pub changed : ℕ → (Stream → Stream) → List Stream → List Stream
+changed n f [] = []
+changed n f (s ∷ ss) = if s.number == n then f s ∷ ss else s ∷ changed n f ss
+
+-- a stream on which nothing was given or written
+abbrev pub new_stream : ℕ → Stream
+new_stream n = record { number = n; credit = pos 0; head = None; last = []; sent = 0; waiting = None; trailers = None; finished = false; written = false }
+
+unfoldable pub added : ℕ → Out → Out
+added n o = record o { streams = o.streams ++ new_stream n ∷ [] }
+
+unfoldable pub removed : ℕ → Out → Out
+removed n o = record o { streams = filter (λ s. not (is_number n s)) o.streams }
+
+-- ---- what is to be written
+
+unfoldable pub controlled : List ℕ → Out → Out
+controlled frame o = record o { control = o.control ++ frame }
+
+-- the next block begins with a size update
+unfoldable pub shrunk : Out → Out
+shrunk o = record o { flow = record o.flow { update = Due } }
+
+unfoldable pub headed : ℕ → List ℕ → Out → Out
+headed n block o = record o { streams = changed n (λ s. record s { head = Some block }) o.streams }
+
+-- own rule: a message equal to the one that began last is not written again, and withdraws an older one; any other takes
+-- the place of one that waits
+abbrev pub with_offer : List ℕ → Stream → Stream
+with_offer message s = record s { waiting = if bytes_eq message s.last then None else Some message }
+
+unfoldable pub offered : ℕ → List ℕ → Out → Out
+offered n message o = record o { streams = changed n (with_offer message) o.streams }
+
+unfoldable pub withdrawn : ℕ → Out → Out
+withdrawn n o = record o { streams = changed n (λ s. record s { waiting = None }) o.streams }
+
+unfoldable pub closed_by : ℕ → List ℕ → Out → Out
+closed_by n block o = record o { streams = changed n (λ s. record s { trailers = Some block; finished = true }) o.streams }
+
+-- ---- windows
+
+-- RFC 9113, section 6.9.1: the largest window
+abbrev pub largest_window : ℕ
+largest_window = 2147483647
+
+-- the credit of the stream of this number
+abbrev pub credit_of : ℕ → List Stream → ℤ
+credit_of n [] = pos 0
+credit_of n (s ∷ ss) = if s.number == n then s.credit else credit_of n ss
+
+unfoldable pub grown_room : ℕ → Out → Result Out Overflow
+grown_room step o =
+    if nat_lt largest_window (o.flow.room + step) then Err (record { stream = 0 })
+    else Ok (record o { flow = record o.flow { room = o.flow.room + step } })
+
+unfoldable pub grown_stream : ℕ → ℕ → Out → Result Out Overflow
+grown_stream n step o =
+    if int_lt (pos largest_window) (window_of o.flow.initial (credit_of n o.streams) +ℤ pos step) then Err (record { stream = n })
+    else Ok (record o { streams = changed n (λ s. record s { credit = s.credit +ℤ pos step }) o.streams })
+
+-- a step of WINDOW_UPDATE, on stream 0 that of the connection
+unfoldable pub grown : ℕ → ℕ → Out → Result Out Overflow
+grown n step o = if n == 0 then grown_room step o else grown_stream n step o
+
+-- the first stream whose window would pass the largest with this initial window
+unfoldable pub first_over : ℕ → List Stream → Option ℕ
+first_over value [] = None
+first_over value (s ∷ ss) = if int_lt (pos largest_window) (window_of value s.credit) then Some s.number else first_over value ss
+
+-- RFC 9113, section 6.9.2: each stream's window is a sum with the initial window, so it moves with it, below zero too
+abbrev pub with_initial : ℕ → Out → Option ℕ → Result Out Overflow
+with_initial value o (Some n) = Err (record { stream = n })
+with_initial value o None = Ok (record o { flow = record o.flow { initial = value } })
+
+unfoldable pub initialed : ℕ → Out → Result Out Overflow
+initialed value o = with_initial value o (first_over value o.streams)
+
+-- ---- a pull
+
+-- the frames behind the control frames, as bytes with them, the streams that they end, and what is left
+pub record Pulled : Type 0 where
+  pub sent : List Sent
+  pub bytes : List ℕ
+  pub ended : List ℕ
+  pub left : Out
+
+unfoldable pub pulled : Out → Pulled
+pulled o =
+    let r = all_rounds o.flow o.streams in
+    record { sent = r.sent; bytes = o.control ++ bytes_of r.sent; ended = ended_of r.sent; left = record o { flow = r.flow; control = []; streams = r.streams } }
+
+-- a pull would write nothing and change nothing
+abbrev pub IsQuiet : Out → Type 0
+IsQuiet o = pulled o ≡ record { sent = []; bytes = []; ended = []; left = o }
+
+-- ---- what the code gives
+
+-- the outbox was changed so, or the window would pass the largest and nothing was changed
+abbrev pub Changes : Result (Unit {0}) Overflow → Result Out Overflow → Out → Out → Type 0
+Changes (Ok x) due old new = due ≡ Ok new
+Changes (Err e) due old new = (due ≡ Err e) × (new ≡ old)

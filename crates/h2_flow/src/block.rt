@@ -1,0 +1,37 @@
+//! Header blocks that fit one frame.
+
+ghost use Rattle.std.specs.Prelude.{◌≡◌, ◌≤◌, List, ℕ, length};
+
+use std::marker::Model;
+use wl_octets::Octets;
+
+/// A header block of at most 16,383 bytes, so that it fits one frame behind the byte of a
+/// size update.
+#[derive(Drop)]
+pub struct Block {
+    bytes: Octets,
+}
+
+impl Model for Block {
+    ghost Value = { List ℕ };
+
+    ghost view = { λ b. b.bytes };
+
+    ghost invariant = { λ b. length b.bytes ≤ 16383 };
+}
+
+impl Block {
+    pub fn new(bytes: Octets) -> Block
+        requires { length bytes ≤ 16383 }
+        ensures { result ≡ bytes }
+    {
+        Block { bytes }
+    }
+
+    pub fn as_slice(&self) -> &[u8]
+        ensures value { result.now ≡ self.now }
+        ensures small { length self.now ≤ 16383 }
+    {
+        self.bytes.as_slice()
+    }
+}

@@ -1,0 +1,310 @@
+//! An outbox: what is to be written on a connection.
+
+ghost use Rattle.std.specs.Prelude.{◌≡◌, ◌<◌, ◌≤◌, ◌^◌, ◌==◌, ◌||◌, ◌&&◌, ◌++◌, true, false, List, ℕ, length, vec_capacity, IfOk, OnOk, OnErr, IsErr, pos, ◌+ℤ◌, int_lt};
+ghost use Rattle.h2_flow.specs.Windows.{window_of};
+ghost use Rattle.std.specs.List.{list_any};
+ghost use Rattle.wl_words.specs.Lists.{GainsFront};
+ghost use Rattle.h2_flow.specs.declared.flow.Update.TheVariants.{Unasked};
+ghost use Rattle.h2_flow.specs.Outboxes.{Out, fresh, failing, has, is_open, is_written, IsAbove, added, removed, controlled, shrunk, headed, offered, withdrawn, closed_by, grown, grown_room, grown_stream, first_over, is_number, initialed, pulled, Changes};
+
+use crate::block::Block;
+use crate::flow::{Flow, Update};
+use crate::overflow::Overflow;
+use crate::pull::take_rounds;
+use crate::seats::{
+    credit, give_head, give_message, give_trailers, has_in, open_in, raise, take_message, take_out,
+    written_in,
+};
+use crate::stream::Stream;
+use std::alloc::Global;
+use std::marker::Model;
+use wl_octets::{Memory, Octets, Row};
+
+/// How many streams an outbox has room for.
+const STREAMS: usize = 16;
+
+/// The largest window, in bytes (RFC 9113, section 6.9.1).
+const LARGEST: u32 = 2_147_483_647;
+
+/// What is to be written on a connection: control frames, and for at most 16 streams a head
+/// block, messages and trailers.
+///
+/// After want of memory it fails for good: each later call that can answer it answers it.
+#[derive(Drop)]
+pub struct Outbox {
+    alloc: Global,
+    flow: Flow,
+    control: Vec<u8>,
+    streams: Vec<Stream>,
+    failed: bool,
+}
+
+impl Model for Outbox {
+    ghost Value = { Out };
+
+    ghost view = { λ o. record { flow = o.flow; control = o.control.items; streams = o.streams.items; failed = o.failed } };
+
+    ghost invariant = { λ o. 16 ≤ vec_capacity o.streams };
+}
+
+impl Outbox {
+    /// An outbox without streams, with both windows at 65,535 bytes.
+    pub fn start(alloc: Global) -> Result<Outbox, Memory>
+        ensures { IfOk result (λ o. o ≡ fresh) }
+    {
+        let streams = Vec::with_capacity(alloc, STREAMS)?;
+        let flow = Flow {
+            room: 65_535,
+            initial: 65_535,
+            update: Update::Unasked,
+            begun: 0,
+        };
+        Ok(Outbox {
+            alloc,
+            flow,
+            control: Vec::new(alloc),
+            streams,
+            failed: false,
+        })
+    }
+
+    /// Adds a stream, whose number is above all that are there. It takes no memory.
+    #[tactic(auto, unfolding(crate::specs::Outboxes::added))]
+    pub fn add(&mut self, stream: u32)
+        requires room { length self.old.streams < 16 }
+        requires positive { 0 < stream }
+        requires low { stream < 2 ^ 31 }
+        requires above { IsAbove stream self.old.streams }
+        ensures { self.new ≡ added stream self.old }
+    {
+        let new = Stream::new(self.alloc, stream);
+        let _ = self.streams.push(new);
+    }
+
+    /// Drops a stream with all that waits on it, if it is there.
+    #[tactic(auto, unfolding(crate::specs::Outboxes::removed))]
+    pub fn remove(&mut self, stream: u32)
+        ensures { self.new ≡ removed stream self.old }
+    {
+        take_out(&mut self.streams, stream);
+    }
+
+    /// Sets the peer's initial window of streams, in bytes; the windows of the streams that
+    /// are there move with it, below zero too (RFC 9113, section 6.9.2). Nothing changes
+    /// where one would pass 2,147,483,647; the answer then names the lowest such stream.
+    #[tactic(auto, unfolding(crate::specs::Outboxes::initialed))]
+    pub fn initial(&mut self, value: u32) -> Result<(), Overflow>
+        requires { value < 2 ^ 31 }
+        ensures { Changes result (initialed value self.old) self.old self.new }
+    {
+        match passing(self.streams.as_slice(), value) {
+            Some(stream) => Err(Overflow { stream }),
+            None => {
+                self.flow.initial = value;
+                Ok(())
+            }
+        }
+    }
+
+    /// Takes a step of WINDOW_UPDATE, in bytes, on a stream that is there, or on stream 0, the
+    /// connection. Nothing changes where that window would pass 2,147,483,647.
+    #[tactic(auto, unfolding(crate::specs::Outboxes::grown))]
+    pub fn grow(&mut self, stream: u32, step: u32) -> Result<(), Overflow>
+        requires step { step < 2 ^ 31 }
+        requires there { (stream == 0 || has stream self.old) ≡ true }
+        ensures { Changes result (grown stream step self.old) self.old self.new }
+    {
+        if stream == 0 {
+            self.grow_room(step)
+        } else {
+            self.grow_stream(stream, step)
+        }
+    }
+
+    #[tactic(auto, unfolding(crate::specs::Outboxes::grown_room))]
+    fn grow_room(&mut self, step: u32) -> Result<(), Overflow>
+        requires { step < 2 ^ 31 }
+        ensures { Changes result (grown_room step self.old) self.old self.new }
+    {
+        if LARGEST - step < self.flow.room {
+            return Err(Overflow { stream: 0 });
+        }
+        self.flow.room += step;
+        Ok(())
+    }
+
+    #[tactic(auto, unfolding(crate::specs::Outboxes::grown_stream))]
+    fn grow_stream(&mut self, stream: u32, step: u32) -> Result<(), Overflow>
+        requires step { step < 2 ^ 31 }
+        requires there { has stream self.old ≡ true }
+        ensures { Changes result (grown_stream stream step self.old) self.old self.new }
+    {
+        let credit = credit(self.streams.as_slice(), stream);
+        if passes_by(self.flow.initial, credit, step) {
+            return Err(Overflow { stream });
+        }
+        raise(self.streams.as_mut_slice(), stream, step);
+        Ok(())
+    }
+
+    /// Queues a control frame, which the next pull writes first.
+    #[tactic(auto, unfolding(crate::specs::Outboxes::controlled))]
+    pub fn control(&mut self, frame: &[u8]) -> Result<(), Memory>
+        ensures ok { OnOk result (self.new ≡ controlled frame.now self.old) }
+        ensures err { OnErr result (self.new ≡ failing self.old) }
+        ensures again { self.old.failed ≡ true → IsErr result }
+    {
+        if self.failed {
+            return Err(Memory);
+        }
+        match self.control.extend_from_slice(frame) {
+            Ok(()) => Ok(()),
+            Err(_) => {
+                self.failed = true;
+                Err(Memory)
+            }
+        }
+    }
+
+    /// The control frames that are queued, as bytes. It takes no memory.
+    pub fn queued(&self) -> &[u8]
+        ensures { result.now ≡ self.now.control }
+    {
+        self.control.as_slice()
+    }
+
+    /// Has the next block that a pull writes, on whichever stream, begin with a size update to
+    /// 0 (RFC 7541, section 4.2). It is called once at most.
+    #[tactic(auto, unfolding(crate::specs::Outboxes::shrunk))]
+    pub fn shrink(&mut self)
+        requires { self.old.flow.update ≡ Unasked }
+        ensures { self.new ≡ shrunk self.old }
+    {
+        self.flow.update = Update::Due;
+    }
+
+    /// Gives a stream the block of its response head, of at most 16,383 bytes.
+    #[tactic(auto, using(crate::proofs::Places::open_there), unfolding(crate::specs::Outboxes::headed))]
+    pub fn head(&mut self, stream: u32, block: Octets)
+        requires open { is_open stream self.old ≡ true }
+        requires small { length block ≤ 16383 }
+        ensures { self.new ≡ headed stream block self.old }
+    {
+        give_head(self.streams.as_mut_slice(), stream, Block::new(block));
+    }
+
+    /// Offers a stream a message, which isn't empty. Where it equals the message that began
+    /// last there, one that waits is withdrawn; else it takes that one's place.
+    #[tactic(auto, using(crate::proofs::Places::open_there), unfolding(crate::specs::Outboxes::offered))]
+    pub fn offer(&mut self, stream: u32, message: Octets)
+        requires open { is_open stream self.old ≡ true }
+        requires some { 0 < length message }
+        ensures { self.new ≡ offered stream message self.old }
+    {
+        give_message(self.streams.as_mut_slice(), stream, message);
+    }
+
+    /// Withdraws a stream's waiting message, if it has one. A message whose first byte was
+    /// written is finished.
+    #[tactic(auto, using(crate::proofs::Places::open_there), unfolding(crate::specs::Outboxes::withdrawn))]
+    pub fn withdraw(&mut self, stream: u32)
+        requires { is_open stream self.old ≡ true }
+        ensures { self.new ≡ withdrawn stream self.old }
+    {
+        take_message(self.streams.as_mut_slice(), stream);
+    }
+
+    /// Gives a stream its last block, of at most 16,383 bytes, which is written with
+    /// END_STREAM once no message is left. It withdraws nothing.
+    #[tactic(auto, using(crate::proofs::Places::open_there), unfolding(crate::specs::Outboxes::closed_by))]
+    pub fn finish(&mut self, stream: u32, block: Octets)
+        requires open { is_open stream self.old ≡ true }
+        requires small { length block ≤ 16383 }
+        ensures { self.new ≡ closed_by stream block self.old }
+    {
+        give_trailers(self.streams.as_mut_slice(), stream, Block::new(block));
+    }
+
+    /// Whether a stream is there. It takes no memory.
+    pub fn has(&self, stream: u32) -> bool
+        ensures { result ≡ has stream self.now }
+    {
+        has_in(self.streams.as_slice(), stream)
+    }
+
+    /// Whether a stream is there and its last block was not given. It takes no memory.
+    pub fn is_open(&self, stream: u32) -> bool
+        ensures { result ≡ is_open stream self.now }
+    {
+        open_in(self.streams.as_slice(), stream)
+    }
+
+    /// Whether a frame was written on a stream that is there. It takes no memory.
+    pub fn is_written(&self, stream: u32) -> bool
+        requires { has stream self.now ≡ true }
+        ensures { result ≡ is_written stream self.now }
+    {
+        written_in(self.streams.as_slice(), stream)
+    }
+
+    /// How many messages began since the start, those of removed streams too.
+    pub fn begun(&self) -> u64
+        ensures { result ≡ self.now.flow.begun }
+    {
+        self.flow.begun
+    }
+
+    /// Writes all that may be written behind what `out` holds: the control frames, and then
+    /// rounds of the streams until one writes nothing. Tells in `ended` the streams whose
+    /// END_STREAM it wrote.
+    #[tactic(auto, unfolding(crate::specs::Outboxes::pulled))]
+    pub fn pull(&mut self, out: &mut Octets, ended: &mut Row<u32>) -> Result<(), Memory>
+        ensures left { OnOk result (self.new ≡ (pulled self.old).left) }
+        ensures bytes { OnOk result (out.new ≡ out.old ++ (pulled self.old).bytes) }
+        ensures ended { OnOk result (ended.new ≡ ended.old ++ (pulled self.old).ended) }
+        ensures front { GainsFront (pulled self.old).bytes out.old out.new }
+        ensures ended_front { GainsFront (pulled self.old).ended ended.old ended.new }
+        ensures fails { OnErr result (self.new.failed ≡ true) }
+        ensures again { self.old.failed ≡ true → IsErr result }
+    {
+        if self.failed {
+            return Err(Memory);
+        }
+        self.failed = true;
+        out.push_slice(self.control.as_slice())?;
+        take_rounds(&mut self.flow, self.streams.as_mut_slice(), out, ended)?;
+        self.control.clear();
+        self.failed = false;
+        Ok(())
+    }
+}
+
+/// Whether a stream's window would pass the largest with this initial window.
+fn passes(value: u32, credit: i64) -> bool
+    requires { value < 2 ^ 31 }
+    ensures { result ≡ int_lt (pos 2147483647) (window_of value credit) }
+{
+    i64::from(LARGEST) - i64::from(value) < credit
+}
+
+/// Whether a stream's window would pass the largest by this step.
+fn passes_by(initial: u32, credit: i64, step: u32) -> bool
+    requires { step < 2 ^ 31 }
+    ensures { result ≡ int_lt (pos 2147483647) (window_of initial credit +ℤ pos step) }
+{
+    i64::from(LARGEST) - i64::from(step) - i64::from(initial) < credit
+}
+
+/// The first stream whose window would pass the largest with this initial window.
+#[tactic(auto, using(crate::proofs::Places::over_next, crate::proofs::Places::over_here), unfolding(crate::specs::Outboxes::first_over))]
+fn passing(streams: &[Stream], value: u32) -> Option<u32>
+    requires { value < 2 ^ 31 }
+    ensures { result ≡ first_over value streams.now }
+{
+    for stream in streams {
+        if passes(value, stream.credit) {
+            return Some(stream.number);
+        }
+    }
+    None
+}
