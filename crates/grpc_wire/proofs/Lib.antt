@@ -1,0 +1,6 @@
+pub mod Gains
+pub mod Fronts
+pub mod Cuts
+pub mod Feeding
+pub mod Framed
+pub mod Escapes

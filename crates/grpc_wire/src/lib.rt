@@ -1,0 +1,25 @@
+//! gRPC over HTTP/2, as the Workload API uses it: the verdict on a call's head, messages cut out of the bytes of a
+//! body, and the header lists of the answers.
+//!
+//! A head is judged whole. A body may come in any pieces: [`Messages`] cuts it at the lengths that stand before the
+//! messages, keeps no byte of a message that is whole, and takes no room for a length before its bytes come.
+#![tactic(auto)]
+
+mod answers;
+mod fault;
+mod head;
+mod messages;
+mod method;
+mod prefix;
+mod reading;
+mod refusal;
+#[cfg(test)]
+mod tests;
+
+pub use answers::{refusal_fields, response_head, trailers};
+pub use fault::MessageFault;
+pub use head::{HeadVerdict, judge_head};
+pub use messages::{Messages, put_message};
+pub use method::Method;
+pub use prefix::judge_prefix;
+pub use refusal::Refusal;
