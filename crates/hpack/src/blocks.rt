@@ -1,9 +1,9 @@
 //! Representations and blocks (RFC 7541, sections 3.2 and 6).
 #![tactic(auto)]
 
-ghost use Rattle.std.specs.Prelude.{◌≡◌, ◌<◌, ◌∷◌, [], option_map};
+ghost use Rattle.std.specs.Prelude.{◌<◌};
 ghost use Rattle.hpack.specs.Outcomes.{Gives};
-ghost use Rattle.hpack.specs.Reading.{name_at, literal_at, representation_at, block_in, block_of, after_representation};
+ghost use Rattle.hpack.specs.Reading.{name_at, literal_at, representation_at, block_of};
 
 use crate::dynamic_table::{DynamicTable, MOST, size};
 use crate::fault::HpackFault;

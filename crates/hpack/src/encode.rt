@@ -1,7 +1,7 @@
 //! The spelling of header blocks that are written.
 #![tactic(auto)]
 
-ghost use Rattle.std.specs.Prelude.{◌≡◌, ◌+◌, ◌≤◌, ◌<◌, ◌++◌, List, Ok, IfOk, IfSome, MatchOption, OnOk};
+ghost use Rattle.std.specs.Prelude.{◌≡◌, ◌+◌, ◌≤◌, ◌<◌, ◌++◌, Ok, IfOk, IfSome, MatchOption, OnOk};
 ghost use Rattle.std.specs.List.{position};
 ghost use Rattle.hpack.specs.Tables.{Table, list_size, static_table};
 ghost use Rattle.hpack.specs.Reading.{block_of};
