@@ -11,7 +11,7 @@ use Rattle.wl_octets.specs.declared.header.Header.{Header}
 use Rattle.hpack.specs.Tables.{Table, size_of, list_size, static_table, no_field, entry_at}
 use Rattle.hpack.specs.Reading.{is_coded, block_of}
 use Rattle.hpack.specs.Grammar.{Continues, groups, IsInteger, IsString, IsName, indexed_name, new_name, Represents, indexed, not_indexing, Names, ended, named, IsBlock}
-use Rattle.hpack.specs.Writing.{more_in, more_bytes, integer_bytes, plain_string, same_field, same_name, spelled_name, spelled_field, spelled, spelled_block}
+use Rattle.hpack.specs.Writing.{more_in, more_bytes, integer_bytes, plain_string, same_field, same_name, NoNameBelow, spelled_name, spelled_field, spelled, spelled_block}
 use Rattle.hpack.proofs.Eviction.{list_size-cons}
 use Rattle.hpack.proofs.Headers.{block_only}
 use Rattle.hpack.proofs.Numbers.{continues-cons, long_integer}
@@ -55,6 +55,19 @@ pub position_none : {X : Type 0} (p : X → Bool) (xs : List X) (n : ℕ) (d : X
 position_none p xs n d le before =
     let e = position_or_len_is p xs (length xs) d (omega arith) (λ k lt. before k (omega arith)) (λ lt. absurd (omega arith)) in
     rw (e, le-ltb (length xs) (length xs) (omega arith)) refl
+
+pub no_field_below : (header : Header) (end : ℕ) → NoNameBelow header end → (k : ℕ) → k < end → same_field header (get_or static_table k no_field) ≡ false
+no_field_below header end none k lt = rw (none k lt) refl
+
+pub no_field_at_all : (header : Header) → NoNameBelow header 61 → position (same_field header) static_table ≡ None
+no_field_at_all header none = sym (position_none (same_field header) static_table 61 no_field (omega (arith, static_count)) (no_field_below header 61 none))
+
+-- a literal with a new name, as it is written
+pub literal_written : (header : Header) (old one two new : List ℕ) → NoNameBelow header 61 → None ≡ position (same_name header) static_table → one ≡ old ++ 0 ∷ [] → two ≡ one ++ plain_string header.name → new ≡ two ++ plain_string header.value → new ≡ old ++ spelled header
+unfolding spelled
+literal_written header old one two new none absent first second third =
+    let no_name : position (same_name header) static_table ≡ None = sym absent in
+    rw (no_field_at_all header none, no_name, third, second, first) (simp append_assoc)
 
 -- ---- integers
 

@@ -1,10 +1,10 @@
 -- The one spelling of the header blocks that are written: static entries are indexed, all else is a literal without indexing, no
 -- string is Huffman coded, and the table stays as it is (own rule, within RFC 7541, sections 5 and 6).
-use Rattle.std.specs.Prelude.{ℕ, zero, suc, ◌+◌, ◌-◌, ◌/◌, ◌%◌, nat_lt, Bool, ◌&&◌, if◌then◌else◌, List, [], ◌∷◌, ◌++◌, length, Option, None, Some}
+use Rattle.std.specs.Prelude.{◌≡◌, ◌<◌, false, slice_index_or, ℕ, zero, suc, ◌+◌, ◌-◌, ◌/◌, ◌%◌, nat_lt, Bool, ◌&&◌, if◌then◌else◌, List, [], ◌∷◌, ◌++◌, length, Option, None, Some}
 use Rattle.std.specs.List.{flat_map, position}
 use Rattle.std.specs.Str.{bytes_eq}
 use Rattle.wl_octets.specs.declared.header.Header.{Header}
-use Rattle.hpack.specs.Tables.{static_table}
+use Rattle.hpack.specs.Tables.{static_table, no_field}
 
 -- a number in bytes of seven bits, lowest first, the eighth bit saying that more follow; at most so many before the last
 unfoldable pub more_in : ℕ → ℕ → List ℕ
@@ -27,6 +27,10 @@ same_field header entry = bytes_eq entry.name header.name && bytes_eq entry.valu
 
 abbrev pub same_name : Header → Header → Bool
 same_name header entry = bytes_eq entry.name header.name
+
+-- no static entry before this place has the header's name
+abbrev pub NoNameBelow : Header → ℕ → Type 0
+NoNameBelow header end = (place : ℕ) → place < end → same_name header (slice_index_or static_table place no_field) ≡ false
 
 -- the first static entry of that name, or 0 and the name
 abbrev pub spelled_name : Header → Option ℕ → List ℕ

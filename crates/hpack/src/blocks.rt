@@ -1,9 +1,9 @@
 //! Representations and blocks (RFC 7541, sections 3.2 and 6).
 #![tactic(auto)]
 
-ghost use Rattle.std.specs.Prelude.{◌≡◌, ◌<◌, ◌∷◌, [], option_map};
+ghost use Rattle.std.specs.Prelude.{◌<◌};
 ghost use Rattle.hpack.specs.Outcomes.{Gives};
-ghost use Rattle.hpack.specs.Reading.{name_at, literal_at, representation_at, block_in, block_of, after_representation};
+ghost use Rattle.hpack.specs.Reading.{name_at, literal_at, representation_at, block_of};
 
 use crate::dynamic_table::{DynamicTable, MOST, size};
 use crate::fault::HpackFault;
@@ -89,7 +89,8 @@ pub(crate) fn headers(
 ) -> Result<Row<Header>, HpackFault>
     ensures { Gives (λ headers. (headers, table.new)) result (block_of table.old block.now) }
 {
-    let mut headers = Row::empty(alloc);
+    // A header takes a byte at least.
+    let mut headers = Vec::with_capacity(alloc, block.len().min(16))?;
     let mut begun = false;
     let mut room = MOST_SIZE;
     let mut rest = block;
@@ -107,5 +108,5 @@ pub(crate) fn headers(
         begun = true;
         headers.push(header)?;
     }
-    Ok(headers)
+    Ok(Row::from_vec(headers))
 }

@@ -1,7 +1,7 @@
 //! The decoder of a connection's header blocks.
 #![tactic(auto)]
 
-ghost use Rattle.std.specs.Prelude.{◌≡◌, [], List, ℕ, ◌∷◌, Ok, Err, IfOk, IfErr};
+ghost use Rattle.std.specs.Prelude.{◌≡◌, [], List, ℕ, ◌∷◌, Err, IfOk, IfErr};
 ghost use Rattle.hpack.specs.declared.fault.HpackFault.{HpackFault};
 ghost use Rattle.hpack.specs.Tables.{first_table};
 ghost use Rattle.hpack.specs.Outcomes.{Refuses};

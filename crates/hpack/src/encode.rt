@@ -1,12 +1,12 @@
 //! The spelling of header blocks that are written.
 #![tactic(auto)]
 
-ghost use Rattle.std.specs.Prelude.{◌≡◌, ◌+◌, ◌≤◌, ◌<◌, ◌++◌, List, Ok, IfOk, IfSome, OnOk};
+ghost use Rattle.std.specs.Prelude.{◌≡◌, ◌+◌, ◌≤◌, ◌<◌, ◌++◌, Ok, IfOk, IfSome, MatchOption, OnOk};
 ghost use Rattle.std.specs.List.{position};
 ghost use Rattle.hpack.specs.Tables.{Table, list_size, static_table};
 ghost use Rattle.hpack.specs.Reading.{block_of};
 ghost use Rattle.hpack.specs.Grammar.{IsBlock};
-ghost use Rattle.hpack.specs.Writing.{more_bytes, integer_bytes, plain_string, same_field, same_name, spelled, spelled_block};
+ghost use Rattle.hpack.specs.Writing.{more_bytes, integer_bytes, plain_string, same_field, same_name, NoNameBelow, spelled, spelled_block};
 
 use crate::static_table::{COUNT, static_name, static_value};
 use std::alloc::Global;
@@ -47,28 +47,30 @@ fn put_string(out: &mut Vec<u8>, text: &[u8]) -> Result<(), Memory>
     Ok(())
 }
 
-/// The place of the first static entry that is this header, counted from 0.
-fn find_field(header: &Header) -> Option<usize>
-    ensures first { result ≡ position (same_field header.now) static_table }
+/// The place of the first static entry of this header's name, counted from 0.
+fn find_name(header: &Header) -> Option<usize>
+    ensures first { result ≡ position (same_name header.now) static_table }
     ensures within { IfSome result (λ place. place < 61) }
+    ensures before { MatchOption result (NoNameBelow header.now 61) (NoNameBelow header.now) }
 {
     for place in 0..COUNT {
-        if static_name(place) == header.name.as_slice()
-            && static_value(place) == header.value.as_slice()
-        {
+        if static_name(place) == header.name.as_slice() {
             return Some(place);
         }
     }
     None
 }
 
-/// The place of the first static entry of this header's name, counted from 0.
-fn find_name(header: &Header) -> Option<usize>
-    ensures first { result ≡ position (same_name header.now) static_table }
+/// The place of the first static entry that is this header, where no entry before this place has its name.
+fn find_field(header: &Header, from: usize) -> Option<usize>
+    requires { NoNameBelow header.now from }
+    ensures first { result ≡ position (same_field header.now) static_table }
     ensures within { IfSome result (λ place. place < 61) }
 {
-    for place in 0..COUNT {
-        if static_name(place) == header.name.as_slice() {
+    for place in from..COUNT {
+        if static_name(place) == header.name.as_slice()
+            && static_value(place) == header.value.as_slice()
+        {
             return Some(place);
         }
     }
@@ -80,16 +82,28 @@ fn find_name(header: &Header) -> Option<usize>
 fn put_header(out: &mut Vec<u8>, header: &Header) -> Result<(), Memory>
     ensures { OnOk result (out.new.items ≡ out.old.items ++ spelled header.now) }
 {
-    if let Some(place) = find_field(header) {
-        return put_integer(out, 128, 127, place + 1);
-    }
-    if let Some(place) = find_name(header) {
-        put_integer(out, 0, 15, place + 1)?;
-    } else {
+    let Some(name) = find_name(header) else {
         out.push(0)?;
         put_string(out, header.name.as_slice())?;
+        return put_string(out, header.value.as_slice());
+    };
+    if let Some(field) = find_field(header, name) {
+        return put_integer(out, 128, 127, field + 1);
     }
+    put_integer(out, 0, 15, name + 1)?;
     put_string(out, header.value.as_slice())
+}
+
+/// No less than a header's bytes in a block: the first byte, and two lengths of ten bytes at most.
+fn most_bytes(headers: &[Header]) -> usize {
+    let mut bytes: usize = 0;
+    for header in headers {
+        bytes = bytes
+            .saturating_add(header.name.len())
+            .saturating_add(header.value.len())
+            .saturating_add(21);
+    }
+    bytes
 }
 
 /// The block of some headers in the one spelling that is written: a header of the static table is indexed, any other is a literal
@@ -101,7 +115,7 @@ pub fn encode_plain(alloc: Global, headers: &[Header]) -> Result<Octets, Memory>
     ensures readable { IfOk result (λ block. list_size headers.now ≤ 16384 → (table : Table) → IsBlock table block headers.now table) }
     ensures read_again { IfOk result (λ block. list_size headers.now ≤ 16384 → (table : Table) → block_of table block ≡ Ok (headers.now, table)) }
 {
-    let mut out = Vec::new(alloc);
+    let mut out = Vec::with_capacity(alloc, most_bytes(headers))?;
     for header in headers {
         put_header(&mut out, header)?;
     }

@@ -1,10 +1,10 @@
 //! The Huffman code (RFC 7541, section 5.2 and appendix B).
 #![tactic(auto)]
 
-ghost use Rattle.std.specs.Prelude.{◌≡◌, ℕ, ◌+◌, ◌*◌, ◌/◌, ◌%◌, ◌^◌, ◌<◌, List, ◌++◌, length, IfOk, IfErr, OnOk, Bool, ◌≤◌, slice_index};
+ghost use Rattle.std.specs.Prelude.{◌≡◌, ℕ, ◌+◌, ◌*◌, ◌/◌, ◌%◌, ◌^◌, ◌<◌, List, length, IfOk, IfErr, ◌≤◌, slice_index};
 ghost use Rattle.hpack.specs.Huffman.{bits, length_of, IsHuffman, coded_length};
 ghost use Rattle.hpack.specs.Tree.{huffman_text, StepsBy};
-ghost use Rattle.hpack.specs.Outcomes.{Gives, Refuses, IsPaddingFault};
+ghost use Rattle.hpack.specs.Outcomes.{Gives, IsPaddingFault};
 
 use crate::fault::HpackFault;
 use crate::tables::{LENGTHS, STEPS};

@@ -1,7 +1,7 @@
 //! The static table (RFC 7541, appendix A).
 #![tactic(auto)]
 
-ghost use Rattle.std.specs.Prelude.{◌≡◌, ◌<◌, [], slice_index_or};
+ghost use Rattle.std.specs.Prelude.{◌≡◌, slice_index_or};
 ghost use Rattle.hpack.specs.Tables.{static_table, no_field};
 
 /// How many entries the static table has.

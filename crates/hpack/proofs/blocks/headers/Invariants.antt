@@ -4,7 +4,7 @@ use Rattle.hpack.proofs.Headers.{with_front}
 use Rattle.hpack.proofs.blocks.headers.Given as goal
 
 abbrev pub invariant-each : goal.invariant-each
-invariant-each l = block_of l.fn.table l.block ≡ with_front l.headers (headers_of l.table l.begun l.room l.rest)
+invariant-each l = block_of l.fn.table l.block ≡ with_front l.headers.items (headers_of l.table l.begun l.room l.rest)
 
 abbrev pub decreases-each : goal.decreases-each
 decreases-each l = length l.rest
