@@ -11,12 +11,16 @@ mod entries;
 mod fault;
 mod kept;
 mod keys;
+#[cfg(test)]
+mod limit_tests;
 mod lists;
 mod members;
 mod names;
 mod read;
 mod state;
 mod svids;
+#[cfg(test)]
+mod tests;
 mod top;
 
 pub use fault::{DocFault, Place};
