@@ -64,53 +64,57 @@ fn data(alloc: Global, length: usize) -> Result<Frame, Memory> {
     Ok(Frame { stream: 1, body })
 }
 
-fn main(rt: HostRuntime) -> io::Result<()> {
+/// One million PING, written and read.
+fn pings(rt: &HostRuntime) -> io::Result<()> {
     let alloc = rt.alloc();
     let ping = Frame { stream: 0, body: Body::Ping { ack: true, word: 1 } };
-    let start = Instant::now(&rt)?;
-    let Ok(pings) = written(alloc, &ping, COUNT) else {
-        println!(rt; "no memory")?;
+    let start = Instant::now(rt)?;
+    let Ok(bytes) = written(alloc, &ping, COUNT) else {
         return Ok(());
     };
-    let spent = start.elapsed(&rt)?;
+    let spent = start.elapsed(rt)?;
     println!(rt; "write 1,000,000 PING: {} ms", spent.as_millis())?;
-
     for length in [65536, 4096, 17, 1] {
-        let start = Instant::now(&rt)?;
-        let count = fed(alloc, pings.as_slice(), length, 1).unwrap_or(0);
-        let spent = start.elapsed(&rt)?;
-        println!(rt; "read {count} PING in pieces of {length}: {} ms", spent.as_millis())?;
+        reads(rt, "PING", bytes.as_slice(), length)?;
     }
+    Ok(())
+}
 
+/// 16 MiB of DATA in the largest frames, written and read.
+fn frames_of_data(rt: &HostRuntime) -> io::Result<()> {
+    let alloc = rt.alloc();
     let Ok(frame) = data(alloc, 16384) else {
-        println!(rt; "no memory")?;
         return Ok(());
     };
-    let start = Instant::now(&rt)?;
+    let start = Instant::now(rt)?;
     let Ok(bytes) = written(alloc, &frame, 1024) else {
-        println!(rt; "no memory")?;
         return Ok(());
     };
-    let spent = start.elapsed(&rt)?;
+    let spent = start.elapsed(rt)?;
     println!(rt; "write 16 MiB of DATA: {} ms", spent.as_millis())?;
     for length in [65536, 16384, 1024, 16, 1] {
-        let start = Instant::now(&rt)?;
-        let count = fed(alloc, bytes.as_slice(), length, 1).unwrap_or(0);
-        let spent = start.elapsed(&rt)?;
-        println!(rt; "read {count} DATA of 16 KiB in pieces of {length}: {} ms", spent.as_millis())?;
+        reads(rt, "DATA of 16 KiB", bytes.as_slice(), length)?;
     }
-
-    let small = [0x61u8; 32];
-    let other = [0x62u8; 32];
-    let start = Instant::now(&rt)?;
-    let count = pulled(alloc, &small, &other, COUNT).unwrap_or(0);
-    let spent = start.elapsed(&rt)?;
-    println!(rt; "pull 1,000,000 messages of 32 bytes: {count} bytes, {} ms", spent.as_millis())?;
-    let (first, _) = bytes.as_slice().split_at(bytes.len() / 16);
-    let (second, _) = bytes.as_slice().split_at(bytes.len() / 17);
-    let start = Instant::now(&rt)?;
-    let count = pulled(alloc, first, second, 256).unwrap_or(0);
-    let spent = start.elapsed(&rt)?;
-    println!(rt; "pull 256 messages of 1 MiB: {count} bytes, {} ms", spent.as_millis())?;
     Ok(())
+}
+
+fn reads(rt: &HostRuntime, name: &str, bytes: &[u8], length: usize) -> io::Result<()> {
+    let start = Instant::now(rt)?;
+    let count = fed(rt.alloc(), bytes, length, 1).unwrap_or(0);
+    let spent = start.elapsed(rt)?;
+    println!(rt; "read {count} {name} in pieces of {length}: {} ms", spent.as_millis())
+}
+
+/// So many messages by turns on one stream.
+fn messages(rt: &HostRuntime, first: &[u8], second: &[u8], times: u32) -> io::Result<()> {
+    let start = Instant::now(rt)?;
+    let count = pulled(rt.alloc(), first, second, times).unwrap_or(0);
+    let spent = start.elapsed(rt)?;
+    println!(rt; "pull {times} messages: {count} bytes, {} ms", spent.as_millis())
+}
+
+fn main(rt: HostRuntime) -> io::Result<()> {
+    pings(&rt)?;
+    frames_of_data(&rt)?;
+    messages(&rt, &[0x61u8; 32], &[0x62u8; 32], COUNT)
 }
