@@ -1,0 +1,14 @@
+#!/bin/sh
+# Feeds and writes frames, and pulls messages. It works in a copy of the repository, since the program is no part of it.
+set -e
+here=$(cd "$(dirname "$0")" && pwd)
+copy=$(mktemp -d)
+mkdir -p "$copy/crates/frames_bench/src"
+for name in wl_words wl_octets h2_words h2_frame h2_flow; do
+    cp -r "$here/../../crates/$name" "$copy/crates/"
+done
+cp "$here/../../HANDLES" "$copy/"
+printf 'wl_words:\nwl_octets:\nh2_words:\nh2_frame: wl_octets wl_words h2_words\nh2_flow: wl_octets wl_words h2_words\nframes_bench: h2_frame h2_flow wl_octets\n' > "$copy/crates.txt"
+cp "$here/frames.rt" "$copy/crates/frames_bench/src/main.rt"
+(cd "$copy/crates/frames_bench" && rt run)
+rm -rf "$copy"
