@@ -7,6 +7,7 @@ use std::io;
 use std::time::Instant;
 use wl_octets::{Header, Memory, Octets};
 
+/// A million of each, so that a millisecond in all is a nanosecond a head.
 const COUNT: u32 = 1_000_000;
 
 /// The first head of a connection, by Debian's python3-hpack: Huffman texts, and literals that are added to the table.
