@@ -1,0 +1,4 @@
+pub mod Prefixes
+pub mod Bodies
+pub mod Histories
+pub mod Places

@@ -1,0 +1,63 @@
+-- What the message of a request says. Own rules: which refusal each fault has.
+use Rattle.std.specs.Prelude.{◌≡◌, ℕ, Bool, not, ◌&&◌, ◌==◌, is_some, if◌then◌else◌, List, length, Result, Ok, Err}
+use Rattle.spiffe_id.specs.Faults.{id_fault}
+use Rattle.workload_proto.specs.declared.message.JwtRequest.{JwtRequest}
+use Rattle.workload_proto.specs.declared.fault.ProtoFault.{ProtoFault}
+use Rattle.workload_proto.specs.Requests.{jwt_request_of, empty_of}
+use Rattle.wl_health.specs.declared.fault.HealthFault.{HealthFault}
+use Rattle.wl_health.specs.Messages.{service_of}
+use Rattle.grpc_wire.specs.declared.method.Method.{Method}
+use Rattle.grpc_wire.specs.declared.method.Method.TheVariants.{X509Svid, X509Bundles, JwtBundles, JwtSvid, HealthCheck, HealthWatch}
+use Rattle.grpc_wire.specs.declared.refusal.Refusal.{Refusal}
+use Rattle.grpc_wire.specs.declared.refusal.Refusal.TheVariants.{Undecodable, NoAudience, BadId}
+use Rattle.grpc_conn.specs.declared.request.Request.{Request}
+use Rattle.grpc_conn.specs.declared.request.Request.TheVariants.{Plain, Jwt, Health}
+use Rattle.grpc_conn.specs.declared.request.RequestFault.{RequestFault}
+use Rattle.grpc_conn.specs.declared.request.RequestFault.TheVariants.{Refused, Memory}
+
+-- an id is named, and is no SPIFFE ID
+abbrev pub names_no_id : List ℕ → Bool
+names_no_id id = not (length id == 0) && is_some (id_fault id)
+
+-- own rules: a request of a JWT-SVID names an audience, and no id or a SPIFFE ID
+abbrev pub jwt_judged : JwtRequest → Result Request Refusal
+jwt_judged r =
+    if length r.audience == 0 then Err NoAudience
+    else if names_no_id r.spiffe_id then Err BadId
+    else Ok (Jwt r)
+
+abbrev pub jwt_read : Result JwtRequest ProtoFault → Result Request Refusal
+jwt_read (Ok r) = jwt_judged r
+jwt_read (Err fault) = Err Undecodable
+
+abbrev pub jwt_said : List ℕ → Result Request Refusal
+jwt_said m = jwt_read (jwt_request_of m)
+
+abbrev pub health_read : Result (List ℕ) HealthFault → Result Request Refusal
+health_read (Ok service) = Ok (Health service)
+health_read (Err fault) = Err Undecodable
+
+abbrev pub health_said : List ℕ → Result Request Refusal
+health_said m = health_read (service_of m)
+
+abbrev pub empty_read : Result (Unit {0}) ProtoFault → Result Request Refusal
+empty_read (Ok x) = Ok Plain
+empty_read (Err fault) = Err Undecodable
+
+abbrev pub empty_said : List ℕ → Result Request Refusal
+empty_said m = empty_read (empty_of m)
+
+-- what a message says to a method
+unfoldable pub request_of : Method → List ℕ → Result Request Refusal
+request_of JwtSvid m = jwt_said m
+request_of HealthCheck m = health_said m
+request_of HealthWatch m = health_said m
+request_of X509Svid m = empty_said m
+request_of X509Bundles m = empty_said m
+request_of JwtBundles m = empty_said m
+
+-- an answer is what is due, unless memory ran out
+abbrev pub Reads : Result Request RequestFault → Result Request Refusal → Type 0
+Reads (Ok r) due = due ≡ Ok r
+Reads (Err (Refused refusal)) due = due ≡ Err refusal
+Reads (Err Memory) due = Unit {0}

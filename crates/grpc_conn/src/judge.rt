@@ -1,0 +1,133 @@
+//! One call's body, as it comes.
+
+ghost use Rattle.std.specs.Prelude.{◌≡◌, ◌≤◌, ◌++◌, drop, length, IfOk, OnOk};
+ghost use Rattle.grpc_conn.specs.declared.event.CallEvent.TheVariants.{Nothing};
+ghost use Rattle.grpc_conn.specs.Verdicts.{sized_verdict, whole_verdict, part_verdict, refused_by, body_verdict};
+ghost use Rattle.grpc_conn.specs.Calls.{told, moved};
+
+use crate::event::CallEvent;
+use crate::request::{RequestFault, read_request};
+use crate::standing::Standing;
+use grpc_wire::{MessageFault, Method, Refusal, judge_prefix};
+use std::alloc::Global;
+use wl_octets::{Memory, Octets};
+
+/// The most bytes of a request's message (own rule).
+const LIMIT: u32 = 32_768;
+
+/// How many bytes stand before a message.
+const PREFIX: usize = 5;
+
+/// More bytes of a call's body.
+#[tactic(auto, unfolding(crate::specs::Calls::told, crate::specs::Calls::moved))]
+pub(crate) fn go_on(
+    alloc: Global,
+    standing: &mut Standing,
+    bytes: &[u8],
+    ended: bool,
+) -> Result<CallEvent, Memory>
+    ensures event { IfOk result (λ event. event ≡ told standing.old bytes.now ended) }
+    ensures kept { OnOk result (standing.new ≡ moved standing.old bytes.now ended) }
+{
+    match standing {
+        Standing::Waiting { method, body } => {
+            let event = take_in(alloc, *method, body, bytes, ended)?;
+            if event.is_decided() {
+                *standing = Standing::Decided;
+            }
+            Ok(event)
+        }
+        Standing::Decided => Ok(CallEvent::Nothing),
+    }
+}
+
+/// Keeps more bytes of a body, and judges what is there: the flag at the first byte, the length with the fifth, a byte
+/// too many when it comes, and the rest at the end. Bytes that are too many are not kept.
+#[tactic(auto, unfolding(crate::specs::Verdicts::body_verdict))]
+fn take_in(
+    alloc: Global,
+    method: Method,
+    body: &mut Octets,
+    bytes: &[u8],
+    ended: bool,
+) -> Result<CallEvent, Memory>
+    ensures event { IfOk result (λ event. event ≡ body_verdict method (body.old ++ bytes.now) ended) }
+    ensures kept { IfOk result (λ event. event ≡ Nothing → body.new ≡ body.old ++ bytes.now) }
+{
+    let lacking = PREFIX.saturating_sub(body.len());
+    let (front, rest) = bytes.split_at(lacking.min(bytes.len()));
+    body.push_slice(front)?;
+    match judge_prefix(LIMIT, body.as_slice()) {
+        Err(fault) => Ok(refuse(fault)),
+        Ok(None) => Ok(judge_part(ended)),
+        Ok(Some(said)) => take_rest(alloc, method, said, body, rest, ended),
+    }
+}
+
+/// The same behind a prefix that says this length.
+fn take_rest(
+    alloc: Global,
+    method: Method,
+    said: u32,
+    body: &mut Octets,
+    rest: &[u8],
+    ended: bool,
+) -> Result<CallEvent, Memory>
+    requires { 5 ≤ length body.old }
+    ensures event { IfOk result (λ event. event ≡ sized_verdict method said (drop 5 (body.old ++ rest.now)) ended) }
+    ensures kept { IfOk result (λ event. event ≡ Nothing → body.new ≡ body.old ++ rest.now) }
+{
+    let due = said as usize;
+    let come = (body.len() - PREFIX).saturating_add(rest.len());
+    if come > due {
+        return Ok(CallEvent::Refuse(Refusal::Count));
+    }
+    body.push_slice(rest)?;
+    if !ended {
+        return Ok(CallEvent::Nothing);
+    }
+    if come < due {
+        return Ok(CallEvent::Refuse(Refusal::Count));
+    }
+    let (_, message) = body.as_slice().split_at(PREFIX);
+    decide(alloc, method, message)
+}
+
+/// A request that has ended within its prefix, or goes on.
+fn judge_part(ended: bool) -> CallEvent
+    ensures { result ≡ part_verdict ended }
+{
+    if ended {
+        CallEvent::Refuse(Refusal::Count)
+    } else {
+        CallEvent::Nothing
+    }
+}
+
+fn refuse(fault: MessageFault) -> CallEvent
+    ensures { result ≡ refused_by fault }
+{
+    match fault {
+        MessageFault::Flag(_) => CallEvent::Refuse(Refusal::Flag),
+        MessageFault::TooLong(_) => CallEvent::Refuse(Refusal::LongRequest),
+        MessageFault::Memory => CallEvent::Nothing,
+    }
+}
+
+/// A request that has ended, with its one message.
+fn decide(alloc: Global, method: Method, message: &[u8]) -> Result<CallEvent, Memory>
+    ensures { IfOk result (λ event. event ≡ whole_verdict method message.now) }
+{
+    match read_request(alloc, method, message) {
+        Ok(request) => {
+            let message = Octets::from_slice(alloc, message)?;
+            Ok(CallEvent::Ready {
+                method,
+                message,
+                request,
+            })
+        }
+        Err(RequestFault::Refused(refusal)) => Ok(CallEvent::Refuse(refusal)),
+        Err(RequestFault::Memory) => Err(Memory),
+    }
+}
