@@ -1,5 +1,5 @@
 -- What the streaming calls of the Workload API are answered on a view (SPIFFE Workload API; own rules).
-use Rattle.std.specs.Prelude.{ℕ, ◌==◌, Bool, true, false, not, nat_lt, if◌then◌else◌, List, [], ◌∷◌, ◌++◌, length, filter, map, codes, Option, Some, None}
+use Rattle.std.specs.Prelude.{ℕ, ◌<◌, ◌≤◌, ◌==◌, Bool, true, false, not, nat_lt, if◌then◌else◌, List, [], ◌∷◌, ◌++◌, length, filter, map, codes, Option, Some, None}
 use Rattle.std.specs.Str.{bytes_eq}
 use Rattle.std.specs.List.{flat_map}
 use Rattle.workload_proto.specs.declared.message.X509Response.{X509Response}
@@ -85,6 +85,13 @@ within_limit m = if nat_lt 4194304 (capped (length m)) then TooLong (capped (len
 -- the first that applies: nothing is seen; it waits; its message is too long; its message
 unfoldable pub answer_of : Method3 → Sight → Answer
 answer_of method v = if length v.held == 0 then Denied else if waits method v then Wait else within_limit (message_of method v)
+
+-- a message is within its limit
+abbrev pub IsShort : Answer → Type 0
+IsShort Denied = Unit {0}
+IsShort Wait = Unit {0}
+IsShort (TooLong n) = 4194304 < n
+IsShort (Message m) = length m ≤ 4194304
 
 -- ---- the tokens that a FetchJWTSVID call asks for
 

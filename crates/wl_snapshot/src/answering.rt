@@ -2,7 +2,7 @@
 
 ghost use Rattle.std.specs.Prelude.{◌≡◌, ◌≤◌, length, IfOk};
 ghost use Rattle.workload_proto.specs.Spelling.{capped};
-ghost use Rattle.wl_snapshot.specs.Answers.{answer_of, message_of, waits};
+ghost use Rattle.wl_snapshot.specs.Answers.{answer_of, message_of, waits, IsShort};
 
 use crate::answers::{Answer, Method3};
 use crate::messages::{bundles_response, jwt_bundles_response, x509_response};
@@ -42,7 +42,8 @@ fn message(alloc: Global, method: Method3, view: &View) -> Result<Octets, Memory
 /// 4,194,304 bytes is never made.
 #[tactic(auto, unfolding(crate::specs::Answers::answer_of))]
 pub fn answer(alloc: Global, method: Method3, view: &View) -> Result<Answer, Memory>
-    ensures { IfOk result (λ a. a ≡ answer_of method view.now) }
+    ensures value { IfOk result (λ a. a ≡ answer_of method view.now) }
+    ensures short { IfOk result IsShort }
 {
     if view.is_empty() {
         return Ok(Answer::Denied);

@@ -1,0 +1,452 @@
+use crate::keeping::publication;
+use crate::{Host, run};
+use std::alloc::{AllocGlobal, Global};
+use std::string::String;
+use std::test::Fail;
+use wl_document::read_state;
+use wl_edge::{MemorySink, MemorySource};
+use wl_octets::{Memory, Octets, Row};
+use wl_selector::{Selector, Selectors};
+use wl_snapshot::{Answer, Method3, View, answer, jwt_asks, view};
+
+const DOC: &str =
+    r#"{"version":1,"trust_domain":"a.b","bundles":[{"trust_domain":"a.b","x509":"Aw=="}],"entries":[{"id":"e1","spiffe_id":"spiffe://a.b/w","selectors":["unix:uid:1"]}],"svids":[{"entry":"e1","chain":"AQ==","key":"Ag==","not_before":100,"not_after":200}]}"#;
+
+/// What DOC's caller is written, 64 digits and a newline.
+const ONE: &str = "000000001b0a190a0e7370696666653a2f2f612e622f771201011a0102220103\n";
+
+const USAGE: &str = "usage: agentd preview|check|replay|simulate|serve\n";
+
+/// A caller and a document, with the status and the text that are due.
+struct Case {
+    words: &'static [&'static str],
+    document: &'static str,
+    status: u8,
+    text: &'static str,
+}
+
+fn word_list(alloc: Global, words: &[&str]) -> Result<Vec<String>, Memory> {
+    let mut list = Vec::new(alloc);
+    for word in words {
+        list.push(String::from_str(alloc, word)?)?;
+    }
+    Ok(list)
+}
+
+/// The status of a run over this document, and what it wrote.
+fn ran(alloc: Global, words: &[&str], document: &[u8]) -> Result<(u8, Octets), Memory> {
+    let mut host = Host {
+        input: MemorySource::start(Octets::from_slice(alloc, document)?, 64, Row::empty(alloc)),
+        output: MemorySink::start(alloc, 1_000, 100_000, 1_000, Row::empty(alloc))?,
+    };
+    let list = word_list(alloc, words)?;
+    let status = run(alloc, list.as_slice(), &mut host);
+    Ok((status, Octets::from_slice(alloc, host.output.bytes())?))
+}
+
+fn is_due(alloc: Global, case: &Case) -> Result<bool, Memory> {
+    let (status, text) = ran(alloc, case.words, case.document.as_bytes())?;
+    Ok(status == case.status && text.as_slice() == case.text.as_bytes())
+}
+
+const PREVIEWS: [Case; 12] = [
+    Case {
+        words: &["preview", "unix:uid:1"],
+        document: DOC,
+        status: 0,
+        text: ONE,
+    },
+    Case {
+        words: &["preview", "--", "unix:uid:1"],
+        document: DOC,
+        status: 0,
+        text: ONE,
+    },
+    Case {
+        words: &["preview", "unix:uid:2"],
+        document: DOC,
+        status: 4,
+        text: "",
+    },
+    // every selector of the entry is asked for
+    Case {
+        words: &["preview", "unix:uid:1"],
+        document: BOTH,
+        status: 4,
+        text: "",
+    },
+    Case {
+        words: &["preview", "unix:gid:2", "unix:uid:1", "unix:gid:2"],
+        document: BOTH,
+        status: 0,
+        text: ONE,
+    },
+    // one of two entries lacks its SVID
+    Case {
+        words: &["preview", "unix:uid:1"],
+        document: TWO,
+        status: 5,
+        text: "",
+    },
+    // a federated bundle, and none of an entry to which the caller is not entitled
+    Case {
+        words: &["preview", "unix:uid:1"],
+        document: FEDERATED,
+        status: 0,
+        text: FEDERATED_TEXT,
+    },
+    Case {
+        words: &["preview", "unix:uid:1"],
+        document: FOREIGN,
+        status: 0,
+        text: FEDERATED_TEXT,
+    },
+    // the hint of version 2, which version 1 does not know
+    Case {
+        words: &["preview", "unix:uid:1"],
+        document: HINT,
+        status: 0,
+        text: HINT_TEXT,
+    },
+    Case {
+        words: &["preview", "unix:uid:1"],
+        document: HINT_OF_1,
+        status: 0,
+        text: ONE,
+    },
+    // an identity that is not fit at its own first second is not kept
+    Case {
+        words: &["preview", "unix:uid:1"],
+        document: UNFIT,
+        status: 5,
+        text: "",
+    },
+    Case {
+        words: &["preview", "unix:uid:1"],
+        document: "{",
+        status: 3,
+        text: "fault document 1\n",
+    },
+];
+
+const CHECKS: [Case; 8] = [
+    Case {
+        words: &["check"],
+        document: DOC,
+        status: 0,
+        text: "ok entries=1 bundles=1 svids=1\n",
+    },
+    Case {
+        words: &["check"],
+        document: "{",
+        status: 3,
+        text: "fault document 1\n",
+    },
+    Case {
+        words: &["check"],
+        document: "{\"version\":3}",
+        status: 3,
+        text: "fault document 2\n",
+    },
+    Case {
+        words: &["check"],
+        document: "{\"version\":2}",
+        status: 3,
+        text: "fault document 3 0 0 2 0\n",
+    },
+    Case {
+        words: &["check"],
+        document: "{\"version\":1}",
+        status: 3,
+        text: "fault document 3 0 0 2 0\n",
+    },
+    Case {
+        words: &["check"],
+        document: WRONG_ID,
+        status: 3,
+        text: "fault document 5 2 0 2 0 4 9\n",
+    },
+    Case {
+        words: &["check", "--"],
+        document: "",
+        status: 3,
+        text: "fault document 1\n",
+    },
+    Case {
+        words: &["check", "x"],
+        document: DOC,
+        status: 2,
+        text: USAGE,
+    },
+];
+
+const UNFIT_WORDS: [Case; 8] = [
+    Case {
+        words: &[],
+        document: DOC,
+        status: 2,
+        text: USAGE,
+    },
+    Case {
+        words: &["preview"],
+        document: DOC,
+        status: 2,
+        text: USAGE,
+    },
+    Case {
+        words: &["preview", "x"],
+        document: DOC,
+        status: 2,
+        text: USAGE,
+    },
+    Case {
+        words: &["preview", "-x:y"],
+        document: DOC,
+        status: 2,
+        text: USAGE,
+    },
+    Case {
+        words: &["preview", "a:b", "--help"],
+        document: DOC,
+        status: 2,
+        text: USAGE,
+    },
+    Case {
+        words: &["--", "check"],
+        document: DOC,
+        status: 2,
+        text: USAGE,
+    },
+    Case {
+        words: &["simulate", "1", "0", "1", "0"],
+        document: DOC,
+        status: 2,
+        text: USAGE,
+    },
+    Case {
+        words: &["serve", "/x"],
+        document: DOC,
+        status: 2,
+        text: USAGE,
+    },
+];
+
+const BOTH: &str =
+    r#"{"version":1,"trust_domain":"a.b","bundles":[{"trust_domain":"a.b","x509":"Aw=="}],"entries":[{"id":"e1","spiffe_id":"spiffe://a.b/w","selectors":["unix:uid:1","unix:gid:2"]}],"svids":[{"entry":"e1","chain":"AQ==","key":"Ag==","not_before":100,"not_after":200}]}"#;
+
+const TWO: &str =
+    r#"{"version":1,"trust_domain":"a.b","bundles":[{"trust_domain":"a.b","x509":"Aw=="}],"entries":[{"id":"e1","spiffe_id":"spiffe://a.b/w","selectors":["unix:uid:1"]},{"id":"e2","spiffe_id":"spiffe://a.b/w","selectors":["unix:uid:1"]}],"svids":[{"entry":"e1","chain":"AQ==","key":"Ag==","not_before":100,"not_after":200}]}"#;
+
+const FEDERATED: &str =
+    r#"{"version":1,"trust_domain":"a.b","bundles":[{"trust_domain":"a.b","x509":"Aw=="},{"trust_domain":"c.d","x509":"BA=="}],"entries":[{"id":"e1","spiffe_id":"spiffe://a.b/w","selectors":["unix:uid:1"],"federates_with":["c.d","e.f"]}],"svids":[{"entry":"e1","chain":"AQ==","key":"Ag==","not_before":100,"not_after":200}]}"#;
+
+const FOREIGN: &str =
+    r#"{"version":1,"trust_domain":"a.b","bundles":[{"trust_domain":"g.h","x509":"BQ=="},{"trust_domain":"a.b","x509":"Aw=="},{"trust_domain":"c.d","x509":"BA=="}],"entries":[{"id":"e2","spiffe_id":"spiffe://a.b/v","selectors":["unix:uid:2"],"federates_with":["g.h"]},{"id":"e1","spiffe_id":"spiffe://a.b/w","selectors":["unix:uid:1"],"federates_with":["c.d","e.f"]}],"svids":[{"entry":"e1","chain":"AQ==","key":"Ag==","not_before":100,"not_after":200}]}"#;
+
+const FEDERATED_TEXT: &str =
+    "000000002e0a190a0e7370696666653a2f2f612e622f771201011a01022201031a110a0c7370696666653a2f2f632e64120104\n";
+
+const HINT: &str =
+    r#"{"version":2,"trust_domain":"a.b","bundles":[{"trust_domain":"a.b","x509":"Aw=="}],"entries":[{"id":"e1","spiffe_id":"spiffe://a.b/w","selectors":["unix:uid:1"],"hint":"internal"}],"svids":[{"entry":"e1","chain":"AQ==","key":"Ag==","not_before":100,"not_after":200}]}"#;
+
+const HINT_OF_1: &str =
+    r#"{"version":1,"trust_domain":"a.b","bundles":[{"trust_domain":"a.b","x509":"Aw=="}],"entries":[{"id":"e1","spiffe_id":"spiffe://a.b/w","selectors":["unix:uid:1"],"hint":"internal"}],"svids":[{"entry":"e1","chain":"AQ==","key":"Ag==","not_before":100,"not_after":200}]}"#;
+
+const HINT_TEXT: &str =
+    "00000000250a230a0e7370696666653a2f2f612e622f771201011a01022201032a08696e7465726e616c\n";
+
+const UNFIT: &str =
+    r#"{"version":1,"trust_domain":"a.b","bundles":[{"trust_domain":"a.b","x509":"Aw=="}],"entries":[{"id":"e1","spiffe_id":"spiffe://a.b/w","selectors":["unix:uid:1"]}],"svids":[{"entry":"e1","chain":"AQ==","key":"Ag==","not_before":200,"not_after":200}]}"#;
+
+const WRONG_ID: &str =
+    r#"{"version":1,"trust_domain":"a.b","bundles":[{"trust_domain":"a.b","x509":"Aw=="}],"entries":[{"id":"e1","spiffe_id":"spiffe://A.b/w","selectors":["unix:uid:1"]}]}"#;
+
+#[test]
+fn previews(rt: HostRuntime) -> Result<(), Fail> {
+    for case in &PREVIEWS {
+        assert!(rt; is_due(rt.alloc(), case)?, "{}", case.document);
+    }
+    Ok(())
+}
+
+#[test]
+fn checks(rt: HostRuntime) -> Result<(), Fail> {
+    for case in &CHECKS {
+        assert!(rt; is_due(rt.alloc(), case)?, "{}", case.document);
+    }
+    Ok(())
+}
+
+#[test]
+fn words_that_fit_nothing(rt: HostRuntime) -> Result<(), Fail> {
+    for case in &UNFIT_WORDS {
+        assert!(rt; is_due(rt.alloc(), case)?, "{}", case.words.len());
+    }
+    Ok(())
+}
+
+/// The status of a run whose reads or writes of these numbers fail, and what it wrote.
+fn failing(alloc: Global, read: u64, write: u64) -> Result<(u8, Octets), Memory> {
+    let mut reads = Row::empty(alloc);
+    reads.push(read)?;
+    let mut writes = Row::empty(alloc);
+    writes.push(write)?;
+    let mut host = Host {
+        input: MemorySource::start(Octets::from_slice(alloc, DOC.as_bytes())?, 64, reads),
+        output: MemorySink::start(alloc, 1_000, 100_000, 10, writes)?,
+    };
+    let list = word_list(alloc, &["preview", "unix:uid:1"])?;
+    let status = run(alloc, list.as_slice(), &mut host);
+    Ok((status, Octets::from_slice(alloc, host.output.bytes())?))
+}
+
+/// Whether such a run ends with this status and has written this.
+fn ends_so(alloc: Global, read: u64, write: u64, status: u8, text: &[u8]) -> Result<bool, Memory> {
+    let (ended, written) = failing(alloc, read, write)?;
+    Ok(ended == status && written.as_slice() == text)
+}
+
+#[test]
+fn failing_second_read(rt: HostRuntime) -> Result<(), Fail> {
+    assert!(rt; ends_so(rt.alloc(), 1, 1_000, 6, b"")?);
+    Ok(())
+}
+
+#[test]
+fn failing_first_write(rt: HostRuntime) -> Result<(), Fail> {
+    assert!(rt; ends_so(rt.alloc(), 1_000, 0, 7, b"")?);
+    Ok(())
+}
+
+#[test]
+fn failing_third_write(rt: HostRuntime) -> Result<(), Fail> {
+    assert!(rt; ends_so(rt.alloc(), 1_000, 2, 7, b"000000001b0a190a0e73")?);
+    Ok(())
+}
+
+/// A document whose bundle has 1,048,576 bytes, with so many entries of one selector, at most ten, and their SVIDs.
+fn long_document(alloc: Global, entries: u8) -> Result<Octets, Memory> {
+    let mut text = Octets::empty(alloc);
+    text.push_slice(
+        br#"{"version":1,"trust_domain":"a.b","bundles":[{"trust_domain":"a.b","x509":""#,
+    )?;
+    for _ in 0..349_525 {
+        text.push_slice(b"AAAA")?;
+    }
+    text.push_slice(br#"AA=="}],"entries":["#)?;
+    put_items(
+        &mut text,
+        entries,
+        br#"{"spiffe_id":"spiffe://a.b/w","selectors":["unix:uid:1"],"id":"e"#,
+        br#""}"#,
+    )?;
+    text.push_slice(br#"],"svids":["#)?;
+    put_items(
+        &mut text,
+        entries,
+        br#"{"chain":"AQ==","key":"Ag==","not_before":100,"not_after":200,"entry":"e"#,
+        br#""}"#,
+    )?;
+    text.push_slice(b"]}")?;
+    Ok(text)
+}
+
+/// Items that differ in one digit.
+fn put_items(text: &mut Octets, count: u8, front: &[u8], back: &[u8]) -> Result<(), Memory> {
+    for digit in 0..count.min(10) {
+        if digit > 0 {
+            text.push_slice(b",")?;
+        }
+        text.push_slice(front)?;
+        text.push_slice(&[b'0' + digit])?;
+        text.push_slice(back)?;
+    }
+    Ok(())
+}
+
+/// The status of `preview` on such a document.
+fn long_status(alloc: Global, entries: u8) -> Result<u8, Memory> {
+    let list = word_list(alloc, &["preview", "unix:uid:1"])?;
+    let mut host = Host {
+        input: MemorySource::start(long_document(alloc, entries)?, 65_536, Row::empty(alloc)),
+        output: MemorySink::start(alloc, 1_000, 8_000_000, 1_000_000, Row::empty(alloc))?,
+    };
+    Ok(run(alloc, list.as_slice(), &mut host))
+}
+
+#[test]
+fn preview_long(rt: HostRuntime) -> Result<(), Fail> {
+    assert_eq!(rt; long_status(rt.alloc(), 4)?, 11);
+    Ok(())
+}
+
+#[test]
+fn preview_within_the_limit(rt: HostRuntime) -> Result<(), Fail> {
+    assert_eq!(rt; long_status(rt.alloc(), 3)?, 0);
+    Ok(())
+}
+
+/// What a caller with this selector sees of a document.
+fn seen(alloc: Global, document: &str, selector: &[u8]) -> Result<View, Fail> {
+    let state = read_state(alloc, document.as_bytes(), None)?;
+    let snapshot = publication(alloc, state)?;
+    let mut items = Vec::new(alloc);
+    items.push(Selector::parse(alloc, selector)?)?;
+    let selectors = Selectors::from_list(alloc, items, 256)?;
+    Ok(view(alloc, &snapshot, &selectors)?)
+}
+
+/// What a call is answered on a document.
+fn answered(
+    alloc: Global,
+    document: &str,
+    selector: &[u8],
+    method: Method3,
+) -> Result<Answer, Fail> {
+    let view = seen(alloc, document, selector)?;
+    Ok(answer(alloc, method, &view)?)
+}
+
+/// How many tokens a call asks for on a document.
+fn asked(alloc: Global, document: &str, selector: &[u8]) -> Result<usize, Fail> {
+    let view = seen(alloc, document, selector)?;
+    Ok(jwt_asks(alloc, &view, None)?.len())
+}
+
+fn is_message(alloc: Global, method: Method3) -> Result<bool, Fail> {
+    match answered(alloc, DOC, b"unix:uid:1", method)? {
+        Answer::Message(_) => Ok(true),
+        _ => Ok(false),
+    }
+}
+
+#[test]
+fn view_answers_messages(rt: HostRuntime) -> Result<(), Fail> {
+    for method in [Method3::X509Svid, Method3::X509Bundles] {
+        assert!(rt; is_message(rt.alloc(), method)?);
+    }
+    Ok(())
+}
+
+#[test]
+fn view_answers_denied(rt: HostRuntime) -> Result<(), Fail> {
+    match answered(rt.alloc(), DOC, b"unix:uid:2", Method3::X509Svid)? {
+        Answer::Denied => Ok(()),
+        _ => Err(Fail::from("not denied")),
+    }
+}
+
+#[test]
+fn view_answers_wait(rt: HostRuntime) -> Result<(), Fail> {
+    match answered(rt.alloc(), TWO, b"unix:uid:1", Method3::X509Svid)? {
+        Answer::Wait => Ok(()),
+        _ => Err(Fail::from("no wait")),
+    }
+}
+
+#[test]
+fn view_asks(rt: HostRuntime) -> Result<(), Fail> {
+    assert_eq!(rt; asked(rt.alloc(), DOC, b"unix:uid:1")?, 1);
+    assert_eq!(rt; asked(rt.alloc(), DOC, b"unix:uid:2")?, 0);
+    Ok(())
+}

@@ -1,0 +1,142 @@
+//! Reading the words of a command line.
+
+ghost use Rattle.std.specs.Prelude.{◌≡◌, ◌++◌, ◌≤◌, List, length, map, Option, option_map, option_and_then, string_bytes, if◌then◌else◌, IfOk, Some, None};
+ghost use Rattle.std.specs.List.{list_all};
+ghost use Rattle.wl_selector.specs.Selectors.{sorted_texts};
+ghost use Rattle.wl_agent.specs.Words.{command_of, operands, preview_of, check_of, is_option, is_selector};
+
+use crate::command::Command;
+use std::alloc::Global;
+use std::string::String;
+use wl_octets::{Memory, Octets, Row};
+use wl_selector::{Selector, SelectorFault, Selectors, SelectorsFault};
+
+/// The most selectors of a caller.
+const SELECTORS: u32 = 256;
+
+/// Whether a word has two bytes or more, the first of them `-`.
+fn is_flag(word: &[u8]) -> bool
+    ensures { result ≡ is_option word.now }
+{
+    match word {
+        [first, _, ..] => *first == b'-',
+        _ => false,
+    }
+}
+
+/// These words behind those that were read before.
+fn read_rest(alloc: Global, before: Row<Octets>, words: &[String]) -> Result<Row<Octets>, Memory>
+    ensures { IfOk result (λ r. r ≡ before ++ map string_bytes words.now) }
+{
+    let mut done = before;
+    for word in words {
+        done.push(Octets::from_slice(alloc, word.as_bytes())?)?;
+    }
+    Ok(done)
+}
+
+/// The operands among the words behind the command: before the first `--`, which is dropped, no word may be an
+/// option.
+fn read_operands(alloc: Global, words: &[String]) -> Result<Option<Row<Octets>>, Memory>
+    ensures { IfOk result (λ o. o ≡ operands (map string_bytes words.now)) }
+{
+    let mut done = Row::empty(alloc);
+    let mut rest = words;
+    'words: while let Some((word, after)) = rest.split_first() {
+        if word.as_bytes() == b"--".as_slice() {
+            return Ok(Some(read_rest(alloc, done, after)?));
+        }
+        if is_flag(word.as_bytes()) {
+            return Ok(None);
+        }
+        done.push(Octets::from_slice(alloc, word.as_bytes())?)?;
+        rest = after;
+    }
+    Ok(Some(done))
+}
+
+/// A selector, where the text is one.
+fn read_selector(alloc: Global, text: &[u8]) -> Result<Option<Selector>, Memory>
+    ensures { IfOk result (λ o. o ≡ (if is_selector text.now then Some text.now else None)) }
+{
+    match Selector::parse(alloc, text) {
+        Ok(selector) => Ok(Some(selector)),
+        Err(SelectorFault::Memory) => Err(Memory),
+        Err(SelectorFault::NoColon) => Ok(None),
+        Err(SelectorFault::EmptyKind) => Ok(None),
+        Err(SelectorFault::EmptyValue) => Ok(None),
+        Err(SelectorFault::NotUtf8) => Ok(None),
+    }
+}
+
+/// The selectors, where each text is one.
+fn read_selectors(alloc: Global, texts: &[Octets]) -> Result<Option<Vec<Selector>>, Memory>
+    ensures { IfOk result (λ o. option_map (λ v. v.items) o ≡ (if list_all is_selector texts.now then Some texts.now else None)) }
+{
+    let mut done = Vec::new(alloc);
+    for text in texts {
+        match read_selector(alloc, text.as_slice())? {
+            Some(selector) => done.push(selector)?,
+            None => return Ok(None),
+        }
+    }
+    Ok(Some(done))
+}
+
+/// The set of so many selectors, which are not too many.
+fn selector_set(alloc: Global, selectors: Vec<Selector>) -> Result<Selectors, Memory>
+    requires { length selectors.items ≤ 256 }
+    ensures { IfOk result (λ s. s ≡ sorted_texts selectors.items) }
+{
+    match Selectors::from_list(alloc, selectors, SELECTORS) {
+        Ok(set) => Ok(set),
+        Err(SelectorsFault::TooMany(_)) => unreachable!(),
+        Err(SelectorsFault::Memory) => Err(Memory),
+    }
+}
+
+/// `preview SELECTOR..`, where these are its operands.
+#[tactic(auto, unfolding(crate::specs::Words::preview_of))]
+fn preview(alloc: Global, texts: &[Octets]) -> Result<Option<Command>, Memory>
+    ensures { IfOk result (λ o. o ≡ preview_of texts.now) }
+{
+    if texts.is_empty() || texts.len() > SELECTORS as usize {
+        return Ok(None);
+    }
+    match read_selectors(alloc, texts)? {
+        Some(selectors) => Ok(Some(Command::Preview(selector_set(alloc, selectors)?))),
+        None => Ok(None),
+    }
+}
+
+/// `check`, where these are its operands.
+fn check(texts: &[Octets]) -> Option<Command>
+    ensures { result ≡ check_of texts.now }
+{
+    match texts {
+        [] => Some(Command::Check),
+        _ => None,
+    }
+}
+
+/// The command that the words fit, if any.
+#[tactic(auto, unfolding(crate::specs::Words::command_of))]
+pub(crate) fn read_command(alloc: Global, words: &[String]) -> Result<Option<Command>, Memory>
+    ensures { IfOk result (λ o. o ≡ command_of (map string_bytes words.now)) }
+{
+    let Some((first, after)) = words.split_first() else {
+        return Ok(None);
+    };
+    let previews = first.as_bytes() == b"preview".as_slice();
+    if !previews && first.as_bytes() != b"check".as_slice() {
+        return Ok(None);
+    }
+    let Some(texts) = read_operands(alloc, after)? else {
+        return Ok(None);
+    };
+    if previews {
+        preview(alloc, texts.as_slice())
+    } else {
+        Ok(check(texts.as_slice()))
+    }
+}
