@@ -9,6 +9,6 @@ for name in wl_words wl_octets h2_words h2_frame h2_flow; do
 done
 cp "$here/../../HANDLES" "$copy/"
 printf 'wl_words:\nwl_octets:\nh2_words:\nh2_frame: wl_octets wl_words h2_words\nh2_flow: wl_octets wl_words h2_words\nframes_bench: h2_frame h2_flow wl_octets\n' > "$copy/crates.txt"
-cp "$here/frames.rt" "$copy/crates/frames_bench/src/main.rt"
+cp "$here/frames.rt.txt" "$copy/crates/frames_bench/src/main.rt"
 (cd "$copy/crates/frames_bench" && rt run)
 rm -rf "$copy"

@@ -1,5 +1,5 @@
 #!/usr/bin/python3
-"""The same heads as decode.rt, by Debian's python3-hpack. Fewer of them, since it is slower."""
+"""The same heads as decode.rt.txt, by Debian's python3-hpack. Fewer of them, since it is slower."""
 
 import time
 import hpack

@@ -8,7 +8,7 @@ mkdir -p "$copy/crates/hpack_bench/src"
 cp -r "$here/../../crates/wl_octets" "$here/../../crates/hpack" "$copy/crates/"
 cp "$here/../../HANDLES" "$copy/"
 printf 'wl_octets:\nhpack: wl_octets\nhpack_bench: hpack wl_octets\n' > "$copy/crates.txt"
-cp "$here/decode.rt" "$copy/crates/hpack_bench/src/main.rt"
+cp "$here/decode.rt.txt" "$copy/crates/hpack_bench/src/main.rt"
 echo "this crate:"
 (cd "$copy/crates/hpack_bench" && rt run)
 echo "python3-hpack:"
