@@ -2,11 +2,10 @@
 
 ghost use Rattle.wl_entry.specs.Keys.{entry_key, svid_key, bundle_key};
 
-use wl_keyed::Keyed;
-
 use crate::bundles::Bundle;
 use crate::entries::Entry;
 use crate::signing::Svid;
+use wl_keyed::Keyed;
 
 impl Keyed for Entry {
     ghost key = { entry_key };
