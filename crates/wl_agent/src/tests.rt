@@ -7,7 +7,7 @@ use wl_document::read_state;
 use wl_edge::{MemorySink, MemorySource};
 use wl_octets::{Memory, Octets, Row};
 use wl_selector::{Selector, Selectors};
-use wl_snapshot::{Answer, Method3, View, answer, jwt_asks, view};
+use wl_snapshot::{Answer, Method3, Snapshot, View, answer, jwt_asks, view, view_of};
 
 const DOC: &str =
     r#"{"version":1,"trust_domain":"a.b","bundles":[{"trust_domain":"a.b","x509":"Aw=="}],"entries":[{"id":"e1","spiffe_id":"spiffe://a.b/w","selectors":["unix:uid:1"]}],"svids":[{"entry":"e1","chain":"AQ==","key":"Ag==","not_before":100,"not_after":200}]}"#;
@@ -448,5 +448,24 @@ fn view_answers_wait(rt: HostRuntime) -> Result<(), Fail> {
 fn view_asks(rt: HostRuntime) -> Result<(), Fail> {
     assert_eq!(rt; asked(rt.alloc(), DOC, b"unix:uid:1")?, 1);
     assert_eq!(rt; asked(rt.alloc(), DOC, b"unix:uid:2")?, 0);
+    Ok(())
+}
+
+/// The view that is made of the first entry, where there is one.
+fn first_alone(alloc: Global, snapshot: &Snapshot) -> Result<Option<View>, Memory> {
+    if snapshot.entries.len() == 0 {
+        return Ok(None);
+    }
+    Ok(Some(view_of(alloc, snapshot, &[0])?))
+}
+
+#[test]
+fn view_by_places(rt: HostRuntime) -> Result<(), Fail> {
+    let alloc = rt.alloc();
+    let snapshot = publication(alloc, read_state(alloc, TWO.as_bytes(), None)?)?;
+    match first_alone(alloc, &snapshot)? {
+        Some(view) => assert_eq!(rt; view.held.len(), 1),
+        None => return Err(Fail::from("no entry")),
+    }
     Ok(())
 }
