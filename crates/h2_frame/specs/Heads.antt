@@ -20,8 +20,8 @@ has flags mask = not (bit_and flags mask == 0)
 unfoldable pub front_of : Head → ℕ
 front_of h = (if has h.flags 8 then 1 else 0) + (if h.kind == 1 && has h.flags 32 then 5 else 0)
 
--- Section 6: the length that a type of frame can't have. Own rule: a wrong length is a fault of the connection for each
--- type, as section 5.4.1 allows.
+-- RFC 9113, section 6: the length that a type of frame can't have. Own rule: a wrong length is a fault of the connection for each
+-- type, as RFC 9113, section 5.4.1, allows.
 unfoldable pub is_wrong_length : Head → Bool
 is_wrong_length h =
     if h.kind == 0 then nat_lt h.length (front_of h)

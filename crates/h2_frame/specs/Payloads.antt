@@ -16,7 +16,7 @@ content_of h payload =
     let content = drop (front_of h) payload in
     if nat_lt (length content) pad then Err faults.BadPadding else Ok (take (length content - pad) content)
 
--- section 6.5.1: two bytes of an identifier and four of a value
+-- RFC 9113, section 6.5.1: two bytes of an identifier and four of a value
 abbrev pub setting_of : List ℕ → Setting
 setting_of b = record { id = from_be_bytes w16 b; value = from_be_bytes w32 (drop 2 b) }
 
@@ -29,7 +29,7 @@ abbrev pub with_content : Result (List ℕ) FrameFault → (List ℕ → Body) �
 with_content (Ok content) body = Ok (body content)
 with_content (Err fault) body = Err fault
 
--- section 6: what a frame of each type says
+-- RFC 9113, section 6: what a frame of each type says
 unfoldable pub body_of : Head → List ℕ → Result Body FrameFault
 body_of h payload =
     if h.kind == 0 then with_content (content_of h payload) (λ bytes. Bytes bytes h.length (has h.flags 1))

@@ -10,10 +10,10 @@ pub enum FrameFault {
     /// The stream doesn't begin with the connection preface (RFC 9113, section 3.4): its
     /// first wrong byte, counted from 0.
     BadPreface(usize),
-    /// A payload of this many bytes, above 16,384 (section 4.2).
+    /// A payload of this many bytes, above 16,384 (RFC 9113, section 4.2).
     TooLarge(u32),
     /// A type of frame and a length of payload, in bytes, which that type can't have
-    /// (section 6).
+    /// (RFC 9113, section 6).
     WrongLength(u8, u32),
     /// Padding that is longer than what it pads (sections 6.1 and 6.2).
     BadPadding,
