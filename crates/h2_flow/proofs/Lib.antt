@@ -5,3 +5,4 @@ pub mod Places
 pub mod Quiet
 pub mod Numbers
 pub mod Offers
+pub mod Sums

@@ -48,6 +48,11 @@ numbers o = map (λ s. s.number) o.streams
 abbrev pub IsAbove : ℕ → List Stream → Type 0
 IsAbove n streams = AllByRecursion (λ s. s.number < n) streams
 
+-- each number is above the one before it, and the first above this one
+abbrev pub RisesFrom : ℕ → List ℕ → Type 0
+RisesFrom n [] = Unit {0}
+RisesFrom n (m ∷ ms) = (n < m) × RisesFrom m ms
+
 -- the stream of this number is changed so
 abbrev pub changed : ℕ → (Stream → Stream) → List Stream → List Stream
 changed n f [] = []
