@@ -12,13 +12,8 @@ use Rattle.h2_flow.specs.Streams.{Sent, headers, content, Turn, idle, headers_tu
 use Rattle.h2_flow.specs.Pulls.{Round, round, rounds, all_work, all_rounds}
 use Rattle.h2_flow.specs.declared.overflow.Overflow.{Overflow}
 use Rattle.h2_flow.specs.Outboxes.{Out, fresh, is_number, IsAbove, new_stream, RisesFrom, numbers, changed, added, removed, controlled, shrunk, headed, offered, withdrawn, closed_by, largest_window, credit_of, grown_room, grown_stream, grown, first_over, with_initial, initialed, pulled}
+use Rattle.h2_flow.proofs.Orders.{number_of, rises_from, rises_added, rises_filter}
 use Rattle.h2_flow.specs.Histories.{Step, Add, Remove, Initial, Grow, Control, Shrink, Give, Offer, Withdraw, Finish, Pull, Leads, Reaches, HasSums, data_of, data_on, step_on, written, written_on, last_initial, is_added, since, stream_sum}
-
--- ---- numbers that rise
-
-rises_from : (n m : ℕ) (ns : List ℕ) → n ≤ m → RisesFrom m ns → RisesFrom n ns
-rises_from n m [] le h = tt
-rises_from n m (k ∷ ns) le h = (omega (arith, h.0), h.1)
 
 -- ---- a turn
 
@@ -101,9 +96,6 @@ Spent sent [] [] = Unit {0}
 Spent sent [] (t ∷ ts) = ⊥
 Spent sent (s ∷ ss) [] = ⊥
 Spent sent (s ∷ ss) (t ∷ ts) = (t.number ≡ s.number) × (t.credit ≡ s.credit -ℤ pos (sum_by (data_on s.number) sent)) × Spent sent ss ts
-
-abbrev number_of : Stream → ℕ
-number_of s = s.number
 
 -- frames on other streams alone before, or behind
 spent_before : (n : ℕ) (first sent : List Sent) → ((m : ℕ) → (m == n) ≡ false → sum_by (data_on m) first ≡ 0) → (ss ts : List Stream) → RisesFrom n (map number_of ss) → Spent sent ss ts → Spent (first ++ sent) ss ts
@@ -297,10 +289,6 @@ credits_added n before (s ∷ ss) above h =
     let later : is_added s.number (Add n) ≡ false = ne_eqb s.number n (λ e. absurd (omega (arith, above.0, e))) in
     (h.0 ∙ sym (credit_next s.number (Add n) before later ∙ omega (arith, ints)), credits_added n before ss above.1 h.1)
 
-rises_added : (m n : ℕ) (ss : List Stream) → m < n → IsAbove n ss → RisesFrom m (map number_of ss) → RisesFrom m (map number_of (ss ++ new_stream n ∷ []))
-rises_added m n [] lt above h = (lt, tt)
-rises_added m n (s ∷ ss) lt above h = (h.0, rises_added s.number n ss above.0 above.1 h.1)
-
 holds_added : (n : ℕ) (before : List Step) (o : Out) → 0 < n → IsAbove n o.streams → Holds before o → Holds (Add n ∷ before) (added n o)
 unfolding added
 holds_added n before o lt above h = record {
@@ -318,14 +306,6 @@ all_filter P p (s ∷ ss) h =
     elim (cases_Bool (p s)) [
       | inl stays ↦ rw stays (h.0, all_filter P p ss h.1)
       | inr goes ↦ rw goes (all_filter P p ss h.1)
-    ]
-
-rises_filter : (n : ℕ) (p : Stream → Bool) (ss : List Stream) → RisesFrom n (map number_of ss) → RisesFrom n (map number_of (filter p ss))
-rises_filter n p [] h = tt
-rises_filter n p (s ∷ ss) h =
-    elim (cases_Bool (p s)) [
-      | inl stays ↦ rw stays (h.0, rises_filter s.number p ss h.1)
-      | inr goes ↦ rw goes (rises_filter n p ss (rises_from n s.number (map number_of ss) (omega arith) h.1))
     ]
 
 holds_removed : (n : ℕ) (before : List Step) (o : Out) → Holds before o → Holds (Remove n ∷ before) (removed n o)
