@@ -1,5 +1,5 @@
 -- Where the item of a key is in a list by ascending key.
-use Rattle.std.specs.Prelude.{◌≡◌, if◌then◌else◌, ℕ, false, List, [], ◌∷◌, ◌++◌, map, Some, None}
+use Rattle.std.specs.Prelude.{◌≡◌, ℕ, false, List, [], ◌∷◌, ◌++◌, map, Some}
 use Rattle.std.specs.Str.{bytes_eq}
 use Rattle.std.specs.List.{AllByRecursion}
 use Rattle.std.specs.List.Sorted.{IsStrictlySortedBy}

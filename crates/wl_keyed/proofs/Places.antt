@@ -2,11 +2,10 @@
 use Rattle.std.specs.Prelude.{◌≡◌, ℕ, ◌+◌, suc, if◌then◌else◌, Bool, true, false, List, [], ◌∷◌, ◌++◌, map, length, find, slice_get, Option, Some, None, option_map, option_and_then}
 use Rattle.std.specs.Str.{bytes_eq}
 use Rattle.std.specs.List.{AllByRecursion}
-use Rattle.std.specs.Ordering.{nat_cmp, is_eq, ordering_reverse}
-use Rattle.std.specs.Cmp.Lexicographic.{slice_cmp, nat_list_cmp_total}
-use Rattle.std.proofs.Common.{Ordering, Less, Equal, Greater, refl, sym, ◌∙◌, ap, arith}
+use Rattle.std.specs.Ordering.{is_eq, ordering_reverse}
+use Rattle.std.specs.Cmp.Lexicographic.{nat_list_cmp_total}
+use Rattle.std.proofs.Common.{Less, Equal, Greater, refl, sym, ◌∙◌, ap, arith}
 use Rattle.std.proofs.lemmas.Map.Text.{is_eq-slice_cmp}
-use Rattle.wl_words.specs.Lists.{Rises}
 use Rattle.wl_keyed.specs.Keys.{item_at, place_at}
 use Rattle.wl_keyed.proofs.Halving.{order, not_same, turned, all_below, all_level, Parted}
 

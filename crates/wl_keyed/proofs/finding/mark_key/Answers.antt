@@ -1,4 +1,4 @@
-use Rattle.std.proofs.Common.{◌≡◌, true, map, slice_set, ap, sym, ◌∙◌}
+use Rattle.std.proofs.Common.{true, map, slice_set, ap, sym, ◌∙◌}
 use Rattle.wl_keyed.proofs.Marks.{marked, marks_key}
 use Rattle.wl_keyed.proofs.finding.mark_key.Goals as goal
 

@@ -1,4 +1,4 @@
-use Rattle.std.proofs.Common.{◌≡◌, ◌∷◌, ◌+◌, ap, sym, refl, ◌∙◌, arith, length}
+use Rattle.std.proofs.Common.{◌∷◌, ◌+◌, ap, sym, ◌∙◌, arith, length}
 use Rattle.std.proofs.lemmas.List.{length-append}
 use Rattle.wl_keyed.specs.Keys.{place_at}
 use Rattle.wl_keyed.proofs.Halving.{parts_of}
