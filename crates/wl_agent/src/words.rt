@@ -1,9 +1,9 @@
 //! Reading the words of a command line.
 
-ghost use Rattle.std.specs.Prelude.{◌≡◌, ◌++◌, ◌≤◌, List, length, map, Option, option_map, option_and_then, string_bytes, if◌then◌else◌, IfOk, Some, None};
-ghost use Rattle.std.specs.List.{list_all};
+ghost use Rattle.std.specs.Prelude.{◌≡◌, ◌++◌, ◌≤◌, List, length, map, Option, option_map, option_and_then, string_bytes, if◌then◌else◌, IfOk, OnOk, Some, None};
+ghost use Rattle.std.specs.List.{list_all, list_any};
 ghost use Rattle.wl_selector.specs.Selectors.{sorted_texts};
-ghost use Rattle.wl_agent.specs.Words.{command_of, operands, preview_of, check_of, is_option, is_selector};
+ghost use Rattle.wl_agent.specs.Words.{command_of, operands, before_dashes, behind_dashes, preview_of, check_of, is_option, is_selector};
 
 use crate::command::Command;
 use std::alloc::Global;
@@ -24,34 +24,56 @@ fn is_flag(word: &[u8]) -> bool
     }
 }
 
-/// These words behind those that were read before.
-fn read_rest(alloc: Global, before: Row<Octets>, words: &[String]) -> Result<Row<Octets>, Memory>
-    ensures { IfOk result (λ r. r ≡ before ++ map string_bytes words.now) }
+/// The words before the first `--`, and those behind it.
+fn part_at_dashes(words: &[String]) -> (&[String], &[String])
+    ensures before { map string_bytes result.0.now ≡ before_dashes (map string_bytes words.now) }
+    ensures behind { map string_bytes result.1.now ≡ behind_dashes (map string_bytes words.now) }
 {
-    let mut done = before;
+    let mut at = 0;
+    'words: while at < words.len() && words[at].as_bytes() != b"--".as_slice() {
+        at += 1;
+    }
+    let (before, rest) = words.split_at(at);
+    match rest.split_first() {
+        Some((_, behind)) => (before, behind),
+        None => (before, rest),
+    }
+}
+
+/// Whether one of the words is an option.
+fn has_flag(words: &[String]) -> bool
+    ensures { result ≡ list_any is_option (map string_bytes words.now) }
+{
+    for word in words {
+        if is_flag(word.as_bytes()) {
+            return true;
+        }
+    }
+    false
+}
+
+/// Adds these words.
+fn add_words(alloc: Global, done: &mut Row<Octets>, words: &[String]) -> Result<(), Memory>
+    ensures { OnOk result (done.new ≡ done.old ++ map string_bytes words.now) }
+{
     for word in words {
         done.push(Octets::from_slice(alloc, word.as_bytes())?)?;
     }
-    Ok(done)
+    Ok(())
 }
 
-/// The operands among the words behind the command: before the first `--`, which is dropped, no word may be an
-/// option.
+/// The operands among the words behind the command: all but the first `--`, before which no word may be an option.
+#[tactic(auto, unfolding(crate::specs::Words::operands))]
 fn read_operands(alloc: Global, words: &[String]) -> Result<Option<Row<Octets>>, Memory>
     ensures { IfOk result (λ o. o ≡ operands (map string_bytes words.now)) }
 {
-    let mut done = Row::empty(alloc);
-    let mut rest = words;
-    'words: while let Some((word, after)) = rest.split_first() {
-        if word.as_bytes() == b"--".as_slice() {
-            return Ok(Some(read_rest(alloc, done, after)?));
-        }
-        if is_flag(word.as_bytes()) {
-            return Ok(None);
-        }
-        done.push(Octets::from_slice(alloc, word.as_bytes())?)?;
-        rest = after;
+    let (before, behind) = part_at_dashes(words);
+    if has_flag(before) {
+        return Ok(None);
     }
+    let mut done = Row::empty(alloc);
+    add_words(alloc, &mut done, before)?;
+    add_words(alloc, &mut done, behind)?;
     Ok(Some(done))
 }
 
