@@ -50,7 +50,7 @@ done_comes (Some c) None due is = tt
 done_comes (Some c) (Some bytes) due is = inl (ap (λ d. d.status) is.2 ∙ ap (λ document. (due_of c document).status) is.1)
 
 yields_read : (command : Option Command) (left : Option (List ℕ)) → IsSome command → ComesFor command left 6
-yields_read None left fits = fits
+yields_read None left fits = absurd cc
 yields_read (Some c) None fits = tt
 yields_read (Some c) (Some bytes) fits = inr (inl refl)
 

@@ -1,7 +1,7 @@
 -- The words of a command line (own rules).
-use Rattle.std.specs.Prelude.{ℕ, ◌+◌, ◌==◌, ◌&&◌, not, Bool, false, nat_le, if◌then◌else◌, List, [], ◌∷◌, ◌++◌, length, drop, codes, Option, Some, None, option_and_then, is_none}
+use Rattle.std.specs.Prelude.{ℕ, ◌+◌, ◌==◌, ◌&&◌, not, Bool, false, nat_le, if◌then◌else◌, List, [], ◌∷◌, ◌++◌, length, take, drop, codes, Option, Some, None, option_and_then, is_none}
 use Rattle.std.specs.Str.{bytes_eq}
-use Rattle.std.specs.List.{list_all, list_any, take_while}
+use Rattle.std.specs.List.{list_all, list_any, prefix_len}
 use Rattle.wl_selector.specs.Selectors.{selector_fault, sorted_texts}
 use Rattle.wl_agent.specs.declared.command.Command.{Command}
 use Rattle.wl_agent.specs.declared.command.Command.TheVariants.{Preview, Check}
@@ -12,13 +12,15 @@ is_option [] = false
 is_option (b ∷ []) = false
 is_option (b ∷ c ∷ bytes) = b == 45
 
--- the words before the first `--`
-abbrev pub before_dashes : List (List ℕ) → List (List ℕ)
-before_dashes ws = take_while (λ w. not (bytes_eq w (codes "--"))) ws
+-- how many words stand before the first `--`
+abbrev pub dashes_at : List (List ℕ) → ℕ
+dashes_at ws = prefix_len (λ w. not (bytes_eq w (codes "--"))) ws
 
--- the words behind the first `--`
+abbrev pub before_dashes : List (List ℕ) → List (List ℕ)
+before_dashes ws = take (dashes_at ws) ws
+
 abbrev pub behind_dashes : List (List ℕ) → List (List ℕ)
-behind_dashes ws = drop (length (before_dashes ws) + 1) ws
+behind_dashes ws = drop (dashes_at ws + 1) ws
 
 -- The operands among the words behind the command: all but the first `--`, before which no word is an option.
 unfoldable pub operands : List (List ℕ) → Option (List (List ℕ))

@@ -1,9 +1,9 @@
 //! Reading the words of a command line.
 
-ghost use Rattle.std.specs.Prelude.{◌≡◌, ◌++◌, ◌≤◌, List, length, map, Option, option_map, option_and_then, string_bytes, if◌then◌else◌, IfOk, OnOk, Some, None};
+ghost use Rattle.std.specs.Prelude.{◌≡◌, ◌++◌, ◌≤◌, List, drop, length, map, Option, option_map, option_and_then, string_bytes, if◌then◌else◌, IfOk, OnOk, Some, None};
 ghost use Rattle.std.specs.List.{list_all, list_any};
 ghost use Rattle.wl_selector.specs.Selectors.{sorted_texts};
-ghost use Rattle.wl_agent.specs.Words.{command_of, operands, before_dashes, behind_dashes, preview_of, check_of, is_option, is_selector};
+ghost use Rattle.wl_agent.specs.Words.{command_of, operands, dashes_at, before_dashes, behind_dashes, preview_of, check_of, is_option, is_selector};
 
 use crate::command::Command;
 use std::alloc::Global;
@@ -24,19 +24,39 @@ fn is_flag(word: &[u8]) -> bool
     }
 }
 
+/// How many words stand before the first `--`.
+fn find_dashes(words: &[String]) -> usize
+    ensures place { result ≡ dashes_at (map string_bytes words.now) }
+    ensures within { result ≤ length words.now }
+{
+    let mut at = 0;
+    let mut rest = words;
+    'words: while let Some((word, after)) = rest.split_first() {
+        if word.as_bytes() == b"--".as_slice() {
+            return at;
+        }
+        at += 1;
+        rest = after;
+    }
+    at
+}
+
 /// The words before the first `--`, and those behind it.
 fn part_at_dashes(words: &[String]) -> (&[String], &[String])
     ensures before { map string_bytes result.0.now ≡ before_dashes (map string_bytes words.now) }
     ensures behind { map string_bytes result.1.now ≡ behind_dashes (map string_bytes words.now) }
 {
-    let mut at = 0;
-    'words: while at < words.len() && words[at].as_bytes() != b"--".as_slice() {
-        at += 1;
-    }
-    let (before, rest) = words.split_at(at);
-    match rest.split_first() {
-        Some((_, behind)) => (before, behind),
-        None => (before, rest),
+    let (before, rest) = words.split_at(find_dashes(words));
+    (before, without_first(rest))
+}
+
+/// All words but the first.
+fn without_first(words: &[String]) -> &[String]
+    ensures { result.now ≡ drop 1 words.now }
+{
+    match words.split_first() {
+        Some((_, rest)) => rest,
+        None => words,
     }
 }
 
@@ -44,10 +64,12 @@ fn part_at_dashes(words: &[String]) -> (&[String], &[String])
 fn has_flag(words: &[String]) -> bool
     ensures { result ≡ list_any is_option (map string_bytes words.now) }
 {
-    for word in words {
+    let mut rest = words;
+    'words: while let Some((word, after)) = rest.split_first() {
         if is_flag(word.as_bytes()) {
             return true;
         }
+        rest = after;
     }
     false
 }
