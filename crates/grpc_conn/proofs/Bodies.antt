@@ -9,7 +9,7 @@ use Rattle.grpc_wire.specs.declared.refusal.Refusal.TheVariants.{Count}
 use Rattle.grpc_wire.specs.Messages.{prefix_of}
 use Rattle.grpc_conn.specs.declared.event.CallEvent.TheVariants.{Nothing, Refuse}
 use Rattle.grpc_conn.specs.Verdicts.{refused_by, part_verdict, sized_verdict, whole_verdict, body_verdict}
-use Rattle.grpc_conn.proofs.Prefixes.{prefix_more, prefix_short, prefix_memory}
+use Rattle.grpc_wire.proofs.Prefixes.{prefix_more, prefix_short, prefix_memory}
 
 -- ---- the front completes the prefix, as far as it has come
 

@@ -15,7 +15,7 @@ use Rattle.grpc_conn.specs.declared.standing.Standing.{Standing}
 use Rattle.grpc_conn.specs.declared.standing.Standing.TheVariants.{Waiting, Decided}
 use Rattle.grpc_conn.specs.Verdicts.{prefix_verdict, body_verdict, verdict_behind, verdict, is_decided_event, news}
 use Rattle.grpc_conn.specs.Calls.{kept, told, moved, begun_by, begun, StandsFor, standing_at, told_at, moved_at, with_call, CallStandsFor}
-use Rattle.grpc_conn.proofs.Prefixes.{prefix_more}
+use Rattle.grpc_wire.proofs.Prefixes.{prefix_more}
 
 -- ---- a verdict stays
 

@@ -21,5 +21,5 @@ pub use fault::MessageFault;
 pub use head::{HeadVerdict, judge_head};
 pub use messages::{Messages, message_prefix, put_message};
 pub use method::Method;
-pub use prefix::judge_prefix;
+pub use prefix::{judge_prefix, prefixes_stay};
 pub use refusal::Refusal;

@@ -72,3 +72,18 @@ prefix_memory limit b said =
         ]
       ]
     ]
+
+-- five bytes say a length
+pub prefix_long : (limit n : ℕ) (b : List ℕ) → prefix_of limit b ≡ Ok (Some n) → 5 ≤ length b
+unfolding prefix_of
+prefix_long limit n b said =
+    elim (cases_Bool (nat_lt (length b) 1)) [
+      | inl none ↦ absurd (cc (rw none at said))
+      | inr none ↦ elim (cases_Bool (not (slice_index b 0 == 0))) [
+        | inl flag ↦ absurd (cc (rw (none, flag) at said))
+        | inr flag ↦ elim (cases_Bool (nat_lt (length b) 5)) [
+          | inl few ↦ absurd (cc (rw (none, flag, few) at said))
+          | inr few ↦ ltb-false (length b) 5 few
+        ]
+      ]
+    ]
