@@ -19,7 +19,7 @@ mod tests;
 pub use answers::{refusal_fields, response_head, trailers};
 pub use fault::MessageFault;
 pub use head::{HeadVerdict, judge_head};
-pub use messages::{Messages, put_message};
+pub use messages::{Messages, message_prefix, put_message};
 pub use method::Method;
 pub use prefix::{judge_prefix, prefixes_stay};
 pub use refusal::Refusal;

@@ -1,0 +1,106 @@
+-- Asks and the SVIDs that are kept for them (own rules after the SPIRE agent).
+use Rattle.std.specs.Prelude.{◌≡◌, ℕ, ◌<◌, ◌^◌, ◌∷◌, ◌++◌, Bool, true, nat_lt, nat_le, if◌then◌else◌, List, map, filter, find, length, Option, Some, None, unwrap_or, option_map}
+use Rattle.std.specs.List.{list_any, AllByRecursion}
+use Rattle.std.specs.Ordering.{nat_cmp, is_lt, is_gt}
+use Rattle.std.specs.Cmp.Lexicographic.{slice_cmp}
+use Rattle.wl_words.specs.Lists.{Rises}
+use Rattle.wl_entry.specs.Fitness.{signed_unfit, is_half_over}
+use Rattle.wl_entry.specs.Keys.{svid_key}
+use Rattle.wl_entry.specs.Limits.{SignedWithin}
+use Rattle.wl_entry.specs.Same.{same_ask}
+use Rattle.wl_entry.specs.declared.asks.Ask.{Ask}
+use Rattle.wl_entry.specs.declared.signing.Signed.{Signed}
+use Rattle.wl_entry.specs.declared.signing.Svid.{Svid}
+use Rattle.wl_entry.specs.declared.unfit.Unfit.{Unfit}
+use Rattle.svid_cache.specs.declared.install.Installed.{Installed}
+use Rattle.svid_cache.specs.declared.install.Installed.TheVariants as installed
+
+-- what a cache has: the asks by ascending entry id, and the kept SVIDs by ascending entry id
+pub record Cached : Type 0 where
+  pub asks : List Ask
+  pub svids : List Svid
+
+-- an ask by the id of its entry
+abbrev pub ask_key : Ask → List ℕ
+ask_key a = a.entry_id
+
+-- the ask is among these
+unfoldable pub is_listed : List Ask → Ask → Bool
+is_listed asks a = list_any (λ b. same_ask b a) asks
+
+-- what there is, where it passes the test
+abbrev pub only : {X : Type 0} → (X → Bool) → Option X → Option X
+only t None = None
+only t (Some x) = if t x then Some x else None
+
+-- the SVID that is kept for an ask, if there is one
+unfoldable pub kept_for : List Svid → Ask → Option Svid
+kept_for svids a = find (λ s. same_ask s.ask a) svids
+
+-- ---- what is due
+
+-- no SVID is kept for the ask, or half of the time of the kept one is over
+unfoldable pub is_due : ℕ → List Svid → Ask → Bool
+is_due now svids a = unwrap_or (option_map (λ s. is_half_over now s.signed) (kept_for svids a)) true
+
+-- the asks that are due at a time
+abbrev pub due_asks : ℕ → Cached → List Ask
+due_asks now c = filter (is_due now c.svids) c.asks
+
+-- ---- what changes
+
+-- other asks: the SVIDs stay whose ask is among them
+abbrev pub synced : List Ask → Cached → Cached
+synced asks c = record { asks = asks; svids = filter (λ s. is_listed asks s.ask) c.svids }
+
+-- the SVID is not over
+abbrev pub lasts : ℕ → Svid → Bool
+lasts now s = nat_lt now s.signed.not_after
+
+-- the SVIDs stay that are not over
+abbrev pub swept : ℕ → Cached → Cached
+swept now c = record { asks = c.asks; svids = filter (lasts now) c.svids }
+
+-- the SVID is that of an entry below this one, or above it
+abbrev pub is_below : List ℕ → Svid → Bool
+is_below id s = is_lt (slice_cmp nat_cmp s.ask.entry_id id)
+
+abbrev pub is_above : List ℕ → Svid → Bool
+is_above id s = is_gt (slice_cmp nat_cmp s.ask.entry_id id)
+
+-- the SVID takes the place of its entry's one
+unfoldable pub put : Svid → List Svid → List Svid
+put s svids = filter (is_below s.ask.entry_id) svids ++ s ∷ filter (is_above s.ask.entry_id) svids
+
+-- ---- Install: the first reason against a new SVID, or else it is kept
+
+-- the kept one ends no earlier
+abbrev pub unless_older : Signed → Option Svid → Installed
+unless_older g None = installed.Kept
+unless_older g (Some k) = if nat_le g.not_after k.signed.not_after then installed.Older k.signed.not_after else installed.Kept
+
+-- it is of no use
+abbrev pub unless_unfit : Option Unfit → Installed → Installed
+unless_unfit (Some u) rest = installed.Unfit u
+unless_unfit None rest = rest
+
+unfoldable pub install : ℕ → Svid → Cached → Installed
+install now s c =
+    if is_listed c.asks s.ask then unless_unfit (signed_unfit now s.signed) (unless_older s.signed (kept_for c.svids s.ask))
+    else installed.NoSuchAsk
+
+-- what the answer makes of the cache
+abbrev pub after : Installed → Svid → Cached → Cached
+after installed.Kept s c = record { asks = c.asks; svids = put s c.svids }
+after _ s c = c
+
+-- ---- the facts that every cache has
+
+-- Asks and SVIDs rise by entry id, so that there is at most one of each for an entry; each SVID was signed for one of
+-- the asks, and is within its limits.
+pub record IsCached (c : Cached) : Type 0 where
+  pub asks : Rises (map ask_key c.asks)
+  pub svids : Rises (map svid_key c.svids)
+  pub listed : AllByRecursion (λ s. is_listed c.asks s.ask ≡ true) c.svids
+  pub within : AllByRecursion (λ s. SignedWithin s.signed) c.svids
+  pub few : length c.asks < 2 ^ 32

@@ -1,0 +1,158 @@
+//! The cache.
+
+ghost use Rattle.std.specs.Prelude.{◌≡◌, ◌+◌, ◌<◌, ◌^◌, true, [], length, map, min, IfOk, OnOk, OnErr};
+ghost use Rattle.wl_words.specs.Lists.{Rises};
+ghost use Rattle.wl_entry.specs.Limits.{SignedWithin};
+ghost use Rattle.svid_cache.specs.Caches.{ask_key, is_listed, due_asks, synced, swept, install, after, IsCached};
+
+use crate::asks::lists;
+use crate::install::Installed;
+use crate::kept::{due_of, find_kept, judge_end, share_all, share_listed, share_with};
+use std::alloc::Global;
+use std::marker::Model;
+use wl_entry::{Ask, Svid};
+use wl_octets::{Memory, Row, Shared};
+
+/// The asks of the entries, and at most one SVID for each. Times are Unix seconds. After any answer but `Ok` it is
+/// as it was.
+#[derive(Drop)]
+pub struct Cache {
+    /// None before the first are told.
+    asks: Option<Shared<Row<Ask>>>,
+    svids: Vec<Shared<Svid>>,
+}
+
+impl Model for Cache {
+    ghost use Rattle.svid_cache.specs.Caches.{Cached, IsCached};
+    ghost use Rattle.svid_cache.specs.Inside.{told};
+
+    ghost Value = { Cached };
+
+    ghost view = { λ c. record { asks = told c.asks; svids = c.svids.items } };
+
+    ghost invariant = { λ c. IsCached (record { asks = told c.asks; svids = c.svids.items }) };
+}
+
+impl Cache {
+    /// A cache without asks. It takes no memory.
+    pub fn start(alloc: Global) -> Cache
+        ensures { result ≡ record { asks = []; svids = [] } }
+    {
+        Cache {
+            asks: None,
+            svids: Vec::new(alloc),
+        }
+    }
+
+    /// The same cache once more, which shares the asks and SVIDs.
+    pub fn copy(&self, alloc: Global) -> Result<Cache, Memory>
+        ensures { IfOk result (λ c. c ≡ self.now) }
+    {
+        let asks = match &self.asks {
+            Some(asks) => Some(asks.share()?),
+            None => None,
+        };
+        Ok(Cache {
+            asks,
+            svids: share_all(alloc, self.svids.as_slice())?,
+        })
+    }
+
+    /// The asks by ascending entry id.
+    pub fn asks(&self) -> &[Ask]
+        ensures asks { result.now ≡ self.now.asks }
+        ensures facts { IsCached self.now }
+    {
+        match &self.asks {
+            Some(asks) => asks.part().as_slice(),
+            None => &[],
+        }
+    }
+
+    /// The kept SVIDs by ascending entry id.
+    pub fn svids(&self) -> &[Shared<Svid>]
+        ensures svids { result.now ≡ self.now.svids }
+        ensures facts { IsCached self.now }
+    {
+        self.svids.as_slice()
+    }
+
+    /// Whether the ask is one of the asks.
+    pub fn lists(&self, ask: &Ask) -> bool
+        ensures { result ≡ is_listed self.now.asks ask.now }
+    {
+        lists(self.asks(), ask)
+    }
+
+    /// Takes other asks. The SVIDs stay whose ask is among them.
+    pub fn sync(&mut self, alloc: Global, asks: Row<Ask>) -> Result<(), Memory>
+        requires rises { Rises (map ask_key asks) }
+        requires few { length asks < 2 ^ 32 }
+        ensures ok { OnOk result (self.new ≡ synced asks self.old) }
+        ensures err { OnErr result (self.new ≡ self.old) }
+    {
+        let svids = share_listed(alloc, self.svids.as_slice(), asks.as_slice())?;
+        self.asks = Some(Shared::new(alloc, asks)?);
+        self.svids = svids;
+        Ok(())
+    }
+
+    /// Lets go of the SVIDs that are over, and answers how many these were. It takes no memory.
+    pub fn sweep(&mut self, now: u64) -> u32
+        ensures swept { self.new ≡ swept now self.old }
+        ensures count { result + length self.new.svids ≡ length self.old.svids }
+    {
+        let before = self.svids.len();
+        self.svids.retain(|svid| now < svid.part().signed.not_after);
+        (before - self.svids.len()) as u32
+    }
+
+    /// The asks that are due, by ascending entry id.
+    pub fn due(&self, alloc: Global, now: u64) -> Result<Row<Ask>, Memory>
+        ensures { IfOk result (λ r. r ≡ due_asks now self.now) }
+    {
+        due_of(alloc, self.asks(), self.svids(), now)
+    }
+
+    /// Takes a new SVID in, where nothing stands against it.
+    pub fn install(&mut self, alloc: Global, svid: Svid, now: u64) -> Result<Installed, Memory>
+        ensures answer { IfOk result (λ i. i ≡ install now svid self.old) }
+        ensures kept { IfOk result (λ i. self.new ≡ after i svid self.old) }
+        ensures err { OnErr result (self.new ≡ self.old) }
+    {
+        match self.judge(&svid, now) {
+            Installed::Kept => {
+                self.keep(alloc, svid)?;
+                Ok(Installed::Kept)
+            }
+            other => Ok(other),
+        }
+    }
+
+    /// Puts an SVID in the place of its entry's.
+    fn keep(&mut self, alloc: Global, svid: Svid) -> Result<(), Memory>
+        requires listed { is_listed self.old.asks svid.ask ≡ true }
+        requires within { SignedWithin svid.signed }
+        ensures ok { OnOk result (self.new ≡ after Installed.Kept svid self.old) }
+        ensures err { OnErr result (self.new ≡ self.old) }
+    {
+        self.svids = share_with(alloc, self.svids.as_slice(), svid)?;
+        Ok(())
+    }
+
+    /// What is to become of a new SVID.
+    #[tactic(auto, using(crate::proofs::Keeping::install_listed, crate::proofs::Keeping::install_within), unfolding(crate::specs::Caches::install))]
+    fn judge(&self, svid: &Svid, now: u64) -> Installed
+        ensures answer { result ≡ install now svid.now self.now }
+        ensures listed { result ≡ Installed.Kept → is_listed self.now.asks svid.now.ask ≡ true }
+        ensures within { result ≡ Installed.Kept → SignedWithin svid.now.signed }
+    {
+        if !self.lists(&svid.ask) {
+            return Installed::NoSuchAsk;
+        }
+        match svid.signed.unfit(now) {
+            Some(unfit) => Installed::Unfit(unfit),
+            None => judge_end(find_kept(self.svids(), &svid.ask), &svid.signed),
+        }
+    }
+}

@@ -1,0 +1,16 @@
+use Rattle.std.proofs.lemmas.Result.{err_from_is_err_and}
+use Rattle.wl_x509.proofs.Found.{leaf_ok, leaf_err, leaf_uri_err}
+use Rattle.wl_x509.proofs.leaves.read_leaf.Goals as goal
+
+pub returns-in_err-frame-clause-err : goal.returns-in_err-frame-clause-err
+returns-in_err-frame-clause-err c =
+    let p = err_from_is_err_and c.from_residual.result c.from_residual.ensures.1 in
+    rw (p.1, p.2) (leaf_err c.args.chain.now c.in_err-frame.field-0.0 c.in_err-frame.ensures.value)
+
+pub returns-in_err-uri-clause-err : goal.returns-in_err-uri-clause-err
+returns-in_err-uri-clause-err c =
+    let p = err_from_is_err_and c.from_residual-in_err-uri.result c.from_residual-in_err-uri.ensures.1 in
+    rw (p.1, p.2) (leaf_uri_err c.args.chain.now c.in_ok-frame.frame c.in_ok-frame.found c.in_err-uri.field-0.0 c.in_ok-frame.ensures.value c.in_err-uri.ensures.err)
+
+pub returns-clause-ok : goal.returns-clause-ok
+returns-clause-ok c = leaf_ok c.args.chain.now c.in_ok-frame.frame c.in_ok-frame.found c.in_ok-uri.uri c.in_ok-frame.ensures.value c.in_ok-uri.ensures.ok

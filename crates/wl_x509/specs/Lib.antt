@@ -1,0 +1,4 @@
+pub mod Values
+pub mod Times
+pub mod Leaves
+pub mod Tallies

@@ -1,0 +1,17 @@
+//! The leaf of a chain: the one URI and the two times of its first certificate (RFC 5280).
+//!
+//! A certificate is read once, from its first byte on; nothing of it is copied but the URI. Signatures, constraints and
+//! key usage are not judged. [`leaf_unfit`] tells whether a signed identity names the ask for which it was signed.
+#![tactic(auto)]
+
+mod leaves;
+mod names;
+mod parts;
+mod reasons;
+#[cfg(test)]
+mod tests;
+mod times;
+mod values;
+
+pub use leaves::{Leaf, read_leaf};
+pub use reasons::leaf_unfit;
