@@ -1,12 +1,10 @@
 -- What came to an outbox and what it wrote, and its windows as sums over that.
 use Rattle.std.specs.Prelude.{◌≡◌, ℕ, ◌+◌, ◌<◌, ◌==◌, ℤ, pos, ◌-ℤ◌, Bool, false, not, if◌then◌else◌, List, [], ◌∷◌, length, sum_by, Ok}
 use Rattle.std.specs.List.{take_while, AllByRecursion}
-use Rattle.std.specs.List.Sorted.{IsStrictlySortedBy}
-use Rattle.std.specs.Ordering.{nat_cmp}
 use Rattle.h2_flow.specs.declared.stream.Stream.{Stream}
 use Rattle.h2_flow.specs.Windows.{window_of}
 use Rattle.h2_flow.specs.Streams.{Sent, headers, content}
-use Rattle.h2_flow.specs.Outboxes.{Out, fresh, numbers, IsAbove, added, removed, controlled, shrunk, headed, offered, withdrawn, closed_by, grown, initialed, pulled}
+use Rattle.h2_flow.specs.Outboxes.{Out, fresh, IsAbove, added, removed, controlled, shrunk, headed, offered, withdrawn, closed_by, grown, initialed, pulled}
 
 -- ---- histories
 
