@@ -1,5 +1,5 @@
 -- A body that comes in two parts, of which the first completes the prefix.
-use Rattle.std.proofs.Common.{◌≡◌, inl, inr, ℕ, ◌+◌, ◌-◌, ◌<◌, ◌≤◌, Bool, true, false, List, ◌++◌, length, take, drop, Ok, Err, Some, None, refl, sym, ap, ◌∙◌, arith, append_assoc, take-append-drop, length-append, length-drop, length-take, le-ltb, lt-ltb}
+use Rattle.std.proofs.Common.{◌≡◌, inl, inr, ℕ, ◌+◌, ◌<◌, ◌≤◌, Bool, true, false, List, ◌++◌, length, take, drop, Ok, Err, Some, None, refl, ap, ◌∙◌, arith, append_assoc, take-append-drop, length-append, length-drop, length-take, le-ltb, lt-ltb}
 use Rattle.std.proofs.lemmas.Bool.{cases_lt}
 use Rattle.std.proofs.lemmas.List.{take_all}
 use Rattle.grpc_wire.specs.declared.fault.MessageFault.{MessageFault}
