@@ -6,8 +6,9 @@ ghost use Rattle.std.specs.List.{list_any};
 ghost use Rattle.std.specs.List.Sorted.{IsStrictlySortedBy};
 ghost use Rattle.std.specs.Ordering.{nat_cmp};
 ghost use Rattle.wl_words.specs.Lists.{Rises};
+ghost use Rattle.wl_entry.specs.Entitled.{is_entitled};
 ghost use Rattle.wl_entry.specs.Keys.{entry_key, svid_key, bundle_key};
-ghost use Rattle.wl_snapshot.specs.Views.{view_in, sight_of, entries_at, is_entitled, held_of, is_federated, is_seen, ChosenFrom};
+ghost use Rattle.wl_snapshot.specs.Views.{view_in, sight_of, entries_at, held_of, is_federated, is_seen, ChosenFrom};
 
 use crate::seen::{Held, View};
 use crate::snapshot::Snapshot;
@@ -19,7 +20,7 @@ use wl_octets::{Memory, Row, Shared};
 use wl_selector::Selectors;
 
 /// Whether the caller is entitled to an entry.
-#[tactic(auto, unfolding(crate::specs::Views::is_entitled))]
+#[tactic(auto, unfolding(wl_entry::specs::Entitled::is_entitled))]
 fn entitles(selectors: &Selectors, entry: &Entry) -> bool
     ensures { result ≡ is_entitled selectors.now entry.now }
 {

@@ -1,4 +1,0 @@
-pub mod Asks
-pub mod Publications
-pub mod Sames
-pub mod Settling
