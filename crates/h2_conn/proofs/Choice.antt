@@ -1,0 +1,63 @@
+-- The table is the rows of each kind, behind those of all kinds.
+use Rattle.std.proofs.Common.{◌≡◌, ℕ, ◌∙◌, Bool, true, false, List, [], ◌∷◌, Option, Some, None, Result, Ok, Err, refl, ap}
+use Rattle.wl_octets.specs.declared.header.Header.{Header}
+use Rattle.hpack.specs.declared.fault.HpackFault.{HpackFault}
+use Rattle.hpack.specs.Decoding.{Standing}
+use Rattle.h2_frame.specs.declared.frame.Body.{Body}
+use Rattle.h2_frame.specs.declared.frame.Body.TheVariants.{Bytes, Headers, Priority, Reset, Settings, SettingsAck, PushPromise, Ping, GoAway, WindowUpdate, Continuation, Unknown}
+use Rattle.h2_frame.specs.declared.frame.Frame.{Frame}
+use Rattle.h2_conn.specs.declared.fault.ConnCause.TheVariants as cause
+use Rattle.h2_conn.specs.declared.fault.ConnError.{ConnError}
+use Rattle.h2_conn.specs.declared.fault.ConnFault.{ConnFault}
+use Rattle.h2_conn.specs.declared.happening.Happening.{Happening}
+use Rattle.h2_conn.specs.declared.state.State.{State}
+use Rattle.h2_conn.specs.Peer.{Outcome, fails, fault, nothing, or_else, first_row, table, peer, even_stream, continuation_flood, Gathered, started, continued, if_gathered, too_long, grows, is_wrong, if_wrong, if_right, with_headers, decoding, code_of, tabled, head_in, closed_in, ended_in, trailers_in}
+use Rattle.h2_conn.specs.Kinds.{Steps, guarded, Guards, kind_rows, decoded_rows, gathered_rows}
+
+-- the rows of a whole block, in the order in which a decoding decides
+abbrev whole_chain : State → Gathered → Result (List Header) HpackFault → Standing → Outcome
+whole_chain q g r d =
+    or_else (if_wrong r (λ f. fault g.state (code_of f) (cause.Hpack f)))
+    (or_else (if_right r (head_in (tabled d g.state) g.block))
+    (or_else (if_right r (closed_in (tabled d g.state) g.block))
+    (or_else (if_right r (ended_in (tabled d g.state) g.block))
+    (or_else (if_right r (trailers_in (tabled d g.state) g.block)) (nothing q)))))
+
+whole_is : (q : State) (g : Gathered) (r : Result (List Header) HpackFault) (d : Standing) → whole_chain q g r d ≡ decoded_rows g r d
+whole_is q g (Err f) d = refl
+whole_is q g (Ok headers) d = refl
+
+abbrev block_chain : State → Option Gathered → Outcome
+block_chain q h =
+    or_else (if_gathered h too_long) (or_else (if_gathered h grows) (or_else (if_gathered h is_wrong)
+    (or_else (if_gathered h (with_headers head_in)) (or_else (if_gathered h (with_headers closed_in))
+    (or_else (if_gathered h (with_headers ended_in)) (or_else (if_gathered h (with_headers trailers_in)) (nothing q)))))))
+
+chain_is : (q : State) (h : Option Gathered) → block_chain q h ≡ gathered_rows q h
+chain_is q None = refl
+chain_is q (Some g) = ap (λ (o : Outcome). or_else (too_long g) (or_else (grows g) o)) (whole_is q g (decoding g).0 (decoding g).1)
+
+pub by_kind : (q : State) (n : ℕ) (body : Body) → first_row table q n body ≡ guarded q n body (kind_rows q n body)
+by_kind q n (Bytes bytes size ended) = refl
+by_kind q n (Headers bytes ended whole) = ap (λ (o : Outcome). guarded q n (Headers bytes ended whole) (or_else (even_stream q n (Headers bytes ended whole)) o)) (chain_is q (Some (started q n bytes ended whole)))
+by_kind q n Priority = refl
+by_kind q n (Reset code) = refl
+by_kind q n (Settings pairs) = refl
+by_kind q n SettingsAck = refl
+by_kind q n PushPromise = refl
+by_kind q n (Ping true word) = refl
+by_kind q n (Ping false word) = refl
+by_kind q n (GoAway last code) = refl
+by_kind q n (WindowUpdate step) = refl
+by_kind q n (Continuation bytes whole) = ap (λ (o : Outcome). guarded q n (Continuation bytes whole) (or_else (continuation_flood q n (Continuation bytes whole)) o)) (chain_is q (continued q q.unfinished bytes whole))
+by_kind q n (Unknown kind) = refl
+
+pub peer_is : (q : State) (f : Frame) → peer q f ≡ guarded q f.stream f.body (kind_rows q f.stream f.body)
+unfolding peer
+peer_is q f = by_kind q f.stream f.body
+
+pub guard_stops : (q : State) (f : Frame) (fault : ConnFault) → Guards (Some fault) q f.stream f.body → peer q f ≡ fails q.outbox.control fault
+guard_stops q f fault g = peer_is q f ∙ g _
+
+pub guard_passes : (q : State) (f : Frame) (result : Result (Option Happening) ConnError) (new : State) → Guards None q f.stream f.body → Steps (kind_rows q f.stream f.body) result new → Steps (peer q f) result new
+guard_passes q f result new g s = rw (peer_is q f, g (kind_rows q f.stream f.body)) s

@@ -1,0 +1,5 @@
+pub mod Choice
+pub mod Sounds
+pub mod Results
+pub mod Fitting
+pub mod Sums

@@ -1,0 +1,92 @@
+-- What came to a connection and what it wrote, and the four flood counts as sums over that.
+use Rattle.std.specs.Prelude.{◌≡◌, ℕ, ◌==◌, Bool, true, false, not, ◌&&◌, ◌||◌, List, [], ◌∷◌, length, count_by, Option, Some, None}
+use Rattle.std.specs.List.{take_while}
+use Rattle.h2_flow.specs.Outboxes.{pulled}
+use Rattle.h2_frame.specs.declared.frame.Body.{Body}
+use Rattle.h2_frame.specs.declared.frame.Body.TheVariants.{Bytes, Headers, Reset, Settings, Continuation}
+use Rattle.h2_frame.specs.declared.frame.Frame.{Frame}
+use Rattle.h2_conn.specs.declared.happening.Happening.{Happening}
+use Rattle.h2_conn.specs.declared.state.State.{State}
+use Rattle.h2_conn.specs.declared.state.Unfinished.{Unfinished}
+use Rattle.h2_conn.specs.Peer.{goes, is_settings, is_continuation, is_empty_data, is_rapid, peer}
+use Rattle.h2_conn.specs.Conns.{fresh, given_head, given_last, given_message, left_message, reset_by, moved, after_pull}
+
+-- ---- histories
+
+-- What happened to a connection that goes on: a frame came, and it was a RST_STREAM on a live stream on which no frame was
+-- written, or not; a flush wrote, and a message began in it or END_STREAM was written, or not; or the server said something.
+pub data Step : Type 0 where
+  Came : Frame → Bool → Step
+  Wrote : Bool → Step
+  Head : ℕ → List ℕ → Step
+  Finish : ℕ → List ℕ → Step
+  Offer : ℕ → List ℕ → Step
+  Withdraw : ℕ → Step
+  Refuse : ℕ → ℕ → Step
+
+abbrev pub is_early : State → ℕ → Body → Bool
+is_early q n (Reset code) = is_rapid q n
+is_early q n body = false
+
+abbrev pub Leads : Step → State → State → Type 0
+Leads (Came f early) old new = (early ≡ is_early old f.stream f.body) × ((told : Option Happening) × (peer old f ≡ goes new told))
+Leads (Wrote ends) old new = (ends ≡ moved old (pulled old.outbox)) × (new ≡ after_pull old (pulled old.outbox))
+Leads (Head n block) old new = new ≡ given_head n block old
+Leads (Finish n block) old new = new ≡ given_last n block old
+Leads (Offer n message) old new = new ≡ given_message n message old
+Leads (Withdraw n) old new = new ≡ left_message n old
+Leads (Refuse n code) old new = new ≡ reset_by n code old
+
+-- these steps, the last one first, took a new connection to this state
+abbrev pub Reaches : List Step → State → Type 0
+Reaches [] q = q ≡ fresh
+Reaches (step ∷ before) q = (old : State) × Reaches before old × Leads step old q
+
+-- ---- what counts
+
+abbrev pub is_data : Body → Bool
+is_data (Bytes bytes size ended) = not (length bytes == 0)
+is_data body = false
+
+abbrev pub is_head : Body → Bool
+is_head (Headers block ended whole) = true
+is_head body = false
+
+abbrev pub is_empty : Body → Bool
+is_empty (Bytes bytes size ended) = is_empty_data bytes ended
+is_empty body = false
+
+-- a frame of this sort
+abbrev pub came : (Body → Bool) → Step → Bool
+came sort (Came f early) = sort f.body
+came sort _ = false
+
+abbrev pub came_early : Step → Bool
+came_early (Came f early) = early
+came_early _ = false
+
+abbrev pub ends_resets : Step → Bool
+ends_resets (Wrote ends) = ends
+ends_resets _ = false
+
+-- HEADERS, or DATA with bytes
+abbrev pub restarts : Step → Bool
+restarts (Came f early) = is_data f.body || is_head f.body
+restarts _ = false
+
+-- how many steps count, since the last one that ends the count, or the start
+abbrev pub since : (Step → Bool) → (Step → Bool) → List Step → ℕ
+since ends counts steps = count_by counts (take_while (λ step. not (ends step)) steps)
+
+-- ---- the counts as sums
+
+abbrev pub PiecesAre : ℕ → Option Unfinished → Type 0
+PiecesAre n None = Unit {0}
+PiecesAre n (Some u) = u.pieces ≡ n
+
+-- own rule: what the flood rows count
+pub record HasCounts (steps : List Step) (q : State) : Type 0 where
+  pub settings : q.settings ≡ since restarts (came is_settings) steps
+  pub empty : q.empty ≡ since restarts (came is_empty) steps
+  pub resets : q.resets ≡ since ends_resets came_early steps
+  pub pieces : PiecesAre (since (came is_head) (came is_continuation) steps) q.unfinished

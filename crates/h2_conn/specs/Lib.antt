@@ -1,0 +1,7 @@
+pub mod Streams
+pub mod Peer
+pub mod Kinds
+pub mod Conns
+pub mod Sound
+pub mod Naming
+pub mod Counts

@@ -1,0 +1,414 @@
+-- What a frame of the peer means: the connection table of RFC 9113, in this project's profile, row by row.
+--
+-- A row is a section of RFC 9113 or an own rule. In two places the profile departs from the RFC, and each says so: late DATA
+-- on a closed stream (row `data_received`) and late HEADERS on one (row `late_on_closed`) are ignored, whatever closed it.
+use Rattle.std.specs.Prelude.{◌≡◌, ℕ, ◌+◌, ◌%◌, ◌==◌, nat_lt, Bool, true, false, not, ◌&&◌, ◌||◌, if◌then◌else◌, List, [], ◌∷◌, ◌++◌, length, Option, Some, None, Result, Ok, Err}
+use Rattle.wl_octets.specs.declared.header.Header.{Header}
+use Rattle.wl_heads.specs.Heads.{are_good_trailers}
+use Rattle.hpack.specs.declared.fault.HpackFault.{HpackFault}
+use Rattle.hpack.specs.declared.fault.HpackFault.TheVariants.{ListTooLong}
+use Rattle.hpack.specs.Decoding.{Standing, decoded}
+use Rattle.h2_frame.specs.declared.frame.Body.{Body}
+use Rattle.h2_frame.specs.declared.frame.Body.TheVariants.{Bytes, Headers, Priority, Reset, Settings, SettingsAck, PushPromise, Ping, GoAway, WindowUpdate, Continuation, Unknown}
+use Rattle.h2_frame.specs.declared.frame.Frame.{Frame}
+use Rattle.h2_frame.specs.declared.frame.Setting.{Setting}
+use Rattle.h2_frame.specs.Writing.{spelling}
+use Rattle.h2_flow.specs.declared.overflow.Overflow.{Overflow}
+use Rattle.h2_flow.specs.Outboxes.{Out, is_written, is_shrunk, added, removed, controlled, shrunk, grown, initialed}
+use Rattle.h2_conn.specs.declared.fault.ConnCause.{ConnCause}
+use Rattle.h2_conn.specs.declared.fault.ConnCause.TheVariants as cause
+use Rattle.h2_conn.specs.declared.fault.ConnFault.{ConnFault}
+use Rattle.h2_conn.specs.declared.happening.Happening.{Happening}
+use Rattle.h2_conn.specs.declared.happening.Happening.TheVariants as happening
+use Rattle.h2_conn.specs.declared.state.State.{State}
+use Rattle.h2_conn.specs.declared.state.Unfinished.{Unfinished}
+use Rattle.h2_conn.specs.Streams.{is_live, has_ended, is_answered, without, ending}
+
+-- ---- what a row gives
+
+-- the state after the frame and what it told; or the control frames that are still to be written, and the connection's failure
+pub data Outcome : Type 0 where
+  goes : State → Option Happening → Outcome
+  fails : List ℕ → ConnFault → Outcome
+
+-- RFC 9113, section 5.4.1: a connection error, by its code (section 7): 1 PROTOCOL_ERROR, 3 FLOW_CONTROL_ERROR,
+-- 6 FRAME_SIZE_ERROR, 9 COMPRESSION_ERROR, 11 ENHANCE_YOUR_CALM
+abbrev pub fault : State → ℕ → ConnCause → Outcome
+fault q code why = fails q.outbox.control (record { code = code; last_stream = q.highest; cause = why })
+
+abbrev pub nothing : State → Outcome
+nothing q = goes q None
+
+-- ---- steps that several rows take
+
+-- a control frame is queued
+abbrev pub queued : ℕ → Body → State → State
+queued n body q = record q { outbox = controlled (spelling (record { stream = n; body = body })) q.outbox }
+
+-- the stream is live no more, and what waits for it is dropped
+unfoldable pub closed : ℕ → State → State
+closed n q = record q { streams = without n q.streams; outbox = removed n q.outbox }
+
+-- RFC 9113, section 5.4.2: a stream error queues RST_STREAM, and a live stream closes and is gone
+unfoldable pub reset_with : State → ℕ → ℕ → Outcome
+reset_with q n code =
+    if is_live n q.streams then goes (closed n (queued n (Reset code) q)) (Some (happening.Gone n))
+    else nothing (queued n (Reset code) q)
+
+-- RFC 9113, section 5.1: the request ends, and the stream closes if its END_STREAM was written
+unfoldable pub request_ends : ℕ → State → State
+request_ends n q = if is_answered n q.streams then closed n q else record q { streams = ending n q.streams }
+
+-- own rule: all bytes are taken as they come, so their window is given back at once
+unfoldable pub given_back : ℕ → ℕ → State → State
+given_back n size q = if size == 0 then q else queued n (WindowUpdate size) q
+
+-- a window moved, or would pass the largest
+abbrev pub with_window : State → Result Out Overflow → Outcome → Outcome
+with_window q (Ok o) over = nothing (record q { outbox = o })
+with_window q (Err e) over = over
+
+-- RFC 9113, section 5.1.1: even and not 0, which a client doesn't open, or above all that were opened
+abbrev pub is_idle : State → ℕ → Bool
+is_idle q n = (n % 2 == 0 && not (n == 0)) || nat_lt q.highest n
+
+-- so many came already
+abbrev pub has_come : ℕ → ℕ → Bool
+has_come most count = not (nat_lt count most)
+
+-- ---- rows: the outcome, where the row applies
+
+abbrev pub Rule : Type 0
+Rule = State → ℕ → Body → Option Outcome
+
+abbrev pub when : Bool → Outcome → Option Outcome
+when test outcome = if test then Some outcome else None
+
+abbrev pub is_settings : Body → Bool
+is_settings (Settings pairs) = true
+is_settings body = false
+
+-- RFC 9113, section 3.4: the connection's first frame is SETTINGS, and no acknowledgement
+abbrev pub first_frame : Rule
+first_frame q n body = when (not (is_settings body) && not q.greeted) (fault q 1 cause.FirstFrame)
+
+abbrev pub is_continuation : Body → Bool
+is_continuation (Continuation bytes whole) = true
+is_continuation body = false
+
+abbrev pub interrupts : Option Unfinished → ℕ → Bool → Bool
+interrupts None n continues = false
+interrupts (Some u) n continues = not (continues && u.stream == n)
+
+-- RFC 9113, section 6.10: nothing comes between the frames of a header block
+abbrev pub block_open : Rule
+block_open q n body = when (interrupts q.unfinished n (is_continuation body)) (fault q 1 cause.BlockOpen)
+
+abbrev pub is_none : Option Unfinished → Bool
+is_none None = true
+is_none (Some u) = false
+
+-- RFC 9113, section 6.10: CONTINUATION without a block
+abbrev pub no_block : Rule
+no_block q n body = when (is_continuation body && is_none q.unfinished) (fault q 1 cause.NoBlock)
+
+-- frames of a stream on the connection, and frames of the connection on a stream
+abbrev pub is_misplaced : ℕ → Body → Bool
+is_misplaced n (Bytes bytes size ended) = n == 0
+is_misplaced n (Headers block ended whole) = n == 0
+is_misplaced n Priority = n == 0
+is_misplaced n (Reset code) = n == 0
+is_misplaced n (Settings pairs) = not (n == 0)
+is_misplaced n SettingsAck = not (n == 0)
+is_misplaced n (Ping ack word) = not (n == 0)
+is_misplaced n (GoAway last code) = not (n == 0)
+is_misplaced n body = false
+
+-- RFC 9113, sections 6.1 to 6.5, 6.7 and 6.8
+abbrev pub stream_zero : Rule
+stream_zero q n body = when (is_misplaced n body) (fault q 1 cause.StreamZero)
+
+-- RFC 9113, section 8.4: a client does not push
+abbrev pub pushed : Rule
+pushed q n PushPromise = Some (fault q 1 cause.Push)
+pushed q n body = None
+
+-- ---- four floods: own rules, within RFC 9113, section 10.5
+
+abbrev pub pieces_of : Option Unfinished → ℕ
+pieces_of None = 0
+pieces_of (Some u) = u.pieces
+
+-- the 65th CONTINUATION of a block
+abbrev pub continuation_flood : Rule
+continuation_flood q n (Continuation bytes whole) = when (has_come 64 (pieces_of q.unfinished)) (fault q 11 (cause.Flood 9 65))
+continuation_flood q n body = None
+
+-- the 101st SETTINGS since the last HEADERS, or DATA with bytes, or the start
+abbrev pub settings_flood : Rule
+settings_flood q n (Settings pairs) = when (has_come 100 q.settings) (fault q 11 (cause.Flood 4 101))
+settings_flood q n body = None
+
+abbrev pub is_empty_data : List ℕ → Bool → Bool
+is_empty_data bytes ended = length bytes == 0 && not ended
+
+-- the 101st DATA without bytes and without END_STREAM since the same
+abbrev pub empty_data_flood : Rule
+empty_data_flood q n (Bytes bytes size ended) = when (is_empty_data bytes ended && has_come 100 q.empty) (fault q 11 (cause.Flood 0 101))
+empty_data_flood q n body = None
+
+-- a stream was opened and is reset before anything was written on it
+abbrev pub is_rapid : State → ℕ → Bool
+is_rapid q n = is_live n q.streams && not (is_written n q.outbox)
+
+-- the 10,001st such RST_STREAM since the last message began, or END_STREAM was written, or the start
+abbrev pub reset_flood : Rule
+reset_flood q n (Reset code) = when (is_rapid q n && has_come 10000 q.resets) (fault q 11 (cause.Flood 3 10001))
+reset_flood q n body = None
+
+-- ---- the connection's own frames
+
+-- RFC 9113, sections 5.3.2, 5.5, 6.5.3 and 6.7
+abbrev pub no_effect : Rule
+no_effect q n Priority = Some (nothing q)
+no_effect q n (Unknown kind) = Some (nothing q)
+no_effect q n SettingsAck = Some (nothing q)
+no_effect q n (Ping true word) = Some (nothing q)
+no_effect q n body = None
+
+-- the sizes that SETTINGS_MAX_FRAME_SIZE may have
+abbrev pub is_frame_size : ℕ → Bool
+is_frame_size value = not (nat_lt value 16384) && not (nat_lt 16777215 value)
+
+-- RFC 7541, section 4.2: a header table below the 4,096 bytes at the start is answered by one size update. Own rule: once a
+-- connection, since this side's blocks use no table.
+unfoldable pub noted : ℕ → State → State
+noted value q = if nat_lt value 4096 && not (is_shrunk q.outbox) then record q { outbox = shrunk q.outbox } else q
+
+-- RFC 9113, section 6.5.2: 1 is the header table's size, 2 allows pushing, 4 is the initial window of streams, 5 the largest
+-- frame, which this side doesn't use; all others are ignored
+unfoldable pub set_one : State → Setting → Outcome
+set_one q p =
+    if p.id == 1 then nothing (noted p.value q)
+    else if p.id == 2 then (if nat_lt 1 p.value then fault q 1 (cause.Setting 2) else nothing q)
+    else if p.id == 4 then (if nat_lt 2147483647 p.value then fault q 3 (cause.Setting 4) else with_window q (initialed p.value q.outbox) (fault q 3 cause.Overflow))
+    else if p.id == 5 then (if is_frame_size p.value then nothing q else fault q 1 (cause.Setting 5))
+    else nothing q
+
+abbrev pub after_setting : Outcome → (State → Outcome) → Outcome
+after_setting (goes q told) go_on = go_on q
+after_setting (fails control f) go_on = fails control f
+
+-- RFC 9113, section 6.5.3: each pair in order, then the acknowledgement
+abbrev pub set_all : List Setting → State → Outcome
+set_all [] q = nothing (queued 0 SettingsAck q)
+set_all (p ∷ ps) q = after_setting (set_one q p) (set_all ps)
+
+unfoldable pub set_frame : State → List Setting → Outcome
+set_frame q pairs = set_all pairs (record q { greeted = true; settings = q.settings + 1 })
+
+abbrev pub settings_received : Rule
+settings_received q n (Settings pairs) = Some (set_frame q pairs)
+settings_received q n body = None
+
+-- RFC 9113, section 6.7: the same eight bytes back
+abbrev pub ping_received : Rule
+ping_received q n (Ping false word) = Some (nothing (queued 0 (Ping true word) q))
+ping_received q n body = None
+
+-- RFC 9113, section 6.8: the peer opens no stream any more; those that are live go on
+abbrev pub goaway_received : Rule
+goaway_received q n (GoAway last code) = Some (nothing (record q { going = true }))
+goaway_received q n body = None
+
+-- RFC 9113, sections 6.9 and 6.9.1
+abbrev pub connection_window : Rule
+connection_window q n (WindowUpdate step) =
+    when (n == 0) (if step == 0 then fault q 1 cause.ZeroStep else with_window q (grown 0 step q.outbox) (fault q 3 cause.Overflow))
+connection_window q n body = None
+
+-- ---- frames of a stream
+
+-- RFC 9113, section 5.1: an idle stream takes HEADERS and PRIORITY alone
+abbrev pub idle_stream : Rule
+idle_stream q n (Bytes bytes size ended) = when (is_idle q n) (fault q 1 cause.Idle)
+idle_stream q n (Reset code) = when (is_idle q n) (fault q 1 cause.Idle)
+idle_stream q n (WindowUpdate step) = when (is_idle q n) (fault q 1 cause.Idle)
+idle_stream q n body = None
+
+-- RFC 9113, section 6.4; on a closed stream it means nothing
+unfoldable pub reset_frame : State → ℕ → Outcome
+reset_frame q n =
+    if is_live n q.streams then goes (closed n (if is_written n q.outbox then q else record q { resets = q.resets + 1 })) (Some (happening.Gone n))
+    else nothing q
+
+abbrev pub reset_received : Rule
+reset_received q n (Reset code) = Some (reset_frame q n)
+reset_received q n body = None
+
+-- RFC 9113, sections 6.9 and 6.9.1; on a closed stream it means nothing (section 5.1)
+abbrev pub stream_window : Rule
+stream_window q n (WindowUpdate step) = Some (
+    if not (is_live n q.streams) then nothing q
+    else if step == 0 then reset_with q n 1
+    else with_window q (grown n step q.outbox) (reset_with q n 3))
+stream_window q n body = None
+
+-- On a stream whose request has ended, RFC 9113, section 5.1, asks for STREAM_CLOSED. Own rule: DATA on a closed stream is
+-- ignored. This departs from RFC 9113, section 6.1, which asks for a stream error STREAM_CLOSED there, where this side did
+-- not reset the stream.
+unfoldable pub data_on : State → ℕ → List ℕ → ℕ → Bool → Outcome
+data_on q n bytes size ended =
+    if not (is_live n q.streams) then nothing q
+    else if has_ended n q.streams then reset_with q n 5
+    else goes (if ended then request_ends n q else given_back n size q) (Some (happening.Body n bytes ended))
+
+-- own rule: what the flood rows count
+unfoldable pub data_counted : List ℕ → Bool → State → State
+data_counted bytes ended q =
+    if length bytes == 0 then (if ended then q else record q { empty = q.empty + 1 })
+    else record q { settings = 0; empty = 0 }
+
+-- RFC 9113, sections 6.1 and 6.9: the connection's window is given back on each stream, closed or not
+abbrev pub data_received : Rule
+data_received q n (Bytes bytes size ended) = Some (data_on (given_back 0 size (data_counted bytes ended q)) n bytes size ended)
+data_received q n body = None
+
+-- RFC 9113, section 5.1.1: a client opens streams of odd numbers
+abbrev pub even_stream : Rule
+even_stream q n (Headers block ended whole) = when (n % 2 == 0) (fault q 1 cause.EvenStream)
+even_stream q n body = None
+
+-- ---- header blocks
+
+-- a block with the bytes of this frame, and the state without it
+pub record Gathered : Type 0 where
+  pub state : State
+  pub block : Unfinished
+  pub whole : Bool
+
+abbrev pub started : State → ℕ → List ℕ → Bool → Bool → Gathered
+started q n bytes ended whole = record { state = record q { settings = 0; empty = 0; unfinished = None }; block = record { stream = n; ended = ended; bytes = bytes; pieces = 0 }; whole = whole }
+
+abbrev pub continued : State → Option Unfinished → List ℕ → Bool → Option Gathered
+continued q None bytes whole = None
+continued q (Some u) bytes whole = Some (record { state = record q { unfinished = None }; block = record u { bytes = u.bytes ++ bytes; pieces = u.pieces + 1 }; whole = whole })
+
+abbrev pub gathered : State → ℕ → Body → Option Gathered
+gathered q n (Headers bytes ended whole) = Some (started q n bytes ended whole)
+gathered q n (Continuation bytes whole) = continued q q.unfinished bytes whole
+gathered q n body = None
+
+abbrev pub if_gathered : Option Gathered → (Gathered → Option Outcome) → Option Outcome
+if_gathered None row = None
+if_gathered (Some g) row = row g
+
+-- own rule, within RFC 9113, section 10.5.1
+abbrev pub too_long : Gathered → Option Outcome
+too_long g = when (nat_lt 16384 (length g.block.bytes)) (fault g.state 11 cause.BlockTooLong)
+
+abbrev pub block_too_long : Rule
+block_too_long q n body = if_gathered (gathered q n body) too_long
+
+-- RFC 9113, section 4.3: END_HEADERS is not set
+abbrev pub grows : Gathered → Option Outcome
+grows g = when (not g.whole) (nothing (record g.state { unfinished = Some g.block }))
+
+abbrev pub block_grows : Rule
+block_grows q n body = if_gathered (gathered q n body) grows
+
+-- what a whole block's headers are, and where the decoder stands after it
+abbrev pub Decoding : Type 0
+Decoding = Result (List Header) HpackFault × Standing
+
+abbrev pub decoding : Gathered → Decoding
+decoding g = decoded g.state.decoder g.block.bytes
+
+abbrev pub code_of : HpackFault → ℕ
+code_of ListTooLong = 11
+code_of f = 9
+
+abbrev pub if_wrong : Result (List Header) HpackFault → (HpackFault → Outcome) → Option Outcome
+if_wrong (Err f) row = Some (row f)
+if_wrong (Ok headers) row = None
+
+abbrev pub if_right : Result (List Header) HpackFault → (List Header → Option Outcome) → Option Outcome
+if_right (Err f) row = None
+if_right (Ok headers) row = row headers
+
+-- RFC 9113, section 4.3: COMPRESSION_ERROR. Own rule, within section 10.5.1: for a list that is too long ENHANCE_YOUR_CALM.
+abbrev pub is_wrong : Gathered → Option Outcome
+is_wrong g = if_wrong (decoding g).0 (λ f. fault g.state (code_of f) (cause.Hpack f))
+
+abbrev pub block_fault : Rule
+block_fault q n body = if_gathered (gathered q n body) is_wrong
+
+-- RFC 9113, section 5.1.2: a stream above the limit is refused with REFUSED_STREAM, and was never live. Own rule: the limit
+-- is 16.
+unfoldable pub opened : State → Unfinished → List Header → Outcome
+opened q u headers =
+    if nat_lt (length q.streams) 16 then goes (record q { highest = u.stream; streams = q.streams ++ record { number = u.stream; ended = u.ended; answered = false } ∷ []; outbox = added u.stream q.outbox }) (Some (happening.Head u.stream headers u.ended))
+    else nothing (queued u.stream (Reset 7) (record q { highest = u.stream }))
+
+-- the decoder goes on from here
+abbrev pub tabled : Standing → State → State
+tabled d q = record q { decoder = d }
+
+-- RFC 9113, section 5.1.1: a stream above all that were opened is a new one
+abbrev pub head_in : State → Unfinished → List Header → Option Outcome
+head_in q u headers = when (nat_lt q.highest u.stream) (opened q u headers)
+
+-- Own rule: a late block on a closed stream is ignored, but for the decoder's table. This departs from RFC 9113, section
+-- 5.1.1, which asks for a connection error PROTOCOL_ERROR for HEADERS on a lower odd number that was skipped.
+abbrev pub closed_in : State → Unfinished → List Header → Option Outcome
+closed_in q u headers = when (not (is_live u.stream q.streams)) (nothing q)
+
+-- RFC 9113, section 5.1: STREAM_CLOSED on a stream whose request has ended
+abbrev pub ended_in : State → Unfinished → List Header → Option Outcome
+ended_in q u headers = when (has_ended u.stream q.streams) (reset_with q u.stream 5)
+
+abbrev pub with_headers : (State → Unfinished → List Header → Option Outcome) → Gathered → Option Outcome
+with_headers row g = if_right (decoding g).0 (row (tabled (decoding g).1 g.state) g.block)
+
+abbrev pub new_head : Rule
+new_head q n body = if_gathered (gathered q n body) (with_headers head_in)
+
+abbrev pub late_on_closed : Rule
+late_on_closed q n body = if_gathered (gathered q n body) (with_headers closed_in)
+
+abbrev pub late_on_ended : Rule
+late_on_ended q n body = if_gathered (gathered q n body) (with_headers ended_in)
+
+-- RFC 9113, sections 8.1 and 8.1.1: a second block ends the request, and is malformed where it doesn't say so
+unfoldable pub trailed : State → Unfinished → List Header → Outcome
+trailed q u headers =
+    if u.ended && are_good_trailers headers then goes (request_ends u.stream q) (Some (happening.End u.stream))
+    else reset_with q u.stream 1
+
+abbrev pub trailers_in : State → Unfinished → List Header → Option Outcome
+trailers_in q u headers = Some (trailed q u headers)
+
+abbrev pub trailers : Rule
+trailers q n body = if_gathered (gathered q n body) (with_headers trailers_in)
+
+-- ---- the table
+
+abbrev pub table : List Rule
+table =
+    first_frame ∷ block_open ∷ no_block ∷ stream_zero ∷ pushed
+    ∷ continuation_flood ∷ settings_flood ∷ empty_data_flood ∷ reset_flood
+    ∷ no_effect ∷ settings_received ∷ ping_received ∷ goaway_received ∷ connection_window
+    ∷ idle_stream ∷ reset_received ∷ stream_window ∷ data_received
+    ∷ even_stream ∷ block_too_long ∷ block_grows ∷ block_fault ∷ new_head ∷ late_on_closed ∷ late_on_ended ∷ trailers ∷ []
+
+abbrev pub or_else : Option Outcome → Outcome → Outcome
+or_else (Some outcome) rest = outcome
+or_else None rest = rest
+
+-- the first row that applies
+abbrev pub first_row : List Rule → State → ℕ → Body → Outcome
+first_row [] q n body = nothing q
+first_row (rule ∷ rules) q n body = or_else (rule q n body) (first_row rules q n body)
+
+unfoldable pub peer : State → Frame → Outcome
+peer q f = first_row table q f.stream f.body

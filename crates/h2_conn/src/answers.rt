@@ -1,0 +1,91 @@
+//! What a server says on a stream.
+
+ghost use Rattle.std.specs.Prelude.{◌≡◌, ◌≤◌, ◌<◌, length, IfOk, OnOk, OnErr};
+ghost use Rattle.hpack.specs.Tables.{list_size};
+ghost use Rattle.hpack.specs.Writing.{spelled_block};
+ghost use Rattle.h2_conn.specs.Conns.{takes, given_head, given_last, given_message, left_message, reset_by};
+
+use crate::control::{close, queue_reset};
+use crate::state::State;
+use hpack::encode_plain;
+use std::alloc::Global;
+use wl_octets::{Header, Memory, Octets};
+
+/// Whether a stream is live, and its last block was not given.
+fn takes(state: &State, stream: u32) -> bool
+    ensures { result ≡ takes stream state.now }
+{
+    state.streams.is_live(stream) && state.outbox.is_open(stream)
+}
+
+/// The block of some headers.
+fn block(alloc: Global, headers: &[Header]) -> Result<Octets, Memory>
+    requires { list_size headers.now ≤ 16384 }
+    ensures { IfOk result (λ block. (block ≡ spelled_block headers.now) × (length block ≤ 16383)) }
+{
+    encode_plain(alloc, headers)
+}
+
+#[tactic(auto, unfolding(crate::specs::Conns::given_head))]
+pub fn give_head(
+    state: &mut State,
+    alloc: Global,
+    stream: u32,
+    headers: &[Header],
+) -> Result<(), Memory>
+    requires { list_size headers.now ≤ 16384 }
+    ensures { OnOk result (state.new ≡ given_head stream (spelled_block headers.now) state.old) }
+{
+    if takes(state, stream) {
+        let block = block(alloc, headers)?;
+        state.outbox.head(stream, block);
+    }
+    Ok(())
+}
+
+#[tactic(auto, unfolding(crate::specs::Conns::given_last))]
+pub fn give_last(
+    state: &mut State,
+    alloc: Global,
+    stream: u32,
+    headers: &[Header],
+) -> Result<(), Memory>
+    requires { list_size headers.now ≤ 16384 }
+    ensures { OnOk result (state.new ≡ given_last stream (spelled_block headers.now) state.old) }
+{
+    if takes(state, stream) {
+        let block = block(alloc, headers)?;
+        state.outbox.finish(stream, block);
+    }
+    Ok(())
+}
+
+#[tactic(auto, unfolding(crate::specs::Conns::given_message))]
+pub fn give_message(state: &mut State, stream: u32, message: Octets)
+    requires { 0 < length message }
+    ensures { state.new ≡ given_message stream message state.old }
+{
+    if takes(state, stream) {
+        state.outbox.offer(stream, message);
+    }
+}
+
+#[tactic(auto, unfolding(crate::specs::Conns::left_message))]
+pub fn leave_message(state: &mut State, stream: u32)
+    ensures { state.new ≡ left_message stream state.old }
+{
+    if takes(state, stream) {
+        state.outbox.withdraw(stream);
+    }
+}
+
+#[tactic(auto, unfolding(crate::specs::Conns::reset_by))]
+pub fn reset_by(state: &mut State, alloc: Global, stream: u32, code: u32) -> Result<(), Memory>
+    ensures { OnOk result (state.new ≡ reset_by stream code state.old) }
+{
+    if state.streams.is_live(stream) {
+        queue_reset(state, alloc, stream, code)?;
+        close(state, stream);
+    }
+    Ok(())
+}
