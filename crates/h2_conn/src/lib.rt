@@ -5,19 +5,27 @@
 //! that a server writes on the connection goes through it too, so that a fault is its end.
 #![tactic(auto)]
 
+#[cfg(test)]
+mod answer_tests;
 mod answers;
 mod blocks;
 mod conn;
 mod control;
 mod data;
 mod fault;
+#[cfg(test)]
+mod flood_tests;
 mod happening;
 mod laws;
 mod link;
+#[cfg(test)]
+mod row_tests;
 mod settings;
 mod state;
 mod streams;
 mod table;
+#[cfg(test)]
+mod testing;
 mod windows;
 mod writing;
 
