@@ -10,6 +10,8 @@ use Rattle.wl_entry.specs.declared.entries.Entry.{Entry}
 use Rattle.wl_entry.specs.declared.bundles.Bundle.{Bundle}
 use Rattle.wl_entry.specs.declared.signing.Signed.{Signed}
 use Rattle.wl_entry.specs.declared.signing.Svid.{Svid}
+use Rattle.wl_snapshot.specs.Snapshots.{Publication}
+use Rattle.wl_manager.specs.Stores.{shows_parts}
 use Rattle.wl_entry.specs.Same.{same_ask, same_entry, same_signed, same_svid, same_bundle}
 
 pub both : (a b : Bool) → (a && b) ≡ true → (a ≡ true) × (b ≡ true)
@@ -87,3 +89,51 @@ svids_are xs ys is = lists_are same_svid svid_is xs ys is
 
 pub bundles_are : (xs ys : List Bundle) → pointwise same_bundle xs ys ≡ true → xs ≡ ys
 bundles_are xs ys is = lists_are same_bundle bundle_is xs ys is
+
+-- ---- what is equal passes the tests
+
+both_true : (a b : Bool) → a ≡ true → b ≡ true → (a && b) ≡ true
+both_true true b is and = and
+both_true false b is and = is
+
+bytes_self : (xs : List ℕ) → bytes_eq xs xs ≡ true
+bytes_self xs = (bytes_eq-Decides xs xs).1 refl
+
+number_self : (n : ℕ) → (n == n) ≡ true
+number_self n = grind (arith, nat_tests)
+
+list_self : {X : Type 0} (t : X → X → Bool) → ((x : X) → t x x ≡ true) → (xs : List X) → pointwise t xs xs ≡ true
+list_self t self [] = refl
+list_self t self (x ∷ xs) = both_true (t x x) (pointwise t xs xs) (self x) (list_self t self xs)
+
+texts_self : (xs : List (List ℕ)) → pointwise bytes_eq xs xs ≡ true
+texts_self xs = list_self bytes_eq bytes_self xs
+
+pub ask_self : (a : Ask) → same_ask a a ≡ true
+ask_self a = both_true _ _ (bytes_self a.entry_id) (both_true _ _ (bytes_self a.spiffe_id) (both_true _ _ (texts_self a.dns_names) (number_self a.ttl)))
+
+entry_self : (a : Entry) → same_entry a a ≡ true
+entry_self a =
+    both_true _ _ (bytes_self a.id) (both_true _ _ (bytes_self a.spiffe_id) (both_true _ _ (texts_self a.selectors)
+      (both_true _ _ (texts_self a.federates_with) (both_true _ _ (texts_self a.dns_names) (both_true _ _ (number_self a.ttl) (bytes_self a.hint))))))
+
+svid_self : (a : Svid) → same_svid a a ≡ true
+svid_self a =
+    both_true _ _ (ask_self a.ask) (both_true _ _ (bytes_self a.signed.chain) (both_true _ _ (bytes_self a.signed.key)
+      (both_true _ _ (number_self a.signed.not_before) (number_self a.signed.not_after))))
+
+bundle_self : (a : Bundle) → same_bundle a a ≡ true
+bundle_self a = both_true _ _ (bytes_self a.domain) (both_true _ _ (bytes_self a.x509) (bytes_self a.jwks))
+
+-- a publication shows its own parts
+pub shows_itself : (p : Publication) → shows_parts p p.entries p.svids p.bundles ≡ true
+shows_itself p = both_true _ _ (list_self same_entry entry_self p.entries) (both_true _ _ (list_self same_svid svid_self p.svids) (list_self same_bundle bundle_self p.bundles))
+
+no_other : (a b c : Bool) → b ≡ false → (a && (b && c)) ≡ false
+no_other true true c is = grind (arith, is)
+no_other true false c is = refl
+no_other false b c is = refl
+
+-- it does not show other SVIDs
+pub shows_no_other : (p : Publication) (entries : List Entry) (svids : List Svid) (bundles : List Bundle) → pointwise same_svid p.svids svids ≡ false → shows_parts p entries svids bundles ≡ false
+shows_no_other p entries svids bundles other = no_other (pointwise same_entry p.entries entries) (pointwise same_svid p.svids svids) (pointwise same_bundle p.bundles bundles) other

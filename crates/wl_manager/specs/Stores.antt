@@ -1,5 +1,5 @@
 -- What is kept, and what each event makes of it (own rules after the SPIRE agent).
-use Rattle.std.specs.Prelude.{ℕ, ◌+◌, ◌==◌, ◌&&◌, Bool, true, false, not, if◌then◌else◌, List, [], ◌∷◌, ◌++◌, map, filter, length}
+use Rattle.std.specs.Prelude.{ℕ, ◌+◌, ◌==◌, ◌&&◌, Bool, true, false, not, if◌then◌else◌, List, [], ◌∷◌, ◌++◌, map, filter, length, Option, Some, None, unwrap_or}
 use Rattle.std.specs.List.{list_any}
 use Rattle.std.specs.Cmp.Lexicographic.{pointwise}
 use Rattle.wl_entry.specs.Asks.{ask_of}
@@ -10,8 +10,10 @@ use Rattle.wl_entry.specs.declared.entries.Entry.{Entry}
 use Rattle.wl_entry.specs.declared.bundles.Bundle.{Bundle}
 use Rattle.wl_entry.specs.declared.signing.Signed.{Signed}
 use Rattle.wl_entry.specs.declared.signing.Svid.{Svid}
+use Rattle.wl_entry.specs.declared.unfit.Unfit.{Unfit}
+use Rattle.wl_x509.specs.Leaves.{leaf_reason}
 use Rattle.wl_snapshot.specs.Snapshots.{Publication}
-use Rattle.svid_cache.specs.Caches.{Cached, synced, swept, due_asks, is_listed, kept_for, put, unless_unfit, unless_older}
+use Rattle.svid_cache.specs.Caches.{Cached, synced, swept, due_asks, is_listed, kept_for, put, unless_older}
 use Rattle.svid_cache.specs.declared.install.Installed.{Installed}
 use Rattle.svid_cache.specs.declared.install.Installed.TheVariants as installed
 use Rattle.wl_manager.specs.declared.tickets.Flight.{Flight}
@@ -82,11 +84,24 @@ without n (f ∷ fs) = if f.number == n then fs else f ∷ without n fs
 unfoldable pub spent : ℕ → Store → Store
 spent n s = record { strict = s.strict; entries = s.entries; bundles = s.bundles; svids = s.svids; flying = without n s.flying; last = s.last }
 
--- Install: the first reason against a signed identity
+-- a leaf is judged in a strict store alone
+abbrev pub leaf_judged : Bool → Ask → Signed → Option Unfit
+leaf_judged strict a g = if strict then leaf_reason a g else None
+
+abbrev pub as_unfit : Option Unfit → Option Installed → Option Installed
+as_unfit (Some u) rest = Some (installed.Unfit u)
+as_unfit None rest = rest
+
+-- the first reason against a signed identity that does not hang on the kept one: no entry has the ask, its times and
+-- lengths, its leaf
+unfoldable pub refused : ℕ → Ask → Signed → Store → Option Installed
+refused now a g s =
+    if is_listed (asks_of s.entries) a then as_unfit (signed_unfit now g) (as_unfit (leaf_judged s.strict a g) None)
+    else Some installed.NoSuchAsk
+
+-- Install: that reason, or that the kept one ends no earlier, or else it is kept
 unfoldable pub install : ℕ → Ask → Signed → Store → Installed
-install now a g s =
-    if is_listed (asks_of s.entries) a then unless_unfit (signed_unfit now g) (unless_older g (kept_for s.svids a))
-    else installed.NoSuchAsk
+install now a g s = unwrap_or (refused now a g s) (unless_older g (kept_for s.svids a))
 
 -- the SVIDs after that
 abbrev pub svids_after : Installed → Svid → List Svid → List Svid

@@ -6,7 +6,9 @@
 //! differ from those of the last one, and parts that did not change are shared.
 #![tactic(auto)]
 
+mod claiming;
 mod flights;
+mod landing;
 mod lists;
 mod manager;
 mod preparing;

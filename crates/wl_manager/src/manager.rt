@@ -3,7 +3,7 @@
 ghost use Rattle.std.specs.Prelude.{◌≡◌, ◌==◌, [], true, false, IfOk, OnOk, OnErr};
 ghost use Rattle.std.specs.List.{list_any};
 ghost use Rattle.wl_manager.specs.Stores.{flies};
-ghost use Rattle.wl_manager.specs.Managers.{started, spending, AreVouched, IsStock};
+ghost use Rattle.wl_manager.specs.Managers.{started, spending, AllTrusted, IsStock};
 
 use crate::flights::{has_number, has_ticket, remove_flight};
 use crate::lists::{cache_of, share_bundles, share_entries};
@@ -36,7 +36,7 @@ impl<V: Voucher> Model for Manager<V> {
 
     ghost view = { λ m. managed m.strict m.published m.flying.items m.last };
 
-    ghost invariant = { λ m. IsKept V.signed m.published m.cache };
+    ghost invariant = { λ m. IsKept V.signed m.strict m.published m.cache };
 }
 
 impl<V: Voucher> Manager<V> {
@@ -81,7 +81,7 @@ impl<V: Voucher> Manager<V> {
     /// The last publication. It takes no memory.
     pub fn snapshot(&self) -> &Shared<Snapshot>
         ensures value { result.now ≡ self.now.published }
-        ensures vouched { AreVouched V.signed self.now.published.svids }
+        ensures trusted { AllTrusted V.signed self.now.store.strict self.now.published.svids }
     {
         &self.published
     }

@@ -58,3 +58,15 @@ pub struct Adopted {
     /// What became of a signed identity.
     pub installed: Option<Installed>,
 }
+
+impl Adopted {
+    /// Lets go of the answer, and of its tickets.
+    pub fn let_go(self) {
+        let Adopted {
+            change: _,
+            tickets,
+            installed: _,
+        } = self;
+        let_go_all(tickets);
+    }
+}
