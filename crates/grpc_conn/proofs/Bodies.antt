@@ -1,5 +1,5 @@
 -- A body that comes in two parts, of which the first completes the prefix.
-use Rattle.std.proofs.Common.{◌≡◌, inl, inr, ℕ, ◌+◌, ◌-◌, ◌<◌, ◌≤◌, Bool, true, false, List, ◌++◌, length, take, drop, Ok, Err, Some, None, refl, sym, ap, ◌∙◌, arith, append_assoc, take-append-drop, length-append, length-drop, length-take, le-ltb, lt-ltb}
+use Rattle.std.proofs.Common.{◌≡◌, inl, inr, ℕ, ◌+◌, ◌<◌, ◌≤◌, Bool, true, false, List, ◌++◌, length, take, drop, Ok, Err, Some, None, refl, ap, ◌∙◌, arith, append_assoc, take-append-drop, length-append, length-drop, length-take, le-ltb, lt-ltb}
 use Rattle.std.proofs.lemmas.Bool.{cases_lt}
 use Rattle.std.proofs.lemmas.List.{take_all}
 use Rattle.grpc_wire.specs.declared.fault.MessageFault.{MessageFault}
@@ -9,7 +9,7 @@ use Rattle.grpc_wire.specs.declared.refusal.Refusal.TheVariants.{Count}
 use Rattle.grpc_wire.specs.Messages.{prefix_of}
 use Rattle.grpc_conn.specs.declared.event.CallEvent.TheVariants.{Nothing, Refuse}
 use Rattle.grpc_conn.specs.Verdicts.{refused_by, part_verdict, sized_verdict, whole_verdict, body_verdict}
-use Rattle.grpc_conn.proofs.Prefixes.{prefix_more, prefix_short, prefix_memory}
+use Rattle.grpc_wire.proofs.Prefixes.{prefix_more, prefix_short, prefix_memory}
 
 -- ---- the front completes the prefix, as far as it has come
 

@@ -1,5 +1,5 @@
 -- What is kept of a call stands for its head and all bytes so far.
-use Rattle.std.proofs.Common.{◌≡◌, ◌≢◌, ◌⊎◌, inl, inr, ℕ, ◌<◌, ◌≤◌, ◌==◌, Bool, true, false, nat_lt, List, [], ◌∷◌, ◌++◌, length, drop, Option, Some, None, option_map, Result, Ok, Err, IsSomeAnd, refl, sym, ap, ◌∙◌, arith, length-append, length-drop, lt-ltb, le-ltb, ltb-true, ltb-false, eq-eqb}
+use Rattle.std.proofs.Common.{◌≡◌, inl, inr, ℕ, ◌<◌, ◌≤◌, ◌==◌, Bool, true, false, nat_lt, List, [], ◌∷◌, ◌++◌, length, drop, Option, Some, None, option_map, Result, Ok, Err, IsSomeAnd, refl, sym, arith, length-append, length-drop, lt-ltb, ltb-true, eq-eqb}
 use Rattle.std.proofs.lemmas.Bool.{cases_Bool}
 use Rattle.wl_octets.specs.declared.header.Header.{Header}
 use Rattle.grpc_wire.specs.declared.fault.MessageFault.{MessageFault}
@@ -15,38 +15,41 @@ use Rattle.grpc_conn.specs.declared.standing.Standing.{Standing}
 use Rattle.grpc_conn.specs.declared.standing.Standing.TheVariants.{Waiting, Decided}
 use Rattle.grpc_conn.specs.Verdicts.{prefix_verdict, body_verdict, verdict_behind, verdict, is_decided_event, news}
 use Rattle.grpc_conn.specs.Calls.{kept, told, moved, begun_by, begun, StandsFor, standing_at, told_at, moved_at, with_call, CallStandsFor}
-use Rattle.grpc_conn.proofs.Prefixes.{prefix_more}
+use Rattle.grpc_wire.proofs.Prefixes.{prefix_more}
 
 -- ---- a verdict stays
 
-stays_behind : (method : Method) (r : Result (Option ℕ) MessageFault) (after later : List ℕ) → length after ≤ length later → is_decided_event (prefix_verdict method r after false) ≡ true → is_decided_event (prefix_verdict method r later false) ≡ true
-stays_behind method (Err fault) after later le told = told
-stays_behind method (Ok None) after later le told = absurd (cc told)
-stays_behind method (Ok (Some n)) after later le told =
+stays_behind : (method : Method) (r : Result (Option ℕ) MessageFault) (after later : List ℕ) (ended : Bool) → length after ≤ length later → is_decided_event (prefix_verdict method r after false) ≡ true → prefix_verdict method r later ended ≡ prefix_verdict method r after false
+stays_behind method (Err fault) after later ended le told = refl
+stays_behind method (Ok None) after later ended le told = absurd (cc told)
+stays_behind method (Ok (Some n)) after later ended le told =
     elim (cases_Bool (nat_lt n (length after))) [
       | inl more ↦
           let still : n < length later = omega (arith, ltb-true n (length after) more) in
-          rw (lt-ltb n (length later) still) refl
+          rw (lt-ltb n (length later) still, more) refl
       | inr fits ↦ absurd (cc (rw fits at told))
     ]
 
-body_stays : (method : Method) (b more : List ℕ) → is_decided_event (body_verdict method b false) ≡ true → is_decided_event (body_verdict method (b ++ more) false) ≡ true
+body_stays : (method : Method) (b more : List ℕ) (ended : Bool) → is_decided_event (body_verdict method b false) ≡ true → body_verdict method (b ++ more) ended ≡ body_verdict method b false
 unfolding body_verdict
-body_stays method b more told =
+body_stays method b more ended told =
     elim (prefix_more 32768 b more) [
       | inl part ↦ absurd (cc (rw part at told))
-      | inr same ↦ rw same (stays_behind method (prefix_of 32768 b) (drop 5 b) (drop 5 (b ++ more)) (simp (length-drop, length-append) (omega arith)) told)
+      | inr same ↦ rw same (stays_behind method (prefix_of 32768 b) (drop 5 b) (drop 5 (b ++ more)) ended (simp (length-drop, length-append) (omega arith)) told)
     ]
 
-stays_by : (h : HeadVerdict) (fed more : List ℕ) → is_decided_event (verdict_behind h fed false) ≡ true → is_decided_event (verdict_behind h (fed ++ more) false) ≡ true
-stays_by heads.Malformed fed more told = told
-stays_by (heads.Refused refusal) fed more told = told
-stays_by (heads.Call method) fed more told = body_stays method fed more told
+stays_by : (h : HeadVerdict) (fed more : List ℕ) (ended : Bool) → is_decided_event (verdict_behind h fed false) ≡ true → verdict_behind h (fed ++ more) ended ≡ verdict_behind h fed false
+stays_by heads.Malformed fed more ended told = refl
+stays_by (heads.Refused refusal) fed more ended told = refl
+stays_by (heads.Call method) fed more ended told = body_stays method fed more ended told
 
--- more bytes do not undo a verdict
-pub verdict_stays : (headers : List Header) (fed more : List ℕ) → is_decided_event (verdict headers fed false) ≡ true → is_decided_event (verdict headers (fed ++ more) false) ≡ true
+-- more bytes, or the end, do not change a verdict
+pub verdicts_stay : (headers : List Header) (fed more : List ℕ) (ended : Bool) → is_decided_event (verdict headers fed false) ≡ true → verdict headers (fed ++ more) ended ≡ verdict headers fed false
 unfolding verdict
-verdict_stays headers fed more told = stays_by (head_verdict headers) fed more told
+verdicts_stay headers fed more ended told = stays_by (head_verdict headers) fed more ended told
+
+verdict_stays : (headers : List Header) (fed more : List ℕ) → is_decided_event (verdict headers fed false) ≡ true → is_decided_event (verdict headers (fed ++ more) false) ≡ true
+verdict_stays headers fed more told = rw (verdicts_stay headers fed more false told) told
 
 -- ---- what is told
 

@@ -1,4 +1,3 @@
-pub mod Prefixes
 pub mod Bodies
 pub mod Histories
 pub mod Places

@@ -1,5 +1,5 @@
 -- What the message of a request says. Own rules: which refusal each fault has.
-use Rattle.std.specs.Prelude.{◌≡◌, ℕ, Bool, not, ◌&&◌, ◌==◌, is_some, if◌then◌else◌, List, length, Result, Ok, Err}
+use Rattle.std.specs.Prelude.{◌≡◌, ℕ, ◌==◌, is_some, if◌then◌else◌, List, length, Option, Some, None, Result, Ok, Err}
 use Rattle.spiffe_id.specs.Faults.{id_fault}
 use Rattle.workload_proto.specs.declared.message.JwtRequest.{JwtRequest}
 use Rattle.workload_proto.specs.declared.fault.ProtoFault.{ProtoFault}
@@ -15,16 +15,20 @@ use Rattle.grpc_conn.specs.declared.request.Request.TheVariants.{Plain, Jwt, Hea
 use Rattle.grpc_conn.specs.declared.request.RequestFault.{RequestFault}
 use Rattle.grpc_conn.specs.declared.request.RequestFault.TheVariants.{Refused, Memory}
 
--- an id is named, and is no SPIFFE ID
-abbrev pub names_no_id : List ℕ → Bool
-names_no_id id = not (length id == 0) && is_some (id_fault id)
+-- the id that is named, if one is
+abbrev pub named_id : List ℕ → Result (Option (List ℕ)) Refusal
+named_id text =
+    if length text == 0 then Ok None
+    else if is_some (id_fault text) then Err BadId
+    else Ok (Some text)
+
+abbrev pub jwt_with : List (List ℕ) → Result (Option (List ℕ)) Refusal → Result Request Refusal
+jwt_with audience (Ok id) = Ok (Jwt audience id)
+jwt_with audience (Err refusal) = Err refusal
 
 -- own rules: a request of a JWT-SVID names an audience, and no id or a SPIFFE ID
 abbrev pub jwt_judged : JwtRequest → Result Request Refusal
-jwt_judged r =
-    if length r.audience == 0 then Err NoAudience
-    else if names_no_id r.spiffe_id then Err BadId
-    else Ok (Jwt r)
+jwt_judged r = if length r.audience == 0 then Err NoAudience else jwt_with r.audience (named_id r.spiffe_id)
 
 abbrev pub jwt_read : Result JwtRequest ProtoFault → Result Request Refusal
 jwt_read (Ok r) = jwt_judged r
@@ -57,6 +61,11 @@ request_of X509Bundles m = empty_said m
 request_of JwtBundles m = empty_said m
 
 -- an answer is what is due, unless memory ran out
+abbrev pub ReadsId : Result (Option (List ℕ)) RequestFault → Result (Option (List ℕ)) Refusal → Type 0
+ReadsId (Ok id) due = due ≡ Ok id
+ReadsId (Err (Refused refusal)) due = due ≡ Err refusal
+ReadsId (Err Memory) due = Unit {0}
+
 abbrev pub Reads : Result Request RequestFault → Result Request Refusal → Type 0
 Reads (Ok r) due = due ≡ Ok r
 Reads (Err (Refused refusal)) due = due ≡ Err refusal

@@ -1,6 +1,6 @@
 -- The verdict on a call: on its header list, the bytes of its body so far, and whether its request has ended. The first
 -- cause that applies decides. Own rules: the statuses and texts of refusals, and that a request is one message.
-use Rattle.std.specs.Prelude.{◌≡◌, ℕ, Bool, true, false, not, nat_lt, if◌then◌else◌, List, [], length, drop, Option, Some, None, Result, Ok, Err}
+use Rattle.std.specs.Prelude.{ℕ, Bool, true, false, not, nat_lt, if◌then◌else◌, List, length, drop, Option, Some, None, Result, Ok, Err}
 use Rattle.wl_octets.specs.declared.header.Header.{Header}
 use Rattle.grpc_wire.specs.declared.fault.MessageFault.{MessageFault}
 use Rattle.grpc_wire.specs.declared.fault.MessageFault.TheVariants as faults

@@ -8,6 +8,7 @@
 mod calls;
 mod event;
 mod judge;
+mod laws;
 mod request;
 mod standing;
 #[cfg(test)]
@@ -15,4 +16,5 @@ mod tests;
 
 pub use calls::Calls;
 pub use event::CallEvent;
+pub use laws::verdicts_stay;
 pub use request::Request;

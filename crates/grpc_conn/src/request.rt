@@ -1,13 +1,13 @@
 //! What the message of a request says.
 
 ghost use Rattle.std.specs.Prelude.{◌≡◌};
-ghost use Rattle.grpc_conn.specs.Requests.{Reads, request_of, jwt_said, jwt_judged, health_said, empty_said};
+ghost use Rattle.grpc_conn.specs.Requests.{Reads, ReadsId, request_of, jwt_said, jwt_judged, named_id, health_said, empty_said};
 
 use grpc_wire::{Method, Refusal};
 use spiffe_id::{IdFault, SpiffeId};
 use std::alloc::Global;
 use wl_health::{HealthFault, decode_health};
-use wl_octets::{Memory, Octets};
+use wl_octets::{Memory, Octets, Row};
 use workload_proto::{JwtRequest, ProtoFault, decode_empty, decode_jwt_request};
 
 /// What a request says.
@@ -15,8 +15,11 @@ use workload_proto::{JwtRequest, ProtoFault, decode_empty, decode_jwt_request};
 pub enum Request {
     /// Nothing: its message has no fields that are known.
     Plain,
-    /// A FetchJWTSVID: one audience at least, and no id or a SPIFFE ID.
-    Jwt(JwtRequest),
+    /// A FetchJWTSVID: its audiences, one at least, and the id that it names.
+    Jwt {
+        audience: Row<Octets>,
+        id: Option<SpiffeId>,
+    },
     /// A health call: the service that is asked for.
     Health(Octets),
 }
@@ -90,11 +93,22 @@ fn judge_jwt(alloc: Global, request: JwtRequest) -> Result<Request, RequestFault
     if request.audience.as_slice().is_empty() {
         return Err(RequestFault::Refused(Refusal::NoAudience));
     }
-    if request.spiffe_id.as_slice().is_empty() {
-        return Ok(Request::Jwt(request));
+    let id = read_id(alloc, request.spiffe_id.as_slice())?;
+    Ok(Request::Jwt {
+        audience: request.audience,
+        id,
+    })
+}
+
+/// The id that is named, if one is.
+fn read_id(alloc: Global, text: &[u8]) -> Result<Option<SpiffeId>, RequestFault>
+    ensures { ReadsId result (named_id text.now) }
+{
+    if text.is_empty() {
+        return Ok(None);
     }
-    match SpiffeId::parse(alloc, request.spiffe_id.as_slice()) {
-        Ok(_) => Ok(Request::Jwt(request)),
+    match SpiffeId::parse(alloc, text) {
+        Ok(id) => Ok(Some(id)),
         Err(IdFault::Memory) => Err(RequestFault::Memory),
         Err(_) => Err(RequestFault::Refused(Refusal::BadId)),
     }

@@ -2,6 +2,7 @@ ghost use Rattle.std.specs.Prelude.{◌<◌};
 
 use crate::*;
 use grpc_wire::{Method, Refusal};
+use spiffe_id::SpiffeId;
 use std::alloc::Global;
 use std::test::Fail;
 use wl_octets::{Header, Memory, Octets, Row};
@@ -178,7 +179,7 @@ fn ready_calls(rt: HostRuntime) -> Result<(), Fail> {
             &Request::Plain
         )?
     );
-    let jwt = Request::Jwt(jwt_request(alloc)?);
+    let jwt = jwt_request(alloc)?;
     assert!(rt;
         is_ready(
             alloc,
@@ -203,45 +204,209 @@ fn ready_calls(rt: HostRuntime) -> Result<(), Fail> {
     Ok(())
 }
 
-/// A request for an audience `x` and the id `spiffe://a.b/w`.
-fn jwt_request(alloc: Global) -> Result<workload_proto::JwtRequest, Memory> {
+fn audiences(alloc: Global, names: &[&[u8]]) -> Result<Row<Octets>, Memory> {
     let mut audience = Row::empty(alloc);
-    audience.push(Octets::from_slice(alloc, b"x")?)?;
-    Ok(workload_proto::JwtRequest {
-        audience,
-        spiffe_id: Octets::from_slice(alloc, b"spiffe://a.b/w")?,
+    for name in names {
+        audience.push(Octets::from_slice(alloc, name)?)?;
+    }
+    Ok(audience)
+}
+
+/// A request for an audience `x` and the id `spiffe://a.b/w`.
+fn jwt_request(alloc: Global) -> Result<Request, Fail> {
+    let id = Some(SpiffeId::parse(alloc, b"spiffe://a.b/w")?);
+    Ok(Request::Jwt {
+        audience: audiences(alloc, &[b"x"])?,
+        id,
     })
 }
 
-/// The verdict on heads, and on the two calls of the connection's worked examples.
+/// What a head that the request doesn't end with comes to.
+fn verdict_on(alloc: Global, head: &str) -> Result<CallEvent, Memory> {
+    let mut calls = Calls::start(alloc)?;
+    let headers = list(alloc, head)?;
+    calls.head(alloc, 1, headers.as_slice(), false)
+}
+
+/// The two calls of the connection's worked examples: the first is refused with its head, whatever its body.
 #[test]
 fn call_verdicts(rt: HostRuntime) -> Result<(), Fail> {
     let alloc = rt.alloc();
     let insecure =
         ":method POST|:scheme http|:path /SpiffeWorkloadAPI/FetchX509SVID|:authority localhost|content-type application/grpc|te trailers";
+    let (event, when) = verdict_of(alloc, insecure, b"\0\0\0\0\0", 1, true)?;
+    assert!(rt; event == CallEvent::Refuse(Refusal::Insecure));
+    assert_eq!(rt; when, 0);
+    let secure =
+        ":method POST|:scheme http|:path /SpiffeWorkloadAPI/FetchX509SVID|:authority localhost|content-type application/grpc|te trailers|workload.spiffe.io true";
+    assert!(rt;
+        is_ready(
+            alloc,
+            secure,
+            b"\0\0\0\0\0",
+            Method::X509Svid,
+            &Request::Plain
+        )?
+    );
+    Ok(())
+}
+
+/// Each refusal of a head, told at once, and nothing told of its body.
+#[test]
+fn head_refusals(rt: HostRuntime) -> Result<(), Fail> {
+    let alloc = rt.alloc();
     for (head, refusal) in [
-        (insecure, Refusal::Insecure),
-        (":method GET|:scheme http|:path /", Refusal::BadMethod),
         (
-            ":method POST|:scheme http|:path /|content-type text/plain",
+            ":method GET|:scheme http|:path /SpiffeWorkloadAPI/FetchX509SVID|content-type application/grpc|workload.spiffe.io true",
+            Refusal::BadMethod,
+        ),
+        (
+            ":method POST|:scheme http|:path /SpiffeWorkloadAPI/FetchX509SVID|content-type text/plain|workload.spiffe.io true",
             Refusal::BadContent,
         ),
         (
-            ":method POST|:scheme http|:path /SpiffeWorkloadAPI/ValidateJWTSVID|content-type application/grpc",
+            ":method POST|:scheme http|:path /SpiffeWorkloadAPI/FetchX509SVID|workload.spiffe.io true",
+            Refusal::BadContent,
+        ),
+        (
+            ":method POST|:scheme http|:path /SpiffeWorkloadAPI/ValidateJWTSVID|content-type application/grpc|workload.spiffe.io true",
             Refusal::UnknownPath,
         ),
         (
-            ":method POST|:scheme http|:path /SpiffeWorkloadAPI/FetchX509SVID|content-type application/grpc|grpc-encoding gzip",
+            ":method POST|:scheme http|:path /SpiffeWorkloadAPI/FetchX509SVID|content-type application/grpc|grpc-encoding gzip|workload.spiffe.io true",
             Refusal::Compressed,
+        ),
+        (
+            ":method POST|:scheme http|:path /SpiffeWorkloadAPI/FetchX509SVID|content-type application/grpc",
+            Refusal::Insecure,
+        ),
+        (
+            ":method POST|:scheme http|:path /SpiffeWorkloadAPI/FetchX509SVID|content-type application/grpc|workload.spiffe.io true|workload.spiffe.io true",
+            Refusal::Insecure,
+        ),
+        (
+            ":method POST|:scheme http|:path /SpiffeWorkloadAPI/FetchJWTSVID|content-type application/grpc|workload.spiffe.io TRUE",
+            Refusal::Insecure,
+        ),
+        (
+            ":method POST|:scheme http|:path /SpiffeWorkloadAPI/FetchJWTBundles|content-type application/grpc|workload.spiffe.io ",
+            Refusal::Insecure,
         ),
     ] {
         let (event, when) = verdict_of(alloc, head, b"\0\0\0\0\0\x01", 1, true)?;
         assert!(rt; event == CallEvent::Refuse(refusal), "{head}");
         assert_eq!(rt; when, 0);
     }
-    let (event, when) = verdict_of(alloc, ":method POST|:scheme http", b"\x01", 1, true)?;
-    assert!(rt; event == CallEvent::Malformed);
-    assert_eq!(rt; when, 0);
+    for head in [
+        ":method POST|:scheme http",
+        ":method POST|:scheme http|:path /SpiffeWorkloadAPI/FetchX509SVID|content-type application/grpc|Workload.Spiffe.io true",
+    ] {
+        assert!(rt; verdict_on(alloc, head)? == CallEvent::Malformed, "{head}");
+    }
+    Ok(())
+}
+
+/// The fields of a head, of which the last is no pseudo-header.
+const FIELDS: [&[u8]; 5] = [
+    b":method POST",
+    b":scheme http",
+    b":path /grpc.health.v1.Health/Check",
+    b":authority localhost",
+    b"content-type application/grpc",
+];
+
+/// A head's fields in one of their 120 orders, and whether the pseudo-headers stand first.
+fn in_order(alloc: Global, number: usize) -> Result<(Row<Header>, bool), Memory> {
+    let mut left = vec![in alloc; 0usize, 1, 2, 3, 4]?;
+    let mut headers = Row::empty(alloc);
+    let mut choice = number;
+    let mut is_last = false;
+    for count in [5usize, 4, 3, 2, 1] {
+        let at = choice % count;
+        choice /= count;
+        if at < left.len() {
+            let place = left.remove(at);
+            if place < FIELDS.len() {
+                headers.push(field(alloc, FIELDS[place])?)?;
+                is_last = place == 4;
+            }
+        }
+    }
+    Ok((headers, is_last))
+}
+
+/// Pseudo-headers may stand in any order, and not behind another field.
+#[test]
+fn orders_of_a_head(rt: HostRuntime) -> Result<(), Fail> {
+    let alloc = rt.alloc();
+    let mut good: u32 = 0;
+    for number in 0..120 {
+        let (headers, is_last) = in_order(alloc, number)?;
+        assert_eq!(rt; headers.len(), 5);
+        let mut calls = Calls::start(alloc)?;
+        let event = calls.head(alloc, 1, headers.as_slice(), false)?;
+        let due = if is_last {
+            CallEvent::Nothing
+        } else {
+            CallEvent::Malformed
+        };
+        assert!(rt; event == due, "{number}");
+        good = good.saturating_add(u32::from(is_last));
+    }
+    assert_eq!(rt; good, 24);
+    Ok(())
+}
+
+/// Heads as grpc-go, grpc-python and node send them, on each of the six paths.
+#[test]
+fn heads_of_clients(rt: HostRuntime) -> Result<(), Fail> {
+    let alloc = rt.alloc();
+    for (head, method) in [
+        (
+            ":method POST|:scheme http|:path /SpiffeWorkloadAPI/FetchX509SVID|:authority localhost|content-type application/grpc|user-agent grpc-go/1.64.0|te trailers|grpc-timeout 9S|workload.spiffe.io true",
+            Method::X509Svid,
+        ),
+        (
+            ":scheme http|:path /SpiffeWorkloadAPI/FetchX509Bundles|:method POST|:authority localhost|te trailers|content-type application/grpc|user-agent grpc-python/1.64.1 grpc-c/41.0.0 (linux; chttp2)|grpc-accept-encoding identity, deflate, gzip|workload.spiffe.io true",
+            Method::X509Bundles,
+        ),
+        (
+            ":authority localhost|:method POST|:path /SpiffeWorkloadAPI/FetchJWTBundles|:scheme http|workload.spiffe.io true|grpc-accept-encoding identity,deflate,gzip|accept-encoding identity|user-agent grpc-node-js/1.10.9|content-type application/grpc|te trailers",
+            Method::JwtBundles,
+        ),
+    ] {
+        assert!(rt;
+            is_ready(alloc, head, b"\0\0\0\0\0", method, &Request::Plain)?,
+            "{head}"
+        );
+    }
+    let jwt =
+        ":authority localhost|:method POST|:path /SpiffeWorkloadAPI/FetchJWTSVID|:scheme http|workload.spiffe.io true|grpc-accept-encoding identity,deflate,gzip|accept-encoding identity|user-agent grpc-node-js/1.10.9|content-type application/grpc|te trailers";
+    let asked = Request::Jwt {
+        audience: audiences(alloc, &[b"x", b"y"])?,
+        id: None,
+    };
+    assert!(rt;
+        is_ready(
+            alloc,
+            jwt,
+            b"\0\0\0\0\x06\x0a\x01x\x0a\x01y",
+            Method::JwtSvid,
+            &asked
+        )?
+    );
+    let watch =
+        ":method POST|:scheme http|:path /grpc.health.v1.Health/Watch|:authority localhost|content-type application/grpc|user-agent grpc-go/1.64.0|te trailers";
+    let service = Request::Health(Octets::from_slice(alloc, b"SpiffeWorkloadAPI")?);
+    assert!(rt;
+        is_ready(
+            alloc,
+            watch,
+            b"\0\0\0\0\x13\x0a\x11SpiffeWorkloadAPI",
+            Method::HealthWatch,
+            &service
+        )?
+    );
     Ok(())
 }
 

@@ -1,9 +1,10 @@
 -- One message at the front, and the bytes behind it.
-use Rattle.std.proofs.Common.{◌≡◌, ◌⊎◌, inl, inr, ℕ, ◌+◌, ◌<◌, ◌≤◌, ◌==◌, not, false, List, ◌++◌, length, take, drop, slice_index, Result, Ok, Err, Option, Some, None, refl, ap, sym, ◌∙◌, arith, nat_lt, ltb-false, ltb-true, le-ltb, length-drop, length-append}
+use Rattle.std.proofs.Common.{◌≡◌, ◌⊎◌, inl, inr, ℕ, ◌+◌, ◌<◌, ◌≤◌, ◌==◌, not, false, List, ◌++◌, length, take, drop, slice_index, Result, Ok, Err, Option, Some, None, refl, arith, nat_lt, ltb-false, ltb-true, le-ltb, length-drop, length-append}
 use Rattle.std.proofs.lemmas.Bool.{cases_Bool}
-use Rattle.std.proofs.lemmas.List.{drop-drop, take-append-le, drop-append-le, get_or_append_left}
+use Rattle.std.proofs.lemmas.List.{drop-drop, take-append-le, drop-append-le}
 use Rattle.std.specs.Int.{w32, from_be_bytes}
 use Rattle.grpc_wire.specs.declared.fault.MessageFault.{MessageFault}
+use Rattle.grpc_wire.proofs.Prefixes.{prefix_more, prefix_long}
 use Rattle.grpc_wire.specs.Messages.{within, prefix_of, Step, partial, whole, wrong, behind, first_message}
 
 -- the length that five bytes say
@@ -52,39 +53,25 @@ with_more partial more = partial
 with_more (whole m rest) more = whole m (rest ++ more)
 with_more (wrong fault) more = wrong fault
 
-sized_more : (limit n : ℕ) (after more : List ℕ) → (behind (within limit n) after ≡ partial) ⊎ (behind (within limit n) (after ++ more) ≡ with_more (behind (within limit n) after) more)
-sized_more limit n after more =
-    elim (cases_Bool (nat_lt limit n)) [
-      | inl large ↦ inr (rw large refl)
-      | inr large ↦ elim (cases_Bool (nat_lt (length after) n)) [
-        | inl short ↦ inl (rw (large, short) refl)
-        | inr short ↦
-            let enough : n ≤ length after = ltb-false (length after) n short in
-            let still : nat_lt (length (after ++ more)) n ≡ false = le-ltb (length (after ++ more)) n (simp length-append (omega arith)) in
-            inr (rw (large, short, still, take-append-le n after more enough, drop-append-le n after more enough) refl)
-      ]
+behind_more : (said : Result (Option ℕ) MessageFault) (b more : List ℕ) → ((n : ℕ) → said ≡ Ok (Some n) → 5 ≤ length b) → (behind said (drop 5 b) ≡ partial) ⊎ (behind said (drop 5 (b ++ more)) ≡ with_more (behind said (drop 5 b)) more)
+behind_more (Err fault) b more long = inr refl
+behind_more (Ok None) b more long = inl refl
+behind_more (Ok (Some n)) b more long =
+    let rest : drop 5 (b ++ more) ≡ drop 5 b ++ more = drop-append-le 5 b more (long n refl) in
+    elim (cases_Bool (nat_lt (length (drop 5 b)) n)) [
+      | inl short ↦ inl (rw short refl)
+      | inr short ↦
+          let enough : n ≤ length (drop 5 b) = ltb-false (length (drop 5 b)) n short in
+          let still : nat_lt (length (drop 5 b ++ more)) n ≡ false = le-ltb (length (drop 5 b ++ more)) n (simp length-append (omega arith)) in
+          inr (rw (rest, short, still, take-append-le n (drop 5 b) more enough, drop-append-le n (drop 5 b) more enough) refl)
     ]
 
 pub first_more : (limit : ℕ) (b more : List ℕ) → (first_message limit b ≡ partial) ⊎ (first_message limit (b ++ more) ≡ with_more (first_message limit b) more)
-unfolding first_message prefix_of
+unfolding first_message
 first_more limit b more =
-    elim (cases_Bool (nat_lt (length b) 1)) [
+    elim (prefix_more limit b more) [
       | inl none ↦ inl (rw none refl)
-      | inr none ↦
-          let some : 1 ≤ length b = ltb-false (length b) 1 none in
-          let some_still : nat_lt (length (b ++ more)) 1 ≡ false = le-ltb (length (b ++ more)) 1 (simp length-append (omega arith)) in
-          let first : slice_index (b ++ more) 0 ≡ slice_index b 0 = get_or_append_left b more 0 0 (omega arith) in
-          elim (cases_Bool (not (slice_index b 0 == 0))) [
-            | inl flag ↦ inr (rw (none, some_still, first, flag) refl)
-            | inr flag ↦ elim (cases_Bool (nat_lt (length b) 5)) [
-              | inl few ↦ inl (rw (none, flag, few) refl)
-              | inr few ↦
-                  let long : 5 ≤ length b = ltb-false (length b) 5 few in
-                  let long_still : nat_lt (length (b ++ more)) 5 ≡ false = le-ltb (length (b ++ more)) 5 (simp length-append (omega arith)) in
-                  let same : take 4 (drop 1 (b ++ more)) ≡ take 4 (drop 1 b) = rw (drop-append-le 1 b more (omega arith), take-append-le 4 (drop 1 b) more (simp length-drop (omega arith))) refl in
-                  rw (none, some_still, first, flag, few, long_still, same, drop-append-le 5 b more long) (sized_more limit (said_by b) (drop 5 b) more)
-            ]
-          ]
+      | inr same ↦ rw same (behind_more (prefix_of limit b) b more (λ n said. prefix_long limit n b said))
     ]
 
 -- ---- a whole message, and a part of one

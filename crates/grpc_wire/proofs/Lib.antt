@@ -1,4 +1,4 @@
-pub mod Gains
+pub mod Prefixes
 pub mod Fronts
 pub mod Cuts
 pub mod Feeding

@@ -229,12 +229,12 @@ pub fn put_message(out: &mut Octets, message: &[u8]) -> Result<(), Memory>
     ensures front { GainsFront (framed message.now) out.old out.new }
     ensures read_again { (limit : ℕ) (rest : List ℕ) → length message.now ≤ limit → first_message limit (framed message.now ++ rest) ≡ whole message.now rest }
 {
-    out.push_slice(&prefix(message.len() as u32))?;
+    out.push_slice(&message_prefix(message.len() as u32))?;
     out.push_slice(message)
 }
 
-/// What stands before a message of this length.
-fn prefix(length: u32) -> [u8; 5]
+/// What stands before a message of this length: a flag of 0, and the length in four bytes, the highest first.
+pub fn message_prefix(length: u32) -> [u8; 5]
     ensures { result ≡ 0 ∷ to_be_bytes w32 length }
 {
     let [first, second, third, fourth] = length.to_be_bytes();

@@ -5,3 +5,5 @@ pub mod Places
 pub mod Quiet
 pub mod Numbers
 pub mod Offers
+pub mod Orders
+pub mod Sums

@@ -1,18 +1,20 @@
 -- What each call does to the numbers of the streams.
-use Rattle.std.proofs.Common.{◌≡◌, inl, inr, ℕ, zero, suc, ◌+◌, ◌==◌, Bool, true, false, not, cond, nat_lt, pos, ◌+ℤ◌, List, [], ◌∷◌, ◌++◌, map, filter, length, drop, Option, Some, None, Result, Ok, Err, refl, ◌∙◌, int_lt}
+use Rattle.std.proofs.Common.{◌≡◌, inl, inr, ℕ, zero, suc, ◌+◌, ◌==◌, Bool, true, false, not, cond, nat_lt, pos, ◌+ℤ◌, List, [], ◌∷◌, ◌++◌, map, filter, length, take, drop, get_or, set, Option, Some, None, Result, Ok, Err, refl, sym, ap, ◌∙◌, int_lt}
 use Rattle.std.proofs.lemmas.Bool.{cases_Bool}
-use Rattle.std.proofs.lemmas.List.{map-append}
+use Rattle.std.proofs.lemmas.List.{map-append, take-append-drop}
+use Rattle.std.proofs.Math.Seq.{map-set_same}
 use Rattle.h2_flow.specs.declared.flow.Flow.{Flow}
 use Rattle.h2_flow.specs.declared.overflow.Overflow.{Overflow}
 use Rattle.h2_flow.specs.declared.stream.Stream.{Stream}
 use Rattle.h2_flow.specs.Windows.{window_of, allowed_of}
-use Rattle.h2_flow.specs.Streams.{Turn, headers_turn, data_turn, last_turn, next_turn, body_turn, head_turn, turn}
+use Rattle.h2_flow.specs.Streams.{Sent, Turn, headers_turn, data_turn, last_turn, next_turn, body_turn, head_turn, turn}
 use Rattle.h2_flow.specs.Pulls.{Round, round, rounds, all_work, all_rounds}
 use Rattle.h2_flow.specs.Outboxes.{Out, is_number, changed, new_stream, with_offer, added, removed, controlled, shrunk, headed, offered, withdrawn, closed_by, largest_window, credit_of, grown_room, grown_stream, grown, first_over, with_initial, initialed, pulled, numbers}
+use Rattle.h2_flow.proofs.Rounds.{SoFar, Left}
 
 -- ---- one stream is changed
 
-changed_numbers : (n : ℕ) (f : Stream → Stream) → ((s : Stream) → (f s).number ≡ s.number) → (ss : List Stream) → map (λ s. s.number) (changed n f ss) ≡ map (λ s. s.number) ss
+pub changed_numbers : (n : ℕ) (f : Stream → Stream) → ((s : Stream) → (f s).number ≡ s.number) → (ss : List Stream) → map (λ s. s.number) (changed n f ss) ≡ map (λ s. s.number) ss
 changed_numbers n f keeps [] = refl
 changed_numbers n f keeps (s ∷ ss) =
     elim (cases_Bool (s.number == n)) [
@@ -109,7 +111,7 @@ unfolding last_turn
 number_last f s None = refl
 number_last f s (Some block) = number_headers f (record s { trailers = None }) block true
 
-number_next : (f : Flow) (s : Stream) (w : Option (List ℕ)) → (next_turn f s w).stream.number ≡ s.number
+pub number_next : (f : Flow) (s : Stream) (w : Option (List ℕ)) → (next_turn f s w).stream.number ≡ s.number
 unfolding next_turn
 number_next f s None = number_last f s s.trailers
 number_next f s (Some message) = turn_cond (allowed_of f s.credit (length message) == 0) _ _ s.number refl (number_data (record f { begun = f.begun + 1 }) (record s { last = message; sent = 0; waiting = None }))
@@ -122,11 +124,11 @@ number_head : (f : Flow) (s : Stream) (h : Option (List ℕ)) → (head_turn f s
 number_head f s None = number_body f s
 number_head f s (Some block) = number_headers f (record s { head = None }) block false
 
-number_turn : (f : Flow) (s : Stream) → (turn f s).stream.number ≡ s.number
+pub number_turn : (f : Flow) (s : Stream) → (turn f s).stream.number ≡ s.number
 unfolding turn
 number_turn f s = number_head f s s.head
 
-numbers_round : (f : Flow) (ss : List Stream) → map (λ s. s.number) (round f ss).streams ≡ map (λ s. s.number) ss
+pub numbers_round : (f : Flow) (ss : List Stream) → map (λ s. s.number) (round f ss).streams ≡ map (λ s. s.number) ss
 unfolding round
 numbers_round f [] = refl
 numbers_round f (s ∷ ss) = rw (number_turn f s, numbers_round (turn f s).flow ss) refl
@@ -135,10 +137,28 @@ round_cond : (b : Bool) (x y : Round) (ns : List ℕ) → map (λ s. s.number) x
 round_cond true x y ns h k = h
 round_cond false x y ns h k = k
 
-numbers_rounds : (n : ℕ) (f : Flow) (ss : List Stream) → map (λ s. s.number) (rounds n f ss).streams ≡ map (λ s. s.number) ss
+pub numbers_rounds : (n : ℕ) (f : Flow) (ss : List Stream) → map (λ s. s.number) (rounds n f ss).streams ≡ map (λ s. s.number) ss
 unfolding rounds
 numbers_rounds zero f ss = refl
 numbers_rounds (suc n) f ss = round_cond (length (round f ss).sent == 0) _ _ _ (numbers_round f ss) (numbers_rounds n (round f ss).flow (round f ss).streams ∙ numbers_round f ss)
+
+pub numbers_all : (f : Flow) (ss : List Stream) → map (λ s. s.number) (all_rounds f ss).streams ≡ map (λ s. s.number) ss
+unfolding all_rounds
+numbers_all f ss = numbers_rounds (all_work ss + 1) f ss
+
+-- in a round that did not come to its end
+pub so_far_numbers : (f : Flow) (ss : List Stream) (done : List Sent) (xs : List Stream) (i : ℕ) (g : Flow) (d new : Stream) → new.number ≡ (turn g (get_or xs i d)).stream.number → SoFar f ss done (take i xs) (drop i xs) g → map (λ s. s.number) (set xs i new) ≡ map (λ s. s.number) (round f ss).streams
+so_far_numbers f ss done xs i g d new same so =
+    map-set_same (λ (s : Stream). s.number) xs i new d (same ∙ number_turn g (get_or xs i d)) ∙ whole
+  where
+    parts : map (λ (s : Stream). s.number) xs ≡ map (λ (s : Stream). s.number) (take i xs) ++ map (λ (s : Stream). s.number) (drop i xs)
+    parts = ap (map (λ (s : Stream). s.number)) (sym (take-append-drop i xs)) ∙ map-append (λ (s : Stream). s.number) (take i xs) (drop i xs)
+
+    whole : map (λ (s : Stream). s.number) xs ≡ map (λ (s : Stream). s.number) (round f ss).streams
+    whole = rw so.whole (parts ∙ ap (λ ns. map (λ (s : Stream). s.number) (take i xs) ++ ns) (sym (numbers_round g (drop i xs))) ∙ sym (map-append (λ (s : Stream). s.number) (take i xs) (round g (drop i xs)).streams))
+
+pub left_numbers : (f : Flow) (ss : List Stream) (done : List Sent) (g : Flow) (left new : List Stream) → Left f ss done g left → map (λ s. s.number) new ≡ map (λ s. s.number) (round g left).streams → map (λ s. s.number) new ≡ map (λ s. s.number) (all_rounds f ss).streams
+left_numbers f ss done g left new so same = same ∙ numbers_round g left ∙ sym (rw so.whole (numbers_all g left))
 
 pub numbers_pulled : (o : Out) → numbers (pulled o).left ≡ numbers o
 unfolding pulled all_rounds

@@ -2,3 +2,4 @@ pub mod Windows
 pub mod Streams
 pub mod Pulls
 pub mod Outboxes
+pub mod Histories

@@ -1,8 +1,9 @@
 -- An outbox and its calls.
-use Rattle.std.specs.Prelude.{◌≡◌, ℕ, ◌+◌, ◌<◌, ◌==◌, nat_lt, ℤ, pos, ◌+ℤ◌, int_lt, Bool, true, false, not, ◌&&◌, if◌then◌else◌, List, [], ◌∷◌, ◌++◌, map, filter, Option, Some, None, Result, Ok, Err, bytes_eq}
+use Rattle.std.specs.Prelude.{◌≡◌, ℕ, ◌+◌, ◌<◌, ◌≤◌, ◌==◌, nat_lt, ℤ, pos, ◌+ℤ◌, int_lt, Bool, true, false, not, ◌&&◌, if◌then◌else◌, List, [], ◌∷◌, ◌++◌, map, filter, Contains, Option, Some, None, Result, Ok, Err, bytes_eq}
 use Rattle.std.specs.List.{list_any, AllByRecursion}
 use Rattle.h2_flow.specs.declared.flow.Flow.{Flow}
-use Rattle.h2_flow.specs.declared.flow.Update.TheVariants.{Unasked, Due}
+use Rattle.h2_flow.specs.declared.flow.Update.{Update}
+use Rattle.h2_flow.specs.declared.flow.Update.TheVariants.{Unasked, Due, Written}
 use Rattle.h2_flow.specs.declared.overflow.Overflow.{Overflow}
 use Rattle.h2_flow.specs.declared.stream.Stream.{Stream}
 use Rattle.h2_flow.specs.Windows.{window_of}
@@ -40,6 +41,15 @@ is_open n o = list_any (λ s. is_number n s && not s.finished) o.streams
 abbrev pub is_written : ℕ → Out → Bool
 is_written n o = list_any (λ s. is_number n s && s.written) o.streams
 
+-- the size update of header blocks was asked for
+abbrev pub is_asked : Update → Bool
+is_asked Unasked = false
+is_asked Due = true
+is_asked Written = true
+
+abbrev pub is_shrunk : Out → Bool
+is_shrunk o = is_asked o.flow.update
+
 -- the numbers of the streams that are there
 abbrev pub numbers : Out → List ℕ
 numbers o = map (λ s. s.number) o.streams
@@ -47,6 +57,11 @@ numbers o = map (λ s. s.number) o.streams
 -- the number is above all others
 abbrev pub IsAbove : ℕ → List Stream → Type 0
 IsAbove n streams = AllByRecursion (λ s. s.number < n) streams
+
+-- each number is above the one before it, and the first above this one
+abbrev pub RisesFrom : ℕ → List ℕ → Type 0
+RisesFrom n [] = Unit {0}
+RisesFrom n (m ∷ ms) = (n < m) × RisesFrom m ms
 
 -- the stream of this number is changed so
 abbrev pub changed : ℕ → (Stream → Stream) → List Stream → List Stream
@@ -126,6 +141,12 @@ with_initial value o None = Ok (record o { flow = record o.flow { initial = valu
 
 unfoldable pub initialed : ℕ → Out → Result Out Overflow
 initialed value o = with_initial value o (first_over value o.streams)
+
+-- such a stream, and no lower one
+abbrev pub IsLowestOver : ℕ → ℕ → List Stream → Type 0
+IsLowestOver value n streams =
+    let over = map (λ (s : Stream). s.number) (filter (λ s. int_lt (pos largest_window) (window_of value s.credit)) streams) in
+    Contains over n × AllByRecursion (λ m. n ≤ m) over
 
 -- ---- a pull
 

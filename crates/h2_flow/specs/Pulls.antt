@@ -1,5 +1,5 @@
 -- What a pull writes.
-use Rattle.std.specs.Prelude.{◌≡◌, ℕ, zero, suc, ◌+◌, ◌-◌, ◌==◌, if◌then◌else◌, List, [], ◌∷◌, ◌++◌, length, flat_map, Option, Some, None, Result, Ok, Err}
+use Rattle.std.specs.Prelude.{◌≡◌, ℕ, zero, suc, ◌+◌, ◌-◌, ◌==◌, if◌then◌else◌, List, [], ◌∷◌, ◌++◌, length, map, flat_map, Option, Some, None, Result, Ok, Err}
 use Rattle.wl_octets.specs.declared.memory.Memory.{Memory}
 use Rattle.wl_words.specs.Lists.{GainsFront}
 use Rattle.h2_flow.specs.declared.flow.Flow.{Flow}
@@ -61,12 +61,12 @@ abbrev pub Puts : {A : Type 0} → Result (Unit {0}) Memory → List A → List 
 Puts (Ok x) due old new = new ≡ old ++ due
 Puts (Err e) due old new = GainsFront due old new
 
--- a turn was taken: its bytes were written, the stream that it ended was told, and this is left
+-- a turn was taken: its bytes were written, the stream that it ended was told, and this is left; or memory ran out, and it is still the same stream
 abbrev pub Takes : Result (Unit {0}) Memory → Turn → List ℕ → List ℕ → List ℕ → List ℕ → Flow → Stream → Type 0
 Takes (Ok x) t old new told tells f s = (new ≡ old ++ bytes_of t.sent) × (tells ≡ told ++ ended_of t.sent) × (f ≡ t.flow) × (s ≡ t.stream)
-Takes (Err e) t old new told tells f s = GainsFront (bytes_of t.sent) old new × GainsFront (ended_of t.sent) told tells
+Takes (Err e) t old new told tells f s = GainsFront (bytes_of t.sent) old new × GainsFront (ended_of t.sent) told tells × (s.number ≡ t.stream.number)
 
 -- the same of a round
 abbrev pub Makes : Result (Unit {0}) Memory → Round → List ℕ → List ℕ → List ℕ → List ℕ → Flow → List Stream → Type 0
 Makes (Ok x) r old new told tells f ss = (new ≡ old ++ bytes_of r.sent) × (tells ≡ told ++ ended_of r.sent) × (f ≡ r.flow) × (ss ≡ r.streams)
-Makes (Err e) r old new told tells f ss = GainsFront (bytes_of r.sent) old new × GainsFront (ended_of r.sent) told tells
+Makes (Err e) r old new told tells f ss = GainsFront (bytes_of r.sent) old new × GainsFront (ended_of r.sent) told tells × (map (λ s. s.number) ss ≡ map (λ s. s.number) r.streams)

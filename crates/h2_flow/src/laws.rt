@@ -1,7 +1,8 @@
 //! What holds of the definitions alone.
 
 ghost use Rattle.std.specs.Prelude.{◌≡◌, ℕ, List};
-ghost use Rattle.h2_flow.specs.Outboxes.{Out, numbers, removed, offered, pulled, IsQuiet};
+ghost use Rattle.h2_flow.specs.Outboxes.{Out, RisesFrom, numbers, removed, offered, pulled, IsQuiet};
+ghost use Rattle.h2_flow.specs.Histories.{Step, Reaches, HasSums};
 
 /// A pull after a pull writes nothing, and changes nothing, also where streams were removed
 /// in between.
@@ -21,4 +22,14 @@ pub fn offers_once()
 #[tactic(auto, using(crate::proofs::Numbers::numbers_pulled))]
 pub fn pulls_keep_streams()
     ensures { (outbox : Out) → numbers (pulled outbox).left ≡ numbers outbox }
+{}
+
+/// Windows are the sums of what came and was written: whichever calls led to an outbox, the
+/// connection's is 65,535 and all steps on stream 0, less all bytes of DATA written, and a
+/// stream's is the peer's last initial window and all steps on it, less the bytes of DATA
+/// written on it, below zero too (RFC 9113, section 6.9). The streams stand by ascending number.
+#[tactic(auto, using(crate::proofs::Sums::reached_sums, crate::proofs::Sums::reached_rises))]
+pub fn windows_are_sums()
+    ensures sums { (steps : List Step) (outbox : Out) → Reaches steps outbox → HasSums steps outbox }
+    ensures ascending { (steps : List Step) (outbox : Out) → Reaches steps outbox → RisesFrom 0 (numbers outbox) }
 {}

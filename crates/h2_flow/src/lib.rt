@@ -16,6 +16,6 @@ mod stream;
 #[cfg(test)]
 mod tests;
 
-pub use laws::{offers_once, pulls_keep_streams, pulls_once};
+pub use laws::{offers_once, pulls_keep_streams, pulls_once, windows_are_sums};
 pub use outbox::Outbox;
 pub use overflow::Overflow;

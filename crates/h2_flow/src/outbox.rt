@@ -1,11 +1,10 @@
 //! An outbox: what is to be written on a connection.
 
-ghost use Rattle.std.specs.Prelude.{◌≡◌, ◌<◌, ◌≤◌, ◌^◌, ◌==◌, ◌||◌, ◌&&◌, ◌++◌, true, false, List, ℕ, length, vec_capacity, IfOk, OnOk, OnErr, IsErr, pos, ◌+ℤ◌, int_lt};
+ghost use Rattle.std.specs.Prelude.{◌≡◌, ◌<◌, ◌≤◌, ◌^◌, ◌==◌, ◌||◌, ◌&&◌, ◌++◌, true, false, List, ℕ, length, vec_capacity, IfOk, OnOk, OnErr, IsErr, pos, ◌+ℤ◌, ◌≤ℤ◌, int_lt, map, IfErr};
 ghost use Rattle.h2_flow.specs.Windows.{window_of};
-ghost use Rattle.std.specs.List.{list_any};
+ghost use Rattle.std.specs.List.{list_any, AllByRecursion};
 ghost use Rattle.wl_words.specs.Lists.{GainsFront};
-ghost use Rattle.h2_flow.specs.declared.flow.Update.TheVariants.{Unasked};
-ghost use Rattle.h2_flow.specs.Outboxes.{Out, fresh, failing, has, is_open, is_written, IsAbove, added, removed, controlled, shrunk, headed, offered, withdrawn, closed_by, grown, grown_room, grown_stream, first_over, is_number, initialed, pulled, Changes};
+ghost use Rattle.h2_flow.specs.Outboxes.{Out, fresh, failing, has, is_open, is_written, is_shrunk, RisesFrom, IsLowestOver, IsAbove, added, removed, controlled, shrunk, headed, offered, withdrawn, closed_by, grown, grown_room, grown_stream, first_over, is_number, initialed, pulled, Changes};
 
 use crate::block::Block;
 use crate::flow::{Flow, Update};
@@ -44,7 +43,7 @@ impl Model for Outbox {
 
     ghost view = { λ o. record { flow = o.flow; control = o.control.items; streams = o.streams.items; failed = o.failed } };
 
-    ghost invariant = { λ o. 16 ≤ vec_capacity o.streams };
+    ghost invariant = { λ o. (16 ≤ vec_capacity o.streams) × RisesFrom 0 (map (λ s. s.number) o.streams.items) };
 }
 
 impl Outbox {
@@ -95,7 +94,9 @@ impl Outbox {
     #[tactic(auto, unfolding(crate::specs::Outboxes::initialed))]
     pub fn initial(&mut self, value: u32) -> Result<(), Overflow>
         requires { value < 2 ^ 31 }
-        ensures { Changes result (initialed value self.old) self.old self.new }
+        ensures changes { Changes result (initialed value self.old) self.old self.new }
+        ensures lowest { IfErr result (λ over. IsLowestOver value over.stream self.old.streams) }
+        ensures fits { OnOk result (AllByRecursion (λ s. window_of value s.credit ≤ℤ pos 2147483647) self.old.streams) }
     {
         match passing(self.streams.as_slice(), value) {
             Some(stream) => Err(Overflow { stream }),
@@ -177,10 +178,20 @@ impl Outbox {
     /// 0 (RFC 7541, section 4.2). It is called once at most.
     #[tactic(auto, unfolding(crate::specs::Outboxes::shrunk))]
     pub fn shrink(&mut self)
-        requires { self.old.flow.update ≡ Unasked }
+        requires { is_shrunk self.old ≡ false }
         ensures { self.new ≡ shrunk self.old }
     {
         self.flow.update = Update::Due;
+    }
+
+    /// Whether `shrink` was called. It takes no memory.
+    pub fn is_shrunk(&self) -> bool
+        ensures { result ≡ is_shrunk self.now }
+    {
+        match self.flow.update {
+            Update::Unasked => false,
+            Update::Due | Update::Written => true,
+        }
     }
 
     /// Gives a stream the block of its response head, of at most 16,383 bytes.

@@ -167,7 +167,7 @@ fn put_last(
 }
 
 /// Begins the waiting message, if one byte of it may be written.
-#[tactic(auto, unfolding(crate::specs::Streams::next_turn))]
+#[tactic(auto, using(crate::proofs::Numbers::number_next), unfolding(crate::specs::Streams::next_turn))]
 fn put_next(
     flow: &mut Flow,
     stream: &mut Stream,

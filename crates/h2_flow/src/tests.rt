@@ -104,7 +104,9 @@ fn outbox_shrink(rt: HostRuntime) -> Result<(), Fail> {
     outbox.control(&[1])?;
     assert_eq!(rt; outbox.queued(), [1].as_slice());
     outbox.add(1);
+    assert!(rt; !outbox.is_shrunk());
     outbox.shrink();
+    assert!(rt; outbox.is_shrunk());
     head(&rt, alloc, &mut outbox, 1, b"\x88")?;
     assert!(rt; outbox.has(1));
     assert!(rt; !outbox.is_written(1));
@@ -279,5 +281,22 @@ fn overflows(rt: HostRuntime) -> Result<(), Fail> {
     assert_eq!(rt; outbox.grow(1, 1), Ok(()));
     assert_eq!(rt; outbox.initial(most), Err(Overflow { stream: 1 }));
     assert_eq!(rt; outbox.initial(most - 1), Ok(()));
+    Ok(())
+}
+
+#[test]
+#[tactic(auto, unfolding(crate::specs::Outboxes::added))]
+fn lowest_overflow(rt: HostRuntime) -> Result<(), Fail> {
+    let alloc = rt.alloc();
+    let mut outbox = Outbox::start(alloc)?;
+    outbox.add(1);
+    outbox.add(3);
+    outbox.add(5);
+    grows(&rt, &mut outbox, 5, 9)?;
+    grows(&rt, &mut outbox, 3, 5)?;
+    let most = 0x7fff_ffff;
+    assert_eq!(rt; outbox.initial(most - 4), Err(Overflow { stream: 3 }));
+    assert_eq!(rt; outbox.initial(most - 5), Err(Overflow { stream: 5 }));
+    assert_eq!(rt; outbox.initial(most - 9), Ok(()));
     Ok(())
 }

@@ -1,4 +1,3 @@
-pub mod Gains
 pub mod Fronts
 pub mod Cuts
 pub mod Settings

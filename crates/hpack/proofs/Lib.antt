@@ -12,3 +12,4 @@ pub mod Texts
 pub mod Headers
 pub mod Standings
 pub mod Spelling
+pub mod Lengths

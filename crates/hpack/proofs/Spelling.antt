@@ -86,7 +86,7 @@ more_is : (value : ℕ) → Continues (more_bytes value) × (groups (more_bytes 
 unfolding more_bytes
 more_is value = more_in_is value value (omega arith)
 
-more_short : (count value : ℕ) → value < 128 * 128 ^ count → length (more_bytes value) ≤ suc count
+pub more_short : (count value : ℕ) → value < 128 * 128 ^ count → length (more_bytes value) ≤ suc count
 more_short zero value lt = let small : value < 128 = omega arith in rw (more_bytes_last value small) (omega arith)
 more_short (suc count) value lt =
     elim (cases_lt value 128) [

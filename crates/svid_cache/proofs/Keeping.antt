@@ -9,7 +9,7 @@ use Rattle.std.proofs.Common.{Ordering, Less, Equal, Greater, arith, refl, sym, 
 use Rattle.std.proofs.lemmas.Slice.Eq.{bytes_eq-Decides}
 use Rattle.std.proofs.lemmas.Bool.Decides.{nat_tests}
 use Rattle.wl_words.specs.Lists.{Rises}
-use Rattle.wl_entry.specs.Keys.{svid_key}
+use Rattle.wl_entry.specs.Keys.{ask_key, svid_key}
 use Rattle.wl_entry.specs.Limits.{SignedWithin}
 use Rattle.wl_entry.specs.Same.{same_ask}
 use Rattle.wl_entry.specs.declared.asks.Ask.{Ask}
@@ -22,7 +22,7 @@ use Rattle.wl_entry.specs.declared.unfit.Unfit.TheVariants as unfit
 use Rattle.wl_entry.specs.Fitness.{signed_unfit}
 use Rattle.svid_cache.specs.declared.install.Installed.{Installed}
 use Rattle.svid_cache.specs.declared.install.Installed.TheVariants as installed
-use Rattle.svid_cache.specs.Caches.{install, unless_unfit, unless_older, kept_for, Cached, IsCached, ask_key, is_listed, lasts, is_below, is_above, put}
+use Rattle.svid_cache.specs.Caches.{install, unless_unfit, unless_older, kept_for, Cached, IsCached, is_listed, lasts, is_below, is_above, put}
 
 abbrev order : List ℕ → List ℕ → Ordering
 order a b = slice_cmp nat_cmp a b

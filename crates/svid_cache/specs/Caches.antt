@@ -5,7 +5,7 @@ use Rattle.std.specs.Ordering.{nat_cmp, is_lt, is_gt}
 use Rattle.std.specs.Cmp.Lexicographic.{slice_cmp}
 use Rattle.wl_words.specs.Lists.{Rises}
 use Rattle.wl_entry.specs.Fitness.{signed_unfit, is_half_over}
-use Rattle.wl_entry.specs.Keys.{svid_key}
+use Rattle.wl_entry.specs.Keys.{ask_key, svid_key}
 use Rattle.wl_entry.specs.Limits.{SignedWithin}
 use Rattle.wl_entry.specs.Same.{same_ask}
 use Rattle.wl_entry.specs.declared.asks.Ask.{Ask}
@@ -19,10 +19,6 @@ use Rattle.svid_cache.specs.declared.install.Installed.TheVariants as installed
 pub record Cached : Type 0 where
   pub asks : List Ask
   pub svids : List Svid
-
--- an ask by the id of its entry
-abbrev pub ask_key : Ask → List ℕ
-ask_key a = a.entry_id
 
 -- the ask is among these
 unfoldable pub is_listed : List Ask → Ask → Bool

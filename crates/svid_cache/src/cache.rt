@@ -3,7 +3,8 @@
 ghost use Rattle.std.specs.Prelude.{◌≡◌, ◌+◌, ◌<◌, ◌^◌, true, [], length, map, min, IfOk, OnOk, OnErr};
 ghost use Rattle.wl_words.specs.Lists.{Rises};
 ghost use Rattle.wl_entry.specs.Limits.{SignedWithin};
-ghost use Rattle.svid_cache.specs.Caches.{ask_key, is_listed, due_asks, synced, swept, install, after, IsCached};
+ghost use Rattle.wl_entry.specs.Keys.{ask_key};
+ghost use Rattle.svid_cache.specs.Caches.{is_listed, due_asks, synced, swept, install, after, IsCached};
 
 use crate::asks::lists;
 use crate::install::Installed;

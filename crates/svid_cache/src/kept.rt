@@ -2,9 +2,9 @@
 
 ghost use Rattle.std.specs.Prelude.{◌≡◌, Some, map, filter, IfOk, option_map, option_copied};
 ghost use Rattle.wl_words.specs.Lists.{Rises};
-ghost use Rattle.wl_entry.specs.Keys.{svid_key};
+ghost use Rattle.wl_entry.specs.Keys.{ask_key, svid_key};
 ghost use Rattle.wl_entry.specs.Same.{same_ask};
-ghost use Rattle.svid_cache.specs.Caches.{only, ask_key, is_listed, kept_for, is_due, is_below, is_above, put, unless_older};
+ghost use Rattle.svid_cache.specs.Caches.{only, is_listed, kept_for, is_due, is_below, is_above, put, unless_older};
 
 use crate::asks::lists;
 use crate::install::Installed;

@@ -2,7 +2,7 @@
 
 ghost use Rattle.std.specs.Prelude.{◌<◌, ◌^◌, length, map, IfOk};
 ghost use Rattle.wl_words.specs.Lists.{Rises};
-ghost use Rattle.svid_cache.specs.Caches.{ask_key};
+ghost use Rattle.wl_entry.specs.Keys.{ask_key};
 
 use crate::{Cache, Installed};
 use spiffe_id::SpiffeId;

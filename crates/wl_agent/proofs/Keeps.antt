@@ -9,6 +9,7 @@ use Rattle.std.specs.Cmp.Lexicographic.{nat_list_eq_equiv, lists_equiv}
 use Rattle.std.proofs.Common.{Less, arith, refl, sym, ◌∙◌, ap, subst}
 use Rattle.wl_words.specs.Lists.{Rises}
 use Rattle.wl_keyed.specs.Keys.{item_at}
+use Rattle.wl_keyed.proofs.Chosen.{all_append, keys_append}
 use Rattle.wl_keyed.proofs.Found.{found_has, found_all}
 use Rattle.wl_entry.specs.Asks.{ask_of, is_ask_of}
 use Rattle.wl_entry.specs.Fitness.{signed_unfit}
@@ -77,19 +78,11 @@ within_for signed (Some e) false is = tt
 
 -- ---- all of them
 
-all_append : {X : Type 0} (P : X → Type 0) (xs ys : List X) → AllByRecursion P xs → AllByRecursion P ys → AllByRecursion P (xs ++ ys)
-all_append P [] ys a b = b
-all_append P (x ∷ xs) ys a b = (a.0, all_append P xs ys a.1 b)
-
-keys_append : (P : List ℕ → Type 0) (xs ys : List Svid) → AllByRecursion P (map svid_key xs) → AllByRecursion P (map svid_key ys) → AllByRecursion P (map svid_key (xs ++ ys))
-keys_append P [] ys a b = b
-keys_append P (x ∷ xs) ys a b = (a.0, keys_append P xs ys a.1 b)
-
 keys_in : (P : List ℕ → Type 0) (entries : List Entry) (svids : List DocSvid) → Rises (map entry_key entries) → AllByRecursion P (map doc_svid_key svids) → AllByRecursion P (map svid_key (kept_in entries svids))
 unfolding kept_in kept_of
 keys_in P entries [] rises all = tt
 keys_in P entries (s ∷ ss) rises all =
-    keys_append P (kept_of entries s) (kept_in entries ss) (keys_for P entries s.entry_id s.signed (item_at entry_key entries s.entry_id) (is_fit s.signed) (found_at entries s.entry_id rises) all.0) (keys_in P entries ss rises all.1)
+    keys_append P svid_key (kept_of entries s) (kept_in entries ss) (keys_for P entries s.entry_id s.signed (item_at entry_key entries s.entry_id) (is_fit s.signed) (found_at entries s.entry_id rises) all.0) (keys_in P entries ss rises all.1)
 
 rises_in : (entries : List Entry) (svids : List DocSvid) → Rises (map entry_key entries) → Rises (map doc_svid_key svids) → Rises (map svid_key (kept_in entries svids))
 unfolding kept_in kept_of IsStrictlySortedBy

@@ -49,13 +49,18 @@ done_comes None left due is = inl (ap (λ d. d.status) is)
 done_comes (Some c) None due is = tt
 done_comes (Some c) (Some bytes) due is = inl (ap (λ d. d.status) is.2 ∙ ap (λ document. (due_of c document).status) is.1)
 
-yields : (command : Option Command) (left : Option (List ℕ)) (status : ℕ) → (status ≡ 6) ⊎ ((status ≡ 7) ⊎ (status ≡ 8)) → ComesFor command left status
+yields_read : (command : Option Command) (left : Option (List ℕ)) → IsSome command → ComesFor command left 6
+yields_read None left fits = absurd cc
+yields_read (Some c) None fits = tt
+yields_read (Some c) (Some bytes) fits = inr (inl refl)
+
+yields : (command : Option Command) (left : Option (List ℕ)) (status : ℕ) → (status ≡ 7) ⊎ (status ≡ 8) → ComesFor command left status
 yields None left status why = inr why
 yields (Some c) None status why = tt
-yields (Some c) (Some bytes) status why = inr why
+yields (Some c) (Some bytes) status why = inr (inr why)
 
 pub comes_of : (command : Option Command) (left old new : Option (List ℕ)) (rb rn wb wn status : ℕ) → Ends command left old new rb rn wb wn status → ComesFor command left status
-comes_of command left old new rb rn wb wn status (lacks_memory same) = yields command left 8 (inr (inr refl))
-comes_of command left old new rb rn wb wn status (fails_read fits rose same) = yields command left 6 (inl refl)
-comes_of command left old new rb rn wb wn status (fails_write due is rose front) = yields command left 7 (inr (inl refl))
+comes_of command left old new rb rn wb wn status (lacks_memory same) = yields command left 8 (inr refl)
+comes_of command left old new rb rn wb wn status (fails_read fits rose same) = yields_read command left fits
+comes_of command left old new rb rn wb wn status (fails_write due is rose front) = yields command left 7 (inl refl)
 comes_of command left old new rb rn wb wn status (ends_well due is gained) = done_comes command left due is

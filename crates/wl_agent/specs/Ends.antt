@@ -83,7 +83,7 @@ pub data Tells (command : Option Command) (left old new : Option (List ℕ)) (re
 abbrev pub YieldsTo : ℕ → ℕ → Type 0
 YieldsTo due status = (status ≡ due) ⊎ ((status ≡ 6) ⊎ ((status ≡ 7) ⊎ (status ≡ 8)))
 
--- The status that is due comes, wherever the source tells its content.
+-- The status that is due comes, wherever the source tells its content. Where the words fit no command nothing is read.
 abbrev pub ComesFor : Option Command → Option (List ℕ) → ℕ → Type 0
-ComesFor None left status = YieldsTo 2 status
+ComesFor None left status = (status ≡ 2) ⊎ ((status ≡ 7) ⊎ (status ≡ 8))
 ComesFor (Some c) left status = IfSome left (λ bytes. YieldsTo (due_of c (take read_limit bytes)).status status)

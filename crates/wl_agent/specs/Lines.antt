@@ -1,7 +1,7 @@
 -- The lines that are written (own rules).
 use Rattle.std.specs.Prelude.{ℕ, ◌/◌, ◌%◌, ◌+◌, nat_lt, if◌then◌else◌, List, [], ◌∷◌, ◌++◌, length, codes}
 use Rattle.std.specs.List.{flat_map}
-use Rattle.std.specs.Int.{w32, to_be_bytes}
+use Rattle.grpc_wire.specs.Messages.{framed}
 use Rattle.std.specs.Fmt.{decimal}
 use Rattle.spiffe_id.specs.declared.faults.IdFault.{IdFault}
 use Rattle.spiffe_id.specs.declared.faults.IdFault.TheVariants as id
@@ -73,10 +73,6 @@ hex_byte b = hex_digit (b / 16) ∷ hex_digit (b % 16) ∷ []
 
 unfoldable pub hex_text : List ℕ → List ℕ
 hex_text bytes = flat_map hex_byte bytes
-
--- the gRPC prefix of a message that is not compressed, and the message (gRPC over HTTP/2, "Length-Prefixed-Message")
-unfoldable pub framed : List ℕ → List ℕ
-framed message = 0 ∷ (to_be_bytes w32 (length message) ++ message)
 
 -- the framed message in hexadecimal, and a newline
 unfoldable pub message_line : List ℕ → List ℕ

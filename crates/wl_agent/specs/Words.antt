@@ -1,7 +1,7 @@
 -- The words of a command line (own rules).
-use Rattle.std.specs.Prelude.{ℕ, ◌==◌, ◌&&◌, Bool, false, nat_lt, nat_le, if◌then◌else◌, List, [], ◌∷◌, length, codes, Option, Some, None, option_map, option_and_then, is_none}
+use Rattle.std.specs.Prelude.{ℕ, ◌+◌, ◌==◌, ◌&&◌, not, Bool, false, nat_le, if◌then◌else◌, List, [], ◌∷◌, ◌++◌, length, take, drop, codes, Option, Some, None, option_and_then, is_none}
 use Rattle.std.specs.Str.{bytes_eq}
-use Rattle.std.specs.List.{list_all}
+use Rattle.std.specs.List.{list_all, list_any, prefix_len}
 use Rattle.wl_selector.specs.Selectors.{selector_fault, sorted_texts}
 use Rattle.wl_agent.specs.declared.command.Command.{Command}
 use Rattle.wl_agent.specs.declared.command.Command.TheVariants.{Preview, Check}
@@ -12,10 +12,19 @@ is_option [] = false
 is_option (b ∷ []) = false
 is_option (b ∷ c ∷ bytes) = b == 45
 
--- The operands among the words behind the command. Before the first `--`, which is dropped, no word is an option.
-abbrev pub operands : List (List ℕ) → Option (List (List ℕ))
-operands [] = Some []
-operands (w ∷ ws) = if bytes_eq w (codes "--") then Some ws else if is_option w then None else option_map (λ os. w ∷ os) (operands ws)
+-- how many words stand before the first `--`
+abbrev pub dashes_at : List (List ℕ) → ℕ
+dashes_at ws = prefix_len (λ w. not (bytes_eq w (codes "--"))) ws
+
+abbrev pub before_dashes : List (List ℕ) → List (List ℕ)
+before_dashes ws = take (dashes_at ws) ws
+
+abbrev pub behind_dashes : List (List ℕ) → List (List ℕ)
+behind_dashes ws = drop (dashes_at ws + 1) ws
+
+-- The operands among the words behind the command: all but the first `--`, before which no word is an option.
+unfoldable pub operands : List (List ℕ) → Option (List (List ℕ))
+operands ws = if list_any is_option (before_dashes ws) then None else Some (before_dashes ws ++ behind_dashes ws)
 
 abbrev pub is_selector : List ℕ → Bool
 is_selector text = is_none (selector_fault text)

@@ -3,8 +3,9 @@
 ghost use Rattle.std.specs.Prelude.{◌≡◌, ◌++◌, [], ◌∷◌, ◌<◌, ◌≤◌, ◌^◌, List, codes, length, IfOk, OnOk};
 ghost use Rattle.std.specs.List.{flat_map};
 ghost use Rattle.std.specs.Fmt.{decimal};
-ghost use Rattle.wl_agent.specs.Lines.{id_numbers, place_numbers, fault_numbers, spaced, spaced_all, fault_line, count_line, hex_digit, hex_byte, hex_text, framed, message_line};
+ghost use Rattle.wl_agent.specs.Lines.{id_numbers, place_numbers, fault_numbers, spaced, spaced_all, fault_line, count_line, hex_digit, hex_byte, hex_text, message_line};
 
+use grpc_wire::message_prefix;
 use spiffe_id::IdFault;
 use std::alloc::Global;
 use std::string::ToString;
@@ -163,15 +164,13 @@ fn put_hex(out: &mut Vec<u8>, bytes: &[u8]) -> Result<(), Memory>
 }
 
 /// The line of a message: its gRPC prefix and itself in hexadecimal.
-#[tactic(auto, unfolding(crate::specs::Lines::message_line, crate::specs::Lines::framed, crate::specs::Lines::hex_text))]
+#[tactic(auto, unfolding(crate::specs::Lines::message_line, grpc_wire::specs::Messages::framed, crate::specs::Lines::hex_text))]
 pub(crate) fn line_of_message(alloc: Global, message: &[u8]) -> Result<Vec<u8>, Memory>
     requires { length message.now ≤ 4_194_304 }
     ensures { IfOk result (λ v. v.items ≡ message_line message.now) }
 {
     let mut out = Vec::with_capacity(alloc, 2 * message.len() + 11)?;
-    let size = (message.len() as u32).to_be_bytes();
-    put_hex(&mut out, &[0])?;
-    put_hex(&mut out, &size)?;
+    put_hex(&mut out, &message_prefix(message.len() as u32))?;
     put_hex(&mut out, message)?;
     out.push(b'\n')?;
     Ok(out)

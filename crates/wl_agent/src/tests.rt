@@ -243,6 +243,10 @@ const FEDERATED: &str =
 const FOREIGN: &str =
     r#"{"version":1,"trust_domain":"a.b","bundles":[{"trust_domain":"g.h","x509":"BQ=="},{"trust_domain":"a.b","x509":"Aw=="},{"trust_domain":"c.d","x509":"BA=="}],"entries":[{"id":"e2","spiffe_id":"spiffe://a.b/v","selectors":["unix:uid:2"],"federates_with":["g.h"]},{"id":"e1","spiffe_id":"spiffe://a.b/w","selectors":["unix:uid:1"],"federates_with":["c.d","e.f"]}],"svids":[{"entry":"e1","chain":"AQ==","key":"Ag==","not_before":100,"not_after":200}]}"#;
 
+/// The own bundles of both kinds, the X.509 bundle of a federated domain, and both of a domain that is foreign.
+const KEYS: &str =
+    r#"{"version":1,"trust_domain":"a.b","bundles":[{"trust_domain":"a.b","x509":"Aw==","jwks":"{}"},{"trust_domain":"c.d","x509":"BA=="},{"trust_domain":"g.h","x509":"BQ==","jwks":"{}"}],"entries":[{"id":"e1","spiffe_id":"spiffe://a.b/w","selectors":["unix:uid:1"],"federates_with":["c.d","e.f"]}]}"#;
+
 const FEDERATED_TEXT: &str =
     "000000002e0a190a0e7370696666653a2f2f612e622f771201011a01022201031a110a0c7370696666653a2f2f632e64120104\n";
 
@@ -413,18 +417,38 @@ fn asked(alloc: Global, document: &str, selector: &[u8]) -> Result<usize, Fail> 
     Ok(jwt_asks(alloc, &view, None)?.len())
 }
 
-fn is_message(alloc: Global, method: Method3) -> Result<bool, Fail> {
-    match answered(alloc, DOC, b"unix:uid:1", method)? {
-        Answer::Message(_) => Ok(true),
+/// Whether a call of `unix:uid:1` gets this message on a document.
+fn is_answered(
+    alloc: Global,
+    document: &str,
+    method: Method3,
+    message: &[u8],
+) -> Result<bool, Fail> {
+    match answered(alloc, document, b"unix:uid:1", method)? {
+        Answer::Message(given) => Ok(given.as_slice() == message),
         _ => Ok(false),
     }
 }
 
 #[test]
-fn view_answers_messages(rt: HostRuntime) -> Result<(), Fail> {
-    for method in [Method3::X509Svid, Method3::X509Bundles] {
-        assert!(rt; is_message(rt.alloc(), method)?);
-    }
+fn view_answers_svids(rt: HostRuntime) -> Result<(), Fail> {
+    let message = b"\x0a\x19\x0a\x0espiffe://a.b/w\x12\x01\x01\x1a\x01\x02\x22\x01\x03";
+    assert!(rt; is_answered(rt.alloc(), DOC, Method3::X509Svid, message)?);
+    Ok(())
+}
+
+#[test]
+fn view_answers_bundles(rt: HostRuntime) -> Result<(), Fail> {
+    let message =
+        b"\x12\x11\x0a\x0cspiffe://a.b\x12\x01\x03\x12\x11\x0a\x0cspiffe://c.d\x12\x01\x04";
+    assert!(rt; is_answered(rt.alloc(), KEYS, Method3::X509Bundles, message)?);
+    Ok(())
+}
+
+#[test]
+fn view_answers_jwt_bundles(rt: HostRuntime) -> Result<(), Fail> {
+    let message = b"\x0a\x12\x0a\x0cspiffe://a.b\x12\x02{}";
+    assert!(rt; is_answered(rt.alloc(), KEYS, Method3::JwtBundles, message)?);
     Ok(())
 }
 

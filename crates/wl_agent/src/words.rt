@@ -1,9 +1,9 @@
 //! Reading the words of a command line.
 
-ghost use Rattle.std.specs.Prelude.{◌≡◌, ◌++◌, ◌≤◌, List, length, map, Option, option_map, option_and_then, string_bytes, if◌then◌else◌, IfOk, Some, None};
-ghost use Rattle.std.specs.List.{list_all};
+ghost use Rattle.std.specs.Prelude.{◌≡◌, ◌++◌, ◌≤◌, List, drop, length, map, Option, option_map, option_and_then, string_bytes, if◌then◌else◌, IfOk, OnOk, Some, None};
+ghost use Rattle.std.specs.List.{list_all, list_any};
 ghost use Rattle.wl_selector.specs.Selectors.{sorted_texts};
-ghost use Rattle.wl_agent.specs.Words.{command_of, operands, preview_of, check_of, is_option, is_selector};
+ghost use Rattle.wl_agent.specs.Words.{command_of, operands, dashes_at, before_dashes, behind_dashes, preview_of, check_of, is_option, is_selector};
 
 use crate::command::Command;
 use std::alloc::Global;
@@ -24,34 +24,78 @@ fn is_flag(word: &[u8]) -> bool
     }
 }
 
-/// These words behind those that were read before.
-fn read_rest(alloc: Global, before: Row<Octets>, words: &[String]) -> Result<Row<Octets>, Memory>
-    ensures { IfOk result (λ r. r ≡ before ++ map string_bytes words.now) }
+/// How many words stand before the first `--`.
+fn find_dashes(words: &[String]) -> usize
+    ensures place { result ≡ dashes_at (map string_bytes words.now) }
+    ensures within { result ≤ length words.now }
 {
-    let mut done = before;
-    for word in words {
-        done.push(Octets::from_slice(alloc, word.as_bytes())?)?;
-    }
-    Ok(done)
-}
-
-/// The operands among the words behind the command: before the first `--`, which is dropped, no word may be an
-/// option.
-fn read_operands(alloc: Global, words: &[String]) -> Result<Option<Row<Octets>>, Memory>
-    ensures { IfOk result (λ o. o ≡ operands (map string_bytes words.now)) }
-{
-    let mut done = Row::empty(alloc);
+    let mut at = 0;
     let mut rest = words;
     'words: while let Some((word, after)) = rest.split_first() {
         if word.as_bytes() == b"--".as_slice() {
-            return Ok(Some(read_rest(alloc, done, after)?));
+            return at;
         }
-        if is_flag(word.as_bytes()) {
-            return Ok(None);
-        }
-        done.push(Octets::from_slice(alloc, word.as_bytes())?)?;
+        at += 1;
         rest = after;
     }
+    at
+}
+
+/// The words before the first `--`, and those behind it.
+fn part_at_dashes(words: &[String]) -> (&[String], &[String])
+    ensures before { map string_bytes result.0.now ≡ before_dashes (map string_bytes words.now) }
+    ensures behind { map string_bytes result.1.now ≡ behind_dashes (map string_bytes words.now) }
+{
+    let (before, rest) = words.split_at(find_dashes(words));
+    (before, without_first(rest))
+}
+
+/// All words but the first.
+fn without_first(words: &[String]) -> &[String]
+    ensures { result.now ≡ drop 1 words.now }
+{
+    match words.split_first() {
+        Some((_, rest)) => rest,
+        None => words,
+    }
+}
+
+/// Whether one of the words is an option.
+fn has_flag(words: &[String]) -> bool
+    ensures { result ≡ list_any is_option (map string_bytes words.now) }
+{
+    let mut rest = words;
+    'words: while let Some((word, after)) = rest.split_first() {
+        if is_flag(word.as_bytes()) {
+            return true;
+        }
+        rest = after;
+    }
+    false
+}
+
+/// Adds these words.
+fn add_words(alloc: Global, done: &mut Row<Octets>, words: &[String]) -> Result<(), Memory>
+    ensures { OnOk result (done.new ≡ done.old ++ map string_bytes words.now) }
+{
+    for word in words {
+        done.push(Octets::from_slice(alloc, word.as_bytes())?)?;
+    }
+    Ok(())
+}
+
+/// The operands among the words behind the command: all but the first `--`, before which no word may be an option.
+#[tactic(auto, unfolding(crate::specs::Words::operands))]
+fn read_operands(alloc: Global, words: &[String]) -> Result<Option<Row<Octets>>, Memory>
+    ensures { IfOk result (λ o. o ≡ operands (map string_bytes words.now)) }
+{
+    let (before, behind) = part_at_dashes(words);
+    if has_flag(before) {
+        return Ok(None);
+    }
+    let mut done = Row::empty(alloc);
+    add_words(alloc, &mut done, before)?;
+    add_words(alloc, &mut done, behind)?;
     Ok(Some(done))
 }
 

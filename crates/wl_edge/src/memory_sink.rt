@@ -28,7 +28,10 @@ impl MemorySink {
         room: usize,
         piece: usize,
         failing: Row<u64>,
-    ) -> Result<MemorySink, Memory> {
+    ) -> Result<MemorySink, Memory>
+        ensures empty { IfOk result (λ s. ⟦<MemorySink as Sink>⟧.taken s ≡ Some []) }
+        ensures fresh { IfOk result (λ s. ⟦<MemorySink as Sink>⟧.faults s ≡ 0) }
+    {
         Ok(MemorySink {
             bytes: Octets::from_vec(Vec::with_capacity(alloc, room)?),
             room,
@@ -41,7 +44,9 @@ impl MemorySink {
     }
 
     /// The bytes that it took.
-    pub fn bytes(&self) -> &[u8] {
+    pub fn bytes(&self) -> &[u8]
+        ensures { ⟦<MemorySink as Sink>⟧.taken self.now ≡ Some result.now }
+    {
         self.bytes.as_slice()
     }
 }

@@ -19,7 +19,10 @@ pub struct MemorySource {
 impl MemorySource {
     /// A source of these bytes, of which a read gives at most `piece` (at least 1), and whose reads of these
     /// numbers fail.
-    pub fn start(bytes: Octets, piece: usize, failing: Row<u64>) -> MemorySource {
+    pub fn start(bytes: Octets, piece: usize, failing: Row<u64>) -> MemorySource
+        ensures whole { ⟦<MemorySource as Source>⟧.left result ≡ Some bytes }
+        ensures fresh { ⟦<MemorySource as Source>⟧.faults result ≡ 0 }
+    {
         MemorySource {
             bytes,
             at: 0,

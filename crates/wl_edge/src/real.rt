@@ -1,6 +1,6 @@
 //! Sources and sinks over real streams.
 
-ghost use Rattle.std.specs.Prelude.{None};
+ghost use Rattle.std.specs.Prelude.{None, ◌≡◌};
 
 use crate::sink::{Sent, Sink};
 use crate::source::{Source, Taken};
@@ -15,7 +15,10 @@ pub struct RealSource<R> {
 
 impl<R: Read + Drop> RealSource<R> {
     /// A source over this stream.
-    pub fn start(stream: R) -> RealSource<R> {
+    pub fn start(stream: R) -> RealSource<R>
+        ensures untold { ⟦<RealSource<R> as Source>⟧.left result ≡ None }
+        ensures fresh { ⟦<RealSource<R> as Source>⟧.faults result ≡ 0 }
+    {
         RealSource { stream, faults: 0 }
     }
 }
@@ -46,7 +49,10 @@ pub struct RealSink<W> {
 
 impl<W: Write + Drop> RealSink<W> {
     /// A sink over this stream.
-    pub fn start(stream: W) -> RealSink<W> {
+    pub fn start(stream: W) -> RealSink<W>
+        ensures untold { ⟦<RealSink<W> as Sink>⟧.taken result ≡ None }
+        ensures fresh { ⟦<RealSink<W> as Sink>⟧.faults result ≡ 0 }
+    {
         RealSink { stream, faults: 0 }
     }
 }

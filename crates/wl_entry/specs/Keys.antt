@@ -1,5 +1,6 @@
--- What entries, SVIDs and bundles are put in order by.
+-- What entries, asks, SVIDs and bundles are put in order by.
 use Rattle.std.specs.Prelude.{ℕ, List}
+use Rattle.wl_entry.specs.declared.asks.Ask.{Ask}
 use Rattle.wl_entry.specs.declared.entries.Entry.{Entry}
 use Rattle.wl_entry.specs.declared.signing.Svid.{Svid}
 use Rattle.wl_entry.specs.declared.bundles.Bundle.{Bundle}
@@ -8,7 +9,10 @@ use Rattle.wl_entry.specs.declared.bundles.Bundle.{Bundle}
 abbrev pub entry_key : Entry → List ℕ
 entry_key e = e.id
 
--- an SVID by the id of its entry
+-- an ask and an SVID by the id of the entry
+abbrev pub ask_key : Ask → List ℕ
+ask_key a = a.entry_id
+
 abbrev pub svid_key : Svid → List ℕ
 svid_key s = s.ask.entry_id
 

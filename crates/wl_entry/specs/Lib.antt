@@ -3,3 +3,4 @@ pub mod Fitness
 pub mod Keys
 pub mod Limits
 pub mod Same
+pub mod Entitled

@@ -1,7 +1,8 @@
-//! The keys by which entries, SVIDs and bundles are put in order and found.
+//! The keys by which entries, asks, SVIDs and bundles are put in order and found.
 
-ghost use Rattle.wl_entry.specs.Keys.{entry_key, svid_key, bundle_key};
+ghost use Rattle.wl_entry.specs.Keys.{entry_key, ask_key, svid_key, bundle_key};
 
+use crate::asks::Ask;
 use crate::bundles::Bundle;
 use crate::entries::Entry;
 use crate::signing::Svid;
@@ -12,6 +13,14 @@ impl Keyed for Entry {
 
     fn key(&self) -> &[u8] {
         self.id.as_slice()
+    }
+}
+
+impl Keyed for Ask {
+    ghost key = { ask_key };
+
+    fn key(&self) -> &[u8] {
+        self.entry_id.as_slice()
     }
 }
 

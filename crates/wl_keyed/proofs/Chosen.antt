@@ -88,14 +88,15 @@ above_at key (z ∷ zs) (suc n) (suc m) x rises is later = above_at key zs n m x
 abbrev pub at_places : {X : Type 0} → List X → List ℕ → List X
 at_places xs places = flat_map (λ place. option_to_list (slice_get xs place)) places
 
-all_append : (P : List ℕ → Type 0) {X : Type 0} (key : X → List ℕ) (xs ys : List X) → AllByRecursion P (map key xs) → AllByRecursion P (map key ys) → AllByRecursion P (map key (xs ++ ys))
-all_append P key [] ys a b = b
-all_append P key (x ∷ xs) ys a b = (a.0, all_append P key xs ys a.1 b)
+-- of two lists, one behind the other
+pub keys_append : (P : List ℕ → Type 0) {X : Type 0} (key : X → List ℕ) (xs ys : List X) → AllByRecursion P (map key xs) → AllByRecursion P (map key ys) → AllByRecursion P (map key (xs ++ ys))
+keys_append P key [] ys a b = b
+keys_append P key (x ∷ xs) ys a b = (a.0, keys_append P key xs ys a.1 b)
 
 above_places : {X : Type 0} (key : X → List ℕ) (xs : List X) (n : ℕ) (x : X) (places : List ℕ) → Rises (map key xs) → slice_get xs n ≡ Some x → AllByRecursion (λ m. nat_cmp n m ≡ Less) places → AllByRecursion (λ y. slice_cmp nat_cmp (key x) y ≡ Less) (map key (at_places xs places))
 above_places key xs n x [] rises is later = tt
 above_places key xs n x (m ∷ ms) rises is later =
-    all_append (λ y. slice_cmp nat_cmp (key x) y ≡ Less) key (option_to_list (slice_get xs m)) (at_places xs ms) (above_at key xs n m x rises is (ranked n m Less (sym later.0))) (above_places key xs n x ms rises is later.1)
+    keys_append (λ y. slice_cmp nat_cmp (key x) y ≡ Less) key (option_to_list (slice_get xs m)) (at_places xs ms) (above_at key xs n m x rises is (ranked n m Less (sym later.0))) (above_places key xs n x ms rises is later.1)
 
 rises_first : {X : Type 0} (key : X → List ℕ) (xs : List X) (n : ℕ) (places : List ℕ) (o : Option X) → o ≡ slice_get xs n → Rises (map key xs) → AllByRecursion (λ m. nat_cmp n m ≡ Less) places → Rises (map key (at_places xs places)) → Rises (map key (option_to_list o ++ at_places xs places))
 unfolding IsStrictlySortedBy
@@ -108,10 +109,10 @@ unfolding IsStrictlySortedBy
 rises_places key xs [] rises climbs = tt
 rises_places key xs (n ∷ ns) rises climbs = rises_first key xs n ns (slice_get xs n) refl rises climbs.0 (rises_places key xs ns rises climbs.1)
 
-both_append : {X : Type 0} (P : X → Type 0) (xs ys : List X) → AllByRecursion P xs → AllByRecursion P ys → AllByRecursion P (xs ++ ys)
-both_append P [] ys a b = b
-both_append P (x ∷ xs) ys a b = (a.0, both_append P xs ys a.1 b)
+pub all_append : {X : Type 0} (P : X → Type 0) (xs ys : List X) → AllByRecursion P xs → AllByRecursion P ys → AllByRecursion P (xs ++ ys)
+all_append P [] ys a b = b
+all_append P (x ∷ xs) ys a b = (a.0, all_append P xs ys a.1 b)
 
 pub all_places : {X : Type 0} (P : X → Type 0) (xs : List X) (places : List ℕ) → AllByRecursion P xs → AllByRecursion P (at_places xs places)
 all_places P xs [] all = tt
-all_places P xs (n ∷ ns) all = both_append P (option_to_list (slice_get xs n)) (at_places xs ns) (all_at P xs n all) (all_places P xs ns all)
+all_places P xs (n ∷ ns) all = all_append P (option_to_list (slice_get xs n)) (at_places xs ns) (all_at P xs n all) (all_places P xs ns all)

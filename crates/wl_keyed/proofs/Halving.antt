@@ -1,5 +1,5 @@
 -- Where the item of a key is in a list by ascending key.
-use Rattle.std.specs.Prelude.{◌≡◌, if◌then◌else◌, ℕ, false, List, [], ◌∷◌, ◌++◌, map, Some, None}
+use Rattle.std.specs.Prelude.{◌≡◌, ℕ, false, List, [], ◌∷◌, ◌++◌, map, Some}
 use Rattle.std.specs.Str.{bytes_eq}
 use Rattle.std.specs.List.{AllByRecursion}
 use Rattle.std.specs.List.Sorted.{IsStrictlySortedBy}
@@ -11,22 +11,15 @@ use Rattle.std.proofs.lemmas.Map.Text.{is_eq-slice_cmp}
 use Rattle.wl_words.specs.Lists.{Rises}
 use Rattle.wl_keyed.specs.Keys.{item_at}
 
-abbrev order : List ℕ → List ℕ → Ordering
+abbrev pub order : List ℕ → List ℕ → Ordering
 order a b = slice_cmp nat_cmp a b
 
 -- byte strings that an order parts are not equal
-not_same : (a k : List ℕ) (o : Ordering) → order a k ≡ o → is_eq o ≡ false → bytes_eq a k ≡ false
+pub not_same : (a k : List ℕ) (o : Ordering) → order a k ≡ o → is_eq o ≡ false → bytes_eq a k ≡ false
 not_same a k o at other = sym (is_eq-slice_cmp a k) ∙ ap is_eq at ∙ other
 
-turned : (a b : List ℕ) → order a b ≡ Less → order b a ≡ Greater
+pub turned : (a b : List ℕ) → order a b ≡ Less → order b a ≡ Greater
 turned a b less = nat_list_cmp_total.antisymm b a ∙ ap ordering_reverse less
-
--- no item above a greater one has the key
-pub none_above : {X : Type 0} (key : X → List ℕ) (k x : List ℕ) (xs : List X) → order k x ≡ Less → AllByRecursion (λ y. order x y ≡ Less) (map key xs) → item_at key xs k ≡ None
-unfolding item_at
-none_above key k x [] less above = refl
-none_above key k x (y ∷ ys) less above =
-    rw (not_same (key y) k Greater (turned k (key y) (nat_list_cmp_total.trans k x (key y) less above.0)) refl) (none_above key k x ys less above.1)
 
 -- items below the key are passed over
 pub skip_below : {X : Type 0} (key : X → List ℕ) (k : List ℕ) (below rest : List X) → AllByRecursion (λ z. order z k ≡ Less) (map key below) → item_at key (below ++ rest) k ≡ item_at key rest k
@@ -56,40 +49,22 @@ parted key (z ∷ zs) first above rises =
     let rest = parted key zs first above rises.1 in
     record { under = (last_of key (key z) zs first above rises.0, rest.under); over = rest.over; front = (front_of key (key z) zs (first ∷ above) rises.0, rest.front); back = rest.back }
 
-all_below : (k x : List ℕ) (zs : List (List ℕ)) → order x k ≡ Less → AllByRecursion (λ z. order z x ≡ Less) zs → AllByRecursion (λ z. order z k ≡ Less) zs
+pub all_below : (k x : List ℕ) (zs : List (List ℕ)) → order x k ≡ Less → AllByRecursion (λ z. order z x ≡ Less) zs → AllByRecursion (λ z. order z k ≡ Less) zs
 all_below k x [] less all = tt
 all_below k x (z ∷ zs) less all = (nat_list_cmp_total.trans z x k all.0 less, all_below k x zs less all.1)
 
 level : (x k z : List ℕ) → order x k ≡ Equal → order z x ≡ Less → order z k ≡ Less
 level x k z same less = nat_list_cmp_total.antisymm z k ∙ ap ordering_reverse (sym (nat_list_cmp_total.congr x k z same)) ∙ sym (nat_list_cmp_total.antisymm z x) ∙ less
 
-all_level : (k x : List ℕ) (zs : List (List ℕ)) → order x k ≡ Equal → AllByRecursion (λ z. order z x ≡ Less) zs → AllByRecursion (λ z. order z k ≡ Less) zs
+pub all_level : (k x : List ℕ) (zs : List (List ℕ)) → order x k ≡ Equal → AllByRecursion (λ z. order z x ≡ Less) zs → AllByRecursion (λ z. order z k ≡ Less) zs
 all_level k x [] same all = tt
 all_level k x (z ∷ zs) same all = (level x k z same all.0, all_level k x zs same all.1)
-
--- the item in the middle is below the key: the search goes on above it
-pub go_above : {X : Type 0} (key : X → List ℕ) (k : List ℕ) (below : List X) (first : X) (above : List X) → Parted key below first above → order (key first) k ≡ Less → item_at key (below ++ first ∷ above) k ≡ item_at key above k
-unfolding item_at
-go_above key k below first above p less =
-    skip_below key k below (first ∷ above) (all_below k (key first) (map key below) less p.under) ∙ rw (not_same (key first) k Less less refl) refl
 
 -- it has the key
 pub go_there : {X : Type 0} (key : X → List ℕ) (k : List ℕ) (below : List X) (first : X) (above : List X) → Parted key below first above → order (key first) k ≡ Equal → item_at key (below ++ first ∷ above) k ≡ Some first
 unfolding item_at
 go_there key k below first above p same =
     skip_below key k below (first ∷ above) (all_level k (key first) (map key below) same p.under) ∙ rw (sym (is_eq-slice_cmp (key first) k) ∙ ap is_eq same) refl
-
-front_find : {X : Type 0} (key : X → List ℕ) (k : List ℕ) (below rest : List X) → item_at key rest k ≡ None → item_at key (below ++ rest) k ≡ item_at key below k
-unfolding item_at
-front_find key k [] rest none = none
-front_find key k (z ∷ zs) rest none = ap (λ o. if bytes_eq (key z) k then Some z else o) (front_find key k zs rest none)
-
--- it is above the key: the search goes on below it
-pub go_below : {X : Type 0} (key : X → List ℕ) (k : List ℕ) (below : List X) (first : X) (above : List X) → Parted key below first above → order (key first) k ≡ Greater → item_at key (below ++ first ∷ above) k ≡ item_at key below k
-unfolding item_at
-go_below key k below first above p greater =
-    let less : order k (key first) ≡ Less = nat_list_cmp_total.antisymm k (key first) ∙ ap ordering_reverse greater in
-    front_find key k below (first ∷ above) (rw (not_same (key first) k Greater greater refl) (none_above key k (key first) above less p.over))
 
 -- the parts of a list that rises
 pub parts_of : {X : Type 0} (key : X → List ℕ) (items below : List X) (first : X) (above : List X) → items ≡ below ++ first ∷ above → Rises (map key items) → Parted key below first above

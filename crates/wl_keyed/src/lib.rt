@@ -1,6 +1,7 @@
 //! Lists by ascending key, as entries by id and bundles by domain.
 //!
-//! [`find_by_key`] gives the item of a key by halving, so that no call walks over a whole list for one item.
+//! [`find_by_key`] gives the item of a key by halving, [`place_by_key`] its place, and [`mark_key`] marks it, so that no
+//! call walks over a whole list for one item.
 #![tactic(auto)]
 
 mod finding;
@@ -8,5 +9,5 @@ mod keyed;
 #[cfg(test)]
 mod tests;
 
-pub use finding::find_by_key;
+pub use finding::{find_by_key, mark_key, place_by_key};
 pub use keyed::Keyed;

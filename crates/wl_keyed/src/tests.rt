@@ -1,6 +1,6 @@
 ghost use Rattle.std.specs.Prelude.{ℕ, List};
 
-use crate::{Keyed, find_by_key};
+use crate::{Keyed, find_by_key, place_by_key};
 use std::alloc::AllocGlobal;
 use std::test::Fail;
 use wl_octets::Shared;
@@ -45,6 +45,23 @@ fn finds_each_and_no_other(rt: HostRuntime) {
     ] {
         assert!(rt; !is_there(key));
     }
+}
+
+/// The place of a word among three.
+fn place_of(key: &[u8]) -> Option<usize> {
+    let words = [
+        Word { text: b"a" },
+        Word { text: b"ab" },
+        Word { text: b"c" },
+    ];
+    place_by_key(&words, key)
+}
+
+#[test]
+fn places_from_0(rt: HostRuntime) {
+    assert_eq!(rt; place_of(b"a"), Some(0));
+    assert_eq!(rt; place_of(b"c"), Some(2));
+    assert_eq!(rt; place_of(b"b"), None);
 }
 
 #[test]

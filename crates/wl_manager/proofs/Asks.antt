@@ -1,14 +1,13 @@
 -- The asks of entries rise as the entries do.
-use Rattle.std.specs.Prelude.{◌≡◌, ◌≤◌, ◌<◌, ◌^◌, List, map, length}
-use Rattle.std.proofs.Common.{arith, refl, sym, subst}
-use Rattle.std.proofs.lemmas.List.{length-map}
+use Rattle.std.specs.Prelude.{◌≡◌, List, map}
+use Rattle.std.proofs.Common.{refl, sym, subst}
 use Rattle.wl_words.specs.Lists.{Rises}
 use Rattle.wl_keyed.proofs.Chosen.{rises_map}
 use Rattle.wl_entry.specs.Asks.{ask_of}
 use Rattle.wl_entry.specs.Keys.{entry_key}
 use Rattle.wl_entry.specs.declared.asks.Ask.{Ask}
 use Rattle.wl_entry.specs.declared.entries.Entry.{Entry}
-use Rattle.svid_cache.specs.Caches.{ask_key}
+use Rattle.wl_entry.specs.Keys.{ask_key}
 use Rattle.wl_manager.specs.Stores.{asks_of}
 
 pub asks_rise : (entries : List Entry) (asks : List Ask) → asks ≡ asks_of entries → Rises (map entry_key entries) → Rises (map ask_key asks)

@@ -1,21 +1,20 @@
 -- What is kept can be published.
-use Rattle.std.specs.Prelude.{◌≡◌, ℕ, ◌≤◌, Bool, true, false, if◌then◌else◌, List, [], ◌∷◌, map, length, Option, Some, None, option_map, IsSomeAnd}
+use Rattle.std.specs.Prelude.{◌≡◌, ℕ, Bool, true, false, if◌then◌else◌, List, [], ◌∷◌, map, Option, Some, None, option_map, IsSomeAnd}
 use Rattle.std.specs.Str.{bytes_eq}
-use Rattle.std.specs.List.{AllByRecursion}
-use Rattle.std.proofs.Common.{arith, refl, sym, ◌∙◌, ap, subst}
+use Rattle.std.proofs.Common.{arith, refl, sym, ◌∙◌, ap}
 use Rattle.wl_words.specs.Lists.{Rises}
 use Rattle.wl_keyed.specs.Keys.{item_at}
 use Rattle.wl_keyed.proofs.Chosen.{all_such}
 use Rattle.wl_entry.specs.Asks.{ask_of, is_ask_of}
 use Rattle.wl_entry.specs.Keys.{entry_key}
-use Rattle.wl_entry.specs.Limits.{SignedWithin}
 use Rattle.wl_entry.specs.Same.{same_ask}
 use Rattle.wl_entry.specs.declared.asks.Ask.{Ask}
 use Rattle.wl_entry.specs.declared.entries.Entry.{Entry}
 use Rattle.wl_entry.specs.declared.bundles.Bundle.{Bundle}
 use Rattle.wl_entry.specs.declared.signing.Svid.{Svid}
-use Rattle.wl_snapshot.specs.Snapshots.{IsPublication, IsAsked, SvidWithin}
-use Rattle.svid_cache.specs.Caches.{Cached, IsCached, ask_key, is_listed}
+use Rattle.wl_snapshot.specs.Snapshots.{IsPublication, IsAsked}
+use Rattle.wl_entry.specs.Keys.{ask_key}
+use Rattle.svid_cache.specs.Caches.{Cached, IsCached, is_listed}
 use Rattle.svid_cache.proofs.Finding.{passes, listed_found}
 use Rattle.wl_manager.specs.Stores.{asks_of}
 use Rattle.wl_manager.specs.Managers.{IsStock}
@@ -39,7 +38,7 @@ passes_is a (Some e) is = is
 asked : (entries : List Entry) (asks : List Ask) → asks ≡ asks_of entries → Rises (map entry_key entries) → (s : Svid) → is_listed asks s.ask ≡ true → IsAsked entries s
 asked entries asks are rises s listed =
     let found : passes (λ b. same_ask b s.ask) (option_map ask_of (item_at entry_key entries s.ask.entry_id)) ≡ true =
-      ap (passes (λ b. same_ask b s.ask)) (sym (ask_at entries s.ask.entry_id) ∙ ap (λ l. item_at ask_key l s.ask.entry_id) (sym are)) ∙ sym (listed_found asks s.ask (asks_rise entries asks are rises)) ∙ listed in
+    ap (passes (λ b. same_ask b s.ask)) (sym (ask_at entries s.ask.entry_id) ∙ ap (λ l. item_at ask_key l s.ask.entry_id) (sym are)) ∙ sym (listed_found asks s.ask (asks_rise entries asks are rises)) ∙ listed in
     passes_is s.ask (item_at entry_key entries s.ask.entry_id) found
 
 pub publishable : (n : ℕ) (domain : List ℕ) (entries : List Entry) (bundles : List Bundle) (c : Cached) → IsStock entries bundles → IsCached c → c.asks ≡ asks_of entries → IsPublication (record { number = n; domain = domain; entries = entries; svids = c.svids; bundles = bundles })

@@ -2,7 +2,7 @@
 use Rattle.std.specs.Prelude.{◌≡◌, ℕ, ◌==◌, ◌&&◌, Bool, true, false, List, [], ◌∷◌}
 use Rattle.std.specs.Str.{bytes_eq}
 use Rattle.std.specs.Cmp.Lexicographic.{pointwise}
-use Rattle.std.proofs.Common.{arith, refl, sym, ap}
+use Rattle.std.proofs.Common.{arith, refl}
 use Rattle.std.proofs.lemmas.Slice.Eq.{bytes_eq-Decides}
 use Rattle.std.proofs.lemmas.Bool.Decides.{nat_tests}
 use Rattle.wl_entry.specs.declared.asks.Ask.{Ask}
@@ -42,8 +42,10 @@ ask_is a b is =
     let spiffe = both (bytes_eq a.spiffe_id b.spiffe_id) _ id.1 in
     let names = both (pointwise bytes_eq a.dns_names b.dns_names) (a.ttl == b.ttl) spiffe.1 in
     λ i. record {
-      entry_id = bytes_are a.entry_id b.entry_id id.0 i; spiffe_id = bytes_are a.spiffe_id b.spiffe_id spiffe.0 i;
-      dns_names = texts_are a.dns_names b.dns_names names.0 i; ttl = numbers_are a.ttl b.ttl names.1 i;
+      entry_id = bytes_are a.entry_id b.entry_id id.0 i;
+      spiffe_id = bytes_are a.spiffe_id b.spiffe_id spiffe.0 i;
+      dns_names = texts_are a.dns_names b.dns_names names.0 i;
+      ttl = numbers_are a.ttl b.ttl names.1 i;
     }
 
 pub entry_is : (a b : Entry) → same_entry a b ≡ true → a ≡ b
@@ -55,9 +57,13 @@ entry_is a b is =
     let names = both (pointwise bytes_eq a.dns_names b.dns_names) _ federates.1 in
     let ttl = both (a.ttl == b.ttl) (bytes_eq a.hint b.hint) names.1 in
     λ i. record {
-      id = bytes_are a.id b.id id.0 i; spiffe_id = bytes_are a.spiffe_id b.spiffe_id spiffe.0 i;
-      selectors = texts_are a.selectors b.selectors selectors.0 i; federates_with = texts_are a.federates_with b.federates_with federates.0 i;
-      dns_names = texts_are a.dns_names b.dns_names names.0 i; ttl = numbers_are a.ttl b.ttl ttl.0 i; hint = bytes_are a.hint b.hint ttl.1 i;
+      id = bytes_are a.id b.id id.0 i;
+      spiffe_id = bytes_are a.spiffe_id b.spiffe_id spiffe.0 i;
+      selectors = texts_are a.selectors b.selectors selectors.0 i;
+      federates_with = texts_are a.federates_with b.federates_with federates.0 i;
+      dns_names = texts_are a.dns_names b.dns_names names.0 i;
+      ttl = numbers_are a.ttl b.ttl ttl.0 i;
+      hint = bytes_are a.hint b.hint ttl.1 i;
     }
 
 signed_is : (a b : Signed) → same_signed a b ≡ true → a ≡ b
@@ -66,8 +72,10 @@ signed_is a b is =
     let key = both (bytes_eq a.key b.key) _ chain.1 in
     let times = both (a.not_before == b.not_before) (a.not_after == b.not_after) key.1 in
     λ i. record {
-      chain = bytes_are a.chain b.chain chain.0 i; key = bytes_are a.key b.key key.0 i;
-      not_before = numbers_are a.not_before b.not_before times.0 i; not_after = numbers_are a.not_after b.not_after times.1 i;
+      chain = bytes_are a.chain b.chain chain.0 i;
+      key = bytes_are a.key b.key key.0 i;
+      not_before = numbers_are a.not_before b.not_before times.0 i;
+      not_after = numbers_are a.not_after b.not_after times.1 i;
     }
 
 pub svid_is : (a b : Svid) → same_svid a b ≡ true → a ≡ b
@@ -115,12 +123,12 @@ ask_self a = both_true _ _ (bytes_self a.entry_id) (both_true _ _ (bytes_self a.
 entry_self : (a : Entry) → same_entry a a ≡ true
 entry_self a =
     both_true _ _ (bytes_self a.id) (both_true _ _ (bytes_self a.spiffe_id) (both_true _ _ (texts_self a.selectors)
-      (both_true _ _ (texts_self a.federates_with) (both_true _ _ (texts_self a.dns_names) (both_true _ _ (number_self a.ttl) (bytes_self a.hint))))))
+    (both_true _ _ (texts_self a.federates_with) (both_true _ _ (texts_self a.dns_names) (both_true _ _ (number_self a.ttl) (bytes_self a.hint))))))
 
 svid_self : (a : Svid) → same_svid a a ≡ true
 svid_self a =
     both_true _ _ (ask_self a.ask) (both_true _ _ (bytes_self a.signed.chain) (both_true _ _ (bytes_self a.signed.key)
-      (both_true _ _ (number_self a.signed.not_before) (number_self a.signed.not_after))))
+    (both_true _ _ (number_self a.signed.not_before) (number_self a.signed.not_after))))
 
 bundle_self : (a : Bundle) → same_bundle a a ≡ true
 bundle_self a = both_true _ _ (bytes_self a.domain) (both_true _ _ (bytes_self a.x509) (bytes_self a.jwks))

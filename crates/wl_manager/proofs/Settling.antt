@@ -22,7 +22,7 @@ use Rattle.wl_entry.specs.declared.entries.Entry.{Entry}
 use Rattle.wl_entry.specs.declared.bundles.Bundle.{Bundle}
 use Rattle.wl_entry.specs.declared.signing.Svid.{Svid}
 use Rattle.wl_snapshot.specs.Snapshots.{Publication}
-use Rattle.wl_manager.specs.Stores.{Store, asks_of, cached_of, refused, install, svids_after, as_unfit, leaf_judged, shows, shows_parts, publish, next}
+use Rattle.wl_manager.specs.Stores.{Store, asks_of, cached_of, refused, install, svids_after, as_unfit, leaf_judged, shows, shows_parts, publish}
 use Rattle.svid_cache.specs.Caches.{Cached, is_listed, kept_for, put, is_below, is_above, unless_older, unless_unfit}
 use Rattle.wl_manager.specs.declared.tickets.Change.TheVariants as change
 use Rattle.wl_manager.specs.Managers.{Managed, keeping, managed, change_to, cached_in, Trusted, AllTrusted, is_refused, Lands}
@@ -35,7 +35,7 @@ settled_same s m is =
     let entries = both (pointwise same_entry m.published.entries s.entries) _ is in
     let parts = both (pointwise same_svid m.published.svids s.svids) (pointwise same_bundle m.published.bundles s.bundles) entries.1 in
     (λ i. record { store = record { strict = s.strict; entries = entries_are m.published.entries s.entries entries.0 i; bundles = bundles_are m.published.bundles s.bundles parts.1 i; svids = svids_are m.published.svids s.svids parts.0 i; flying = s.flying; last = s.last }; published = m.published })
-      ∙ (λ i. record { store = s; published = if sym is i then m.published else publish (m.published.number + 1) m.published.domain s })
+    ∙ (λ i. record { store = s; published = if sym is i then m.published else publish (m.published.number + 1) m.published.domain s })
 
 -- where it does not
 pub settled_new : (s : Store) (m : Managed) → shows_parts m.published s.entries s.svids s.bundles ≡ false → managed s.strict (publish (m.published.number + 1) m.published.domain s) s.flying s.last ≡ keeping s m
@@ -153,7 +153,7 @@ unfolding refused install caches.install
 cache_installs now v s none =
     let parts = refused_go (is_listed (asks_of s.entries) v.ask) (signed_unfit now v.signed) (leaf_judged s.strict v.ask v.signed) none in
     (λ i. if parts.0 i then unless_unfit (parts.1 i) (unless_older v.signed (kept_for s.svids v.ask)) else installed.NoSuchAsk)
-      ∙ (λ i. unwrap_or (sym none i) (unless_older v.signed (kept_for s.svids v.ask)))
+    ∙ (λ i. unwrap_or (sym none i) (unless_older v.signed (kept_for s.svids v.ask)))
 
 -- what is refused is the answer
 pub refusal_installs : (now : ℕ) (a : Ask) (g : Signed) (s : Store) (r : Installed) → refused now a g s ≡ Some r → install now a g s ≡ r
@@ -182,7 +182,7 @@ pub refused_lands : (signed : Ask → Signed → Type 0) (now : ℕ) (s : Store)
 refused_lands signed now s v r c trusted is same =
     let away : is_refused r ≡ true = refusal_is now v.ask v.signed s r is in
     subst (λ k. Lands signed s v r k) (sym same)
-      (record { asks = refl; svids = sym (stays r v s.svids away); trusted = trusted; same = λ away. refl; other = λ yes. grind (arith, yes, away) })
+    (record { asks = refl; svids = sym (stays r v s.svids away); trusted = trusted; same = λ away. refl; other = λ yes. grind (arith, yes, away) })
 
 lands_go : (signed : Ask → Signed → Type 0) (s : Store) (v : Svid) → AllTrusted signed s.strict s.svids → Trusted signed s.strict v.ask v.signed → (i : Installed) → (i ≡ installed.Kept → unless_older v.signed (kept_for s.svids v.ask) ≡ installed.Kept) → Lands signed s v i (caches.after i v (cached_of s))
 lands_go signed s v trusted one installed.Kept kept = record { asks = refl; svids = refl; trusted = put_trusted signed s.strict v s.svids trusted one; same = λ away. grind (arith, away); other = λ yes. put_differs v s.svids (kept refl) }

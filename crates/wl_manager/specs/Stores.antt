@@ -1,5 +1,5 @@
 -- What is kept, and what each event makes of it (own rules after the SPIRE agent).
-use Rattle.std.specs.Prelude.{ℕ, ◌+◌, ◌==◌, ◌&&◌, Bool, true, false, not, if◌then◌else◌, List, [], ◌∷◌, ◌++◌, map, filter, length, Option, Some, None, unwrap_or}
+use Rattle.std.specs.Prelude.{ℕ, ◌+◌, ◌==◌, ◌&&◌, Bool, not, if◌then◌else◌, List, [], ◌∷◌, ◌++◌, map, filter, length, Option, Some, None, unwrap_or}
 use Rattle.std.specs.List.{list_any}
 use Rattle.std.specs.Cmp.Lexicographic.{pointwise}
 use Rattle.wl_entry.specs.Asks.{ask_of}
@@ -65,8 +65,12 @@ numbered n (a ∷ more) = record { number = n + 1; ask = a } ∷ numbered (n + 1
 unfoldable pub claimed : ℕ → Store → Store
 claimed now s =
     record {
-      strict = s.strict; entries = s.entries; bundles = s.bundles; svids = (swept now (cached_of s)).svids;
-      flying = s.flying ++ numbered s.last (claimed_asks now s); last = s.last + length (claimed_asks now s);
+      strict = s.strict;
+      entries = s.entries;
+      bundles = s.bundles;
+      svids = (swept now (cached_of s)).svids;
+      flying = s.flying ++ numbered s.last (claimed_asks now s);
+      last = s.last + length (claimed_asks now s);
     }
 
 -- ---- a ticket comes back
@@ -112,9 +116,12 @@ svids_after _ v svids = svids
 unfoldable pub landed : ℕ → ℕ → Ask → Signed → Store → Store
 landed now n a g s =
     record {
-      strict = s.strict; entries = s.entries; bundles = s.bundles;
+      strict = s.strict;
+      entries = s.entries;
+      bundles = s.bundles;
       svids = svids_after (install now a g s) (record { ask = a; signed = g }) s.svids;
-      flying = without n s.flying; last = s.last;
+      flying = without n s.flying;
+      last = s.last;
     }
 
 -- ---- what is published

@@ -28,9 +28,7 @@ pub(crate) fn has_number(flying: &[Flight], number: u64) -> bool
 pub(crate) fn has_ticket(flying: &[Flight], ticket: &Ticket) -> bool
     ensures { result ≡ flies ticket.now.number ticket.now.ask flying.now }
 {
-    flying
-        .iter()
-        .any(|flight| flight.number == ticket.number && *flight.ask.part() == ticket.ask)
+    flying.iter().any(|flight| flight.number == ticket.number && *flight.ask.part() == ticket.ask)
 }
 
 /// The asks that have no ticket in flight.

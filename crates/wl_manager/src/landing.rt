@@ -20,12 +20,7 @@ use wl_x509::leaf_unfit;
 
 impl<V: Voucher> Manager<V> {
     /// The first reason that the leaf gives, in a strict store.
-    fn judge_leaf(
-        &self,
-        alloc: Global,
-        ask: &Ask,
-        signed: &Signed,
-    ) -> Result<Option<Unfit>, Memory>
+    fn judge_leaf(&self, alloc: Global, ask: &Ask, signed: &Signed) -> Result<Option<Unfit>, Memory>
         ensures value { IfOk result (λ u. u ≡ leaf_judged self.now.store.strict ask.now signed.now) }
         ensures named { IfOk result (λ u. u ≡ None → self.now.store.strict ≡ true → NamesAsk ask.now signed.now) }
     {
@@ -80,11 +75,7 @@ impl<V: Voucher> Manager<V> {
     }
 
     /// The cache as it is, where a signed identity is refused.
-    fn refused_cache(
-        &self,
-        alloc: Global,
-        refusal: Installed,
-    ) -> Result<(Cache, Installed), Memory>
+    fn refused_cache(&self, alloc: Global, refusal: Installed) -> Result<(Cache, Installed), Memory>
         ensures answer { IfOk result (λ r. r.1 ≡ refusal) }
         ensures cache { IfOk result (λ r. r.0 ≡ cached_of self.now.store) }
     {
@@ -147,8 +138,7 @@ impl<V: Voucher> Manager<V> {
         let flying = self.fewer_flights(alloc, ticket.number)?;
         let (cache, installed) = self.installed_cache(alloc, svid, now)?;
         let is_same = is_refused(&installed);
-        let (next, change) =
-            self.settle_svids(alloc, cache, is_same, flying, self.last_number())?;
+        let (next, change) = self.settle_svids(alloc, cache, is_same, flying, self.last_number())?;
         Ok(Prepared {
             next,
             answer: Adopted {

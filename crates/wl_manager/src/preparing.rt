@@ -61,7 +61,12 @@ impl<V: Voucher> Prepared<V> {
 
 impl<V: Voucher> Manager<V> {
     /// The manager with these parts, where the last publication stays.
-    pub(crate) fn same(&self, cache: Cache, flying: Vec<Flight>, last: u64) -> Result<Manager<V>, Memory>
+    pub(crate) fn same(
+        &self,
+        cache: Cache,
+        flying: Vec<Flight>,
+        last: u64,
+    ) -> Result<Manager<V>, Memory>
         requires { cache ≡ cached_in self.now.published }
         ensures { IfOk result (λ m. m ≡ managed self.now.store.strict self.now.published flying.items last) }
     {
@@ -161,7 +166,11 @@ impl<V: Voucher> Manager<V> {
     }
 
     /// The entries, those of the last publication as they are there.
-    fn known_entries(&self, alloc: Global, entries: Row<Entry>) -> Result<Row<Shared<Entry>>, Memory>
+    fn known_entries(
+        &self,
+        alloc: Global,
+        entries: Row<Entry>,
+    ) -> Result<Row<Shared<Entry>>, Memory>
         ensures { IfOk result (λ r. r ≡ entries) }
     {
         let old = self.published.part();

@@ -1,2 +1,4 @@
 pub mod Choices
 pub mod Sights
+mod Writing
+mod Marking

@@ -4,8 +4,8 @@ use Rattle.std.specs.Str.{bytes_eq}
 use Rattle.std.specs.List.{list_all, list_any, flat_map, AllByRecursion}
 use Rattle.wl_words.specs.Lists.{Rises}
 use Rattle.wl_keyed.specs.Keys.{item_at}
-use Rattle.wl_selector.specs.Selectors.{has_texts}
 use Rattle.wl_entry.specs.Asks.{is_ask_of}
+use Rattle.wl_entry.specs.Entitled.{is_entitled}
 use Rattle.wl_entry.specs.Keys.{entry_key, svid_key, bundle_key}
 use Rattle.wl_entry.specs.Limits.{EntryWithin, BundleWithin, SignedWithin}
 use Rattle.wl_entry.specs.declared.entries.Entry.{Entry}
@@ -19,10 +19,6 @@ pub record Sight : Type 0 where
   pub domain : List ℕ
   pub held : List Held
   pub bundles : List Bundle
-
--- A caller is entitled to an entry where every selector of the entry is among its own.
-unfoldable pub is_entitled : List (List ℕ) → Entry → Bool
-is_entitled selectors e = has_texts selectors e.selectors
 
 -- an entry with its kept SVID or none
 unfoldable pub held_of : List Svid → Entry → Held

@@ -5,12 +5,11 @@ ghost use Rattle.workload_proto.specs.Spelling.{capped};
 ghost use Rattle.wl_snapshot.specs.Answers.{answer_of, message_of, waits, IsShort};
 
 use crate::answers::{Answer, Method3};
-use crate::messages::{bundles_response, jwt_bundles_response, x509_response};
+use crate::messages::put_message;
 use crate::seen::View;
 use crate::sizes::size_of;
 use std::alloc::Global;
 use wl_octets::{Memory, Octets};
-use workload_proto::{encode_bundles, encode_jwt_bundles, encode_x509};
 
 /// The most bytes of a response message.
 const LIMIT: u64 = 4_194_304;
@@ -25,21 +24,18 @@ fn must_wait(method: Method3, view: &View) -> bool
     }
 }
 
-/// A method's message in its spelling, which is within the limit.
-#[tactic(auto, unfolding(crate::specs::Answers::message_of))]
-fn message(alloc: Global, method: Method3, view: &View) -> Result<Octets, Memory>
+/// A method's message in its spelling, which has this size, within the limit.
+fn message(alloc: Global, method: Method3, view: &View, size: u64) -> Result<Octets, Memory>
     requires { length (message_of method view.now) ≤ 4_194_304 }
     ensures { IfOk result (λ o. o ≡ message_of method view.now) }
 {
-    match method {
-        Method3::X509Svid => encode_x509(alloc, &x509_response(alloc, view)?),
-        Method3::X509Bundles => encode_bundles(alloc, &bundles_response(alloc, view)?),
-        Method3::JwtBundles => encode_jwt_bundles(alloc, &jwt_bundles_response(alloc, view)?),
-    }
+    let mut out = Vec::with_capacity(alloc, size as usize)?;
+    put_message(alloc, &mut out, method, view)?;
+    Ok(Octets::from_vec(out))
 }
 
 /// What a streaming call is answered on a view. The message's size is counted first, so that one over the limit of
-/// 4,194,304 bytes is never made.
+/// 4,194,304 bytes is never made, and the message takes one allocation.
 #[tactic(auto, unfolding(crate::specs::Answers::answer_of))]
 pub fn answer(alloc: Global, method: Method3, view: &View) -> Result<Answer, Memory>
     ensures value { IfOk result (λ a. a ≡ answer_of method view.now) }
@@ -55,5 +51,5 @@ pub fn answer(alloc: Global, method: Method3, view: &View) -> Result<Answer, Mem
     if size > LIMIT {
         return Ok(Answer::TooLong(size));
     }
-    Ok(Answer::Message(message(alloc, method, view)?))
+    Ok(Answer::Message(message(alloc, method, view, size)?))
 }

@@ -1,16 +1,17 @@
-//! The messages of a view.
+//! The messages of a view, written item by item: no part is copied but into its message.
 
-ghost use Rattle.std.specs.Prelude.{◌≡◌, ◌++◌, List, codes, IfOk, OnOk};
+ghost use Rattle.std.specs.Prelude.{◌≡◌, ◌≤◌, ◌^◌, ◌++◌, List, codes, length, IfOk, OnOk};
 ghost use Rattle.std.specs.List.{flat_map};
-ghost use Rattle.wl_words.specs.Lists.{Rises};
-ghost use Rattle.wl_snapshot.specs.Answers.{x509_bundle, x509_items, federated_item, map_item, x509_map_item, jwks_map_item, x509_message, bundles_message, jwt_bundles_message};
+ghost use Rattle.workload_proto.specs.Spelling.{x509_field, map_field, spell_x509};
+ghost use Rattle.wl_snapshot.specs.Answers.{x509_bundle, x509_items, federated_item, map_item, x509_map_item, jwks_map_item, x509_message, message_of};
 
+use crate::answers::Method3;
 use crate::seen::{Held, View};
 use std::alloc::Global;
 use wl_entry::Bundle;
 use wl_keyed::find_by_key;
-use wl_octets::{Memory, Octets, Row, Shared};
-use workload_proto::{BundlesResponse, JwtBundlesResponse, MapItem, X509Item, X509Response};
+use wl_octets::{Memory, Octets, Shared};
+use workload_proto::{put_map_item, put_x509_item};
 
 /// The X.509 bundle of the own domain, empty where there is none.
 #[tactic(auto, unfolding(crate::specs::Answers::x509_bundle))]
@@ -23,32 +24,38 @@ pub(crate) fn own_bundle(view: &View) -> &[u8]
     }
 }
 
-/// Adds an entry's `X509SVID`, where it has its SVID.
+/// Writes an entry's `X509SVID`, where it has its SVID.
 #[tactic(auto, unfolding(crate::specs::Answers::x509_items))]
-fn add_svid(alloc: Global, items: &mut Row<X509Item>, own: &[u8], held: &Held) -> Result<(), Memory>
-    ensures { OnOk result (items.new ≡ items.old ++ x509_items own.now held.now) }
+fn put_svid(out: &mut Vec<u8>, own: &[u8], held: &Held) -> Result<(), Memory>
+    requires { length (flat_map x509_field (x509_items own.now held.now)) ≤ 2 ^ 31 }
+    ensures { OnOk result (out.new.items ≡ out.old.items ++ flat_map x509_field (x509_items own.now held.now)) }
 {
+    let Some(svid) = &held.svid else {
+        return Ok(());
+    };
     let entry = held.entry.part();
-    match &held.svid {
-        Some(svid) => Ok(items.push(X509Item {
-            spiffe_id: Octets::from_slice(alloc, entry.spiffe_id.as_bytes())?,
-            chain: svid.part().signed.chain.copy(alloc)?,
-            key: svid.part().signed.key.copy(alloc)?,
-            bundle: Octets::from_slice(alloc, own)?,
-            hint: entry.hint.copy(alloc)?,
-        })?),
-        None => Ok(()),
+    let signed = &svid.part().signed;
+    match put_x509_item(
+        out,
+        entry.spiffe_id.as_bytes(),
+        signed.chain.as_slice(),
+        signed.key.as_slice(),
+        own,
+        entry.hint.as_slice(),
+    ) {
+        Ok(()) => Ok(()),
+        Err(_) => Err(Memory),
     }
 }
 
-fn svids(alloc: Global, own: &[u8], held: &[Held]) -> Result<Row<X509Item>, Memory>
-    ensures { IfOk result (λ r. r ≡ flat_map (x509_items own.now) held.now) }
+fn put_svids(out: &mut Vec<u8>, own: &[u8], held: &[Held]) -> Result<(), Memory>
+    requires { length (flat_map x509_field (flat_map (x509_items own.now) held.now)) ≤ 2 ^ 31 }
+    ensures { OnOk result (out.new.items ≡ out.old.items ++ flat_map x509_field (flat_map (x509_items own.now) held.now)) }
 {
-    let mut items = Row::empty(alloc);
     for one in held {
-        add_svid(alloc, &mut items, own, one)?;
+        put_svid(out, own, one)?;
     }
-    Ok(items)
+    Ok(())
 }
 
 /// A domain's id, which is a map's key.
@@ -60,126 +67,128 @@ fn domain_key(alloc: Global, domain: &[u8]) -> Result<Octets, Memory>
     Ok(key)
 }
 
-/// Adds an item of a map from the ids of domains, where its value is not empty.
-fn add_map_item(
+/// Writes an item of the map of this number from the ids of domains, where its value is not empty.
+fn put_item(
     alloc: Global,
-    items: &mut Row<MapItem>,
+    out: &mut Vec<u8>,
+    number: u32,
     domain: &[u8],
     value: &[u8],
 ) -> Result<(), Memory>
-    ensures { OnOk result (items.new ≡ items.old ++ map_item domain.now value.now) }
+    requires least { 1 ≤ number }
+    requires most { number ≤ 3 }
+    requires size { length (flat_map (map_field number) (map_item domain.now value.now)) ≤ 2 ^ 31 }
+    ensures { OnOk result (out.new.items ≡ out.old.items ++ flat_map (map_field number) (map_item domain.now value.now)) }
 {
     if value.is_empty() {
         return Ok(());
     }
-    Ok(items.push(MapItem {
-        key: domain_key(alloc, domain)?,
-        value: Octets::from_slice(alloc, value)?,
-    })?)
+    let key = domain_key(alloc, domain)?;
+    match put_map_item(out, number, key.as_slice(), value) {
+        Ok(()) => Ok(()),
+        Err(_) => Err(Memory),
+    }
 }
 
+/// Writes a foreign domain's X.509 bundle.
 #[tactic(auto, unfolding(crate::specs::Answers::federated_item))]
-fn add_federated(
-    alloc: Global,
-    items: &mut Row<MapItem>,
-    own: &[u8],
-    bundle: &Bundle,
-) -> Result<(), Memory>
-    ensures { OnOk result (items.new ≡ items.old ++ federated_item own.now bundle.now) }
+fn put_foreign(alloc: Global, out: &mut Vec<u8>, own: &[u8], bundle: &Bundle) -> Result<(), Memory>
+    requires { length (flat_map (map_field 3) (federated_item own.now bundle.now)) ≤ 2 ^ 31 }
+    ensures { OnOk result (out.new.items ≡ out.old.items ++ flat_map (map_field 3) (federated_item own.now bundle.now)) }
 {
     if bundle.domain.as_bytes() == own {
-        Ok(())
-    } else {
-        add_map_item(
-            alloc,
-            items,
-            bundle.domain.as_bytes(),
-            bundle.x509.as_slice(),
-        )
+        return Ok(());
     }
+    let domain = bundle.domain.as_bytes();
+    put_item(alloc, out, 3, domain, bundle.x509.as_slice())
 }
 
-fn federated(alloc: Global, own: &[u8], bundles: &[Shared<Bundle>]) -> Result<Row<MapItem>, Memory>
-    ensures { IfOk result (λ r. r ≡ flat_map (federated_item own.now) bundles.now) }
+fn put_federated(
+    alloc: Global,
+    out: &mut Vec<u8>,
+    own: &[u8],
+    bundles: &[Shared<Bundle>],
+) -> Result<(), Memory>
+    requires { length (flat_map (map_field 3) (flat_map (federated_item own.now) bundles.now)) ≤ 2 ^ 31 }
+    ensures { OnOk result (out.new.items ≡ out.old.items ++ flat_map (map_field 3) (flat_map (federated_item own.now) bundles.now)) }
 {
-    let mut items = Row::empty(alloc);
     for bundle in bundles {
-        add_federated(alloc, &mut items, own, bundle.part())?;
+        put_foreign(alloc, out, own, bundle.part())?;
     }
-    Ok(items)
+    Ok(())
 }
 
 #[tactic(auto, unfolding(crate::specs::Answers::x509_map_item))]
-fn add_x509(alloc: Global, items: &mut Row<MapItem>, bundle: &Bundle) -> Result<(), Memory>
-    ensures { OnOk result (items.new ≡ items.old ++ x509_map_item bundle.now) }
+fn put_x509_part(alloc: Global, out: &mut Vec<u8>, bundle: &Bundle) -> Result<(), Memory>
+    requires { length (flat_map (map_field 2) (x509_map_item bundle.now)) ≤ 2 ^ 31 }
+    ensures { OnOk result (out.new.items ≡ out.old.items ++ flat_map (map_field 2) (x509_map_item bundle.now)) }
 {
-    add_map_item(
-        alloc,
-        items,
-        bundle.domain.as_bytes(),
-        bundle.x509.as_slice(),
-    )
+    let domain = bundle.domain.as_bytes();
+    put_item(alloc, out, 2, domain, bundle.x509.as_slice())
 }
 
-fn x509_bundles(alloc: Global, bundles: &[Shared<Bundle>]) -> Result<Row<MapItem>, Memory>
-    ensures { IfOk result (λ r. r ≡ flat_map x509_map_item bundles.now) }
+fn put_x509_bundles(
+    alloc: Global,
+    out: &mut Vec<u8>,
+    bundles: &[Shared<Bundle>],
+) -> Result<(), Memory>
+    requires { length (flat_map (map_field 2) (flat_map x509_map_item bundles.now)) ≤ 2 ^ 31 }
+    ensures { OnOk result (out.new.items ≡ out.old.items ++ flat_map (map_field 2) (flat_map x509_map_item bundles.now)) }
 {
-    let mut items = Row::empty(alloc);
     for bundle in bundles {
-        add_x509(alloc, &mut items, bundle.part())?;
+        put_x509_part(alloc, out, bundle.part())?;
     }
-    Ok(items)
+    Ok(())
 }
 
 #[tactic(auto, unfolding(crate::specs::Answers::jwks_map_item))]
-fn add_jwks(alloc: Global, items: &mut Row<MapItem>, bundle: &Bundle) -> Result<(), Memory>
-    ensures { OnOk result (items.new ≡ items.old ++ jwks_map_item bundle.now) }
+fn put_jwks_part(alloc: Global, out: &mut Vec<u8>, bundle: &Bundle) -> Result<(), Memory>
+    requires { length (flat_map (map_field 1) (jwks_map_item bundle.now)) ≤ 2 ^ 31 }
+    ensures { OnOk result (out.new.items ≡ out.old.items ++ flat_map (map_field 1) (jwks_map_item bundle.now)) }
 {
-    add_map_item(
-        alloc,
-        items,
-        bundle.domain.as_bytes(),
-        bundle.jwks.as_slice(),
-    )
+    let domain = bundle.domain.as_bytes();
+    put_item(alloc, out, 1, domain, bundle.jwks.as_slice())
 }
 
-fn jwks_bundles(alloc: Global, bundles: &[Shared<Bundle>]) -> Result<Row<MapItem>, Memory>
-    ensures { IfOk result (λ r. r ≡ flat_map jwks_map_item bundles.now) }
+fn put_jwks_bundles(
+    alloc: Global,
+    out: &mut Vec<u8>,
+    bundles: &[Shared<Bundle>],
+) -> Result<(), Memory>
+    requires { length (flat_map (map_field 1) (flat_map jwks_map_item bundles.now)) ≤ 2 ^ 31 }
+    ensures { OnOk result (out.new.items ≡ out.old.items ++ flat_map (map_field 1) (flat_map jwks_map_item bundles.now)) }
 {
-    let mut items = Row::empty(alloc);
     for bundle in bundles {
-        add_jwks(alloc, &mut items, bundle.part())?;
+        put_jwks_part(alloc, out, bundle.part())?;
     }
-    Ok(items)
+    Ok(())
 }
 
-/// `X509SVIDResponse` of a view.
-#[tactic(auto, unfolding(crate::specs::Answers::x509_message))]
-pub(crate) fn x509_response(alloc: Global, view: &View) -> Result<X509Response, Memory>
-    ensures { IfOk result (λ m. m ≡ x509_message view.now) }
+/// Writes `X509SVIDResponse` of a view.
+#[tactic(auto, unfolding(crate::specs::Answers::x509_message, workload_proto::specs::Spelling::spell_x509))]
+fn put_x509(alloc: Global, out: &mut Vec<u8>, view: &View) -> Result<(), Memory>
+    requires { length (spell_x509 (x509_message view.now)) ≤ 2 ^ 31 }
+    ensures { OnOk result (out.new.items ≡ out.old.items ++ spell_x509 (x509_message view.now)) }
 {
-    Ok(X509Response {
-        svids: svids(alloc, own_bundle(view), view.held.as_slice())?,
-        federated: federated(alloc, view.domain.as_bytes(), view.bundles.as_slice())?,
-    })
+    put_svids(out, own_bundle(view), view.held.as_slice())?;
+    let own = view.domain.as_bytes();
+    put_federated(alloc, out, own, view.bundles.as_slice())
 }
 
-/// `X509BundlesResponse` of a view.
-#[tactic(auto, unfolding(crate::specs::Answers::bundles_message))]
-pub(crate) fn bundles_response(alloc: Global, view: &View) -> Result<BundlesResponse, Memory>
-    ensures { IfOk result (λ m. m ≡ bundles_message view.now) }
+/// Writes a method's message behind what `out` holds.
+#[tactic(auto, unfolding(crate::specs::Answers::message_of, crate::specs::Answers::bundles_message, crate::specs::Answers::jwt_bundles_message, workload_proto::specs::Spelling::spell_bundles, workload_proto::specs::Spelling::spell_jwt_bundles))]
+pub(crate) fn put_message(
+    alloc: Global,
+    out: &mut Vec<u8>,
+    method: Method3,
+    view: &View,
+) -> Result<(), Memory>
+    requires { length (message_of method view.now) ≤ 2 ^ 31 }
+    ensures { OnOk result (out.new.items ≡ out.old.items ++ message_of method view.now) }
 {
-    Ok(BundlesResponse {
-        bundles: x509_bundles(alloc, view.bundles.as_slice())?,
-    })
-}
-
-/// `JWTBundlesResponse` of a view.
-#[tactic(auto, unfolding(crate::specs::Answers::jwt_bundles_message))]
-pub(crate) fn jwt_bundles_response(alloc: Global, view: &View) -> Result<JwtBundlesResponse, Memory>
-    ensures { IfOk result (λ m. m ≡ jwt_bundles_message view.now) }
-{
-    Ok(JwtBundlesResponse {
-        bundles: jwks_bundles(alloc, view.bundles.as_slice())?,
-    })
+    match method {
+        Method3::X509Svid => put_x509(alloc, out, view),
+        Method3::X509Bundles => put_x509_bundles(alloc, out, view.bundles.as_slice()),
+        Method3::JwtBundles => put_jwks_bundles(alloc, out, view.bundles.as_slice()),
+    }
 }

@@ -1,24 +1,26 @@
 //! Making views.
 
-ghost use Rattle.std.specs.Prelude.{◌≡◌, ◌<◌, ◌≤◌, ◌||◌, List, map, filter, length, All, IfOk, OnOk, option_map, ◌++◌, option_to_list, slice_get};
+ghost use Rattle.std.specs.Prelude.{◌≡◌, ◌<◌, ◌≤◌, ◌||◌, Bool, false, List, map, filter, length, All, IfOk, OnOk, option_map, ◌++◌, option_to_list, slice_get};
 ghost use Rattle.std.specs.Str.{bytes_eq};
 ghost use Rattle.std.specs.List.{list_any};
 ghost use Rattle.std.specs.List.Sorted.{IsStrictlySortedBy};
 ghost use Rattle.std.specs.Ordering.{nat_cmp};
 ghost use Rattle.wl_words.specs.Lists.{Rises};
-ghost use Rattle.wl_entry.specs.Keys.{entry_key, svid_key};
-ghost use Rattle.wl_snapshot.specs.Views.{view_in, sight_of, entries_at, is_entitled, held_of, is_federated, is_seen, ChosenFrom};
+ghost use Rattle.wl_entry.specs.Entitled.{is_entitled};
+ghost use Rattle.wl_entry.specs.Keys.{entry_key, svid_key, bundle_key};
+ghost use Rattle.wl_snapshot.specs.Views.{view_in, sight_of, entries_at, held_of, is_federated, is_seen, ChosenFrom};
 
 use crate::seen::{Held, View};
 use crate::snapshot::Snapshot;
+use spiffe_id::TrustDomain;
 use std::alloc::Global;
 use wl_entry::{Bundle, Entry, Svid};
-use wl_keyed::find_by_key;
+use wl_keyed::{find_by_key, mark_key};
 use wl_octets::{Memory, Row, Shared};
 use wl_selector::Selectors;
 
 /// Whether the caller is entitled to an entry.
-#[tactic(auto, unfolding(crate::specs::Views::is_entitled))]
+#[tactic(auto, unfolding(wl_entry::specs::Entitled::is_entitled))]
 fn entitles(selectors: &Selectors, entry: &Entry) -> bool
     ensures { result ≡ is_entitled selectors.now entry.now }
 {
@@ -74,54 +76,77 @@ fn hold_all(
     Ok(held)
 }
 
-/// Whether an entry federates with a domain.
-fn federates(entry: &Entry, domain: &[u8]) -> bool
-    ensures { result ≡ list_any (λ other. bytes_eq other domain.now) entry.now.federates_with }
+/// A mark for each bundle, none of them set.
+fn unmarked(alloc: Global, bundles: &[Shared<Bundle>]) -> Result<Vec<bool>, Memory>
+    ensures { IfOk result (λ v. v.items ≡ map (λ b. false) bundles.now) }
 {
-    entry
-        .federates_with
-        .as_slice()
-        .iter()
-        .any(|other| other.as_bytes() == domain)
+    let mut marks = Vec::with_capacity(alloc, bundles.len())?;
+    for _ in bundles {
+        marks.push(false)?;
+    }
+    Ok(marks)
 }
 
-/// Whether one of the entries federates with a domain.
+/// Marks the bundles of these domains.
+fn mark_domains(bundles: &[Shared<Bundle>], domains: &[TrustDomain], marks: &mut [bool])
+    requires rising { Rises (map bundle_key bundles.now) }
+    requires each { length marks.old ≡ length bundles.now }
+    ensures each { length marks.new ≡ length bundles.now }
+    ensures marked { (before : Bundle → Bool) → marks.old ≡ map before bundles.now → marks.new ≡ map (λ b. before b || list_any (λ other. bytes_eq other b.domain) domains.now) bundles.now }
+{
+    for domain in domains {
+        mark_key(bundles, domain.as_bytes(), marks);
+    }
+}
+
+/// Marks the bundles of the domains with which one of the entries federates.
 #[tactic(auto, unfolding(crate::specs::Views::is_federated))]
-fn some_federates(entries: &[Shared<Entry>], domain: &[u8]) -> bool
-    ensures { result ≡ is_federated entries.now domain.now }
+fn mark_federated(bundles: &[Shared<Bundle>], entries: &[Shared<Entry>], marks: &mut [bool])
+    requires rising { Rises (map bundle_key bundles.now) }
+    requires none { marks.old ≡ map (λ b. false) bundles.now }
+    ensures { marks.new ≡ map (λ b. is_federated entries.now b.domain) bundles.now }
 {
     for entry in entries {
-        if federates(entry.part(), domain) {
-            return true;
+        mark_domains(bundles, entry.part().federates_with.as_slice(), marks);
+    }
+}
+
+/// The bundles that are seen by one who is entitled to these entries, where those of the domains with which the entries
+/// federate are marked.
+#[tactic(auto, unfolding(crate::specs::Views::is_seen))]
+fn seen_in(
+    alloc: Global,
+    bundles: &[Shared<Bundle>],
+    own: &[u8],
+    entries: &[Shared<Entry>],
+    marks: &[bool],
+) -> Result<Row<Shared<Bundle>>, Memory>
+    requires { marks.now ≡ map (λ b. is_federated entries.now b.domain) bundles.now }
+    ensures { IfOk result (λ r. r ≡ filter (is_seen own.now entries.now) bundles.now) }
+{
+    let mut seen = Row::empty(alloc);
+    for (at, bundle) in bundles.iter().enumerate() {
+        if bundle.part().domain.as_bytes() == own || marks[at] {
+            seen.push(bundle.share()?)?;
         }
     }
-    false
+    Ok(seen)
 }
 
-/// Whether a bundle is seen by one who is entitled to these entries.
-#[tactic(auto, unfolding(crate::specs::Views::is_seen))]
-fn sees(own: &[u8], entries: &[Shared<Entry>], bundle: &Bundle) -> bool
-    ensures { result ≡ is_seen own.now entries.now bundle.now }
-{
-    bundle.domain.as_bytes() == own || some_federates(entries, bundle.domain.as_bytes())
-}
-
-/// The bundles that are seen by one who is entitled to these entries.
+/// The bundles that are seen by one who is entitled to these entries. It looks for each domain with which they federate
+/// by halving, and takes a mark for each bundle.
 fn bundles_in(
     alloc: Global,
     bundles: &[Shared<Bundle>],
     own: &[u8],
     entries: &[Shared<Entry>],
 ) -> Result<Row<Shared<Bundle>>, Memory>
+    requires { Rises (map bundle_key bundles.now) }
     ensures { IfOk result (λ r. r ≡ filter (is_seen own.now entries.now) bundles.now) }
 {
-    let mut seen = Row::empty(alloc);
-    for bundle in bundles {
-        if sees(own, entries, bundle.part()) {
-            seen.push(bundle.share()?)?;
-        }
-    }
-    Ok(seen)
+    let mut marks = unmarked(alloc, bundles)?;
+    mark_federated(bundles, entries, &mut marks);
+    seen_in(alloc, bundles, own, entries, &marks)
 }
 
 /// The view that is made of these entries of the publication.

@@ -23,50 +23,62 @@ fn put_optional(out: &mut Vec<u8>, number: u32, bytes: &[u8]) -> Result<(), Memo
 }
 
 #[tactic(auto, unfolding(crate::specs::Spelling::spell_x509_item))]
-fn put_x509_content(out: &mut Vec<u8>, item: &X509Item) -> Result<(), Memory>
-    ensures { OnOk result (out.new.items ≡ out.old.items ++ spell_x509_item item.now) }
+fn put_x509_content(
+    out: &mut Vec<u8>,
+    spiffe_id: &[u8],
+    chain: &[u8],
+    key: &[u8],
+    bundle: &[u8],
+    hint: &[u8],
+) -> Result<(), Memory>
+    ensures { OnOk result (out.new.items ≡ out.old.items ++ spell_x509_item (record { spiffe_id = spiffe_id.now; chain = chain.now; key = key.now; bundle = bundle.now; hint = hint.now })) }
 {
-    put_optional(out, 1, item.spiffe_id.as_slice())?;
-    put_optional(out, 2, item.chain.as_slice())?;
-    put_optional(out, 3, item.key.as_slice())?;
-    put_optional(out, 4, item.bundle.as_slice())?;
-    put_optional(out, 5, item.hint.as_slice())
+    put_optional(out, 1, spiffe_id)?;
+    put_optional(out, 2, chain)?;
+    put_optional(out, 3, key)?;
+    put_optional(out, 4, bundle)?;
+    put_optional(out, 5, hint)
 }
 
+/// Writes one SVID of an `X509SVIDResponse`, with its tag and its length, behind what `out` holds. So a response can
+/// be written item by item, with no copy of its parts.
 #[tactic(auto, unfolding(crate::specs::Spelling::x509_field))]
-fn put_x509_item(out: &mut Vec<u8>, item: &X509Item) -> Result<(), Memory>
-    requires { length (x509_field item.now) ≤ 2 ^ 31 }
-    ensures { OnOk result (out.new.items ≡ out.old.items ++ x509_field item.now) }
+pub fn put_x509_item(
+    out: &mut Vec<u8>,
+    spiffe_id: &[u8],
+    chain: &[u8],
+    key: &[u8],
+    bundle: &[u8],
+    hint: &[u8],
+) -> Result<(), Memory>
+    requires { length (x509_field (record { spiffe_id = spiffe_id.now; chain = chain.now; key = key.now; bundle = bundle.now; hint = hint.now })) ≤ 2 ^ 31 }
+    ensures { OnOk result (out.new.items ≡ out.old.items ++ x509_field (record { spiffe_id = spiffe_id.now; chain = chain.now; key = key.now; bundle = bundle.now; hint = hint.now })) }
 {
-    let size = x509_content_size(
-        item.spiffe_id.as_slice(),
-        item.chain.as_slice(),
-        item.key.as_slice(),
-        item.bundle.as_slice(),
-        item.hint.as_slice(),
-    );
+    let size = x509_content_size(spiffe_id, chain, key, bundle, hint);
     put_head(out, 1, size)?;
-    put_x509_content(out, item)
+    put_x509_content(out, spiffe_id, chain, key, bundle, hint)
 }
 
 #[tactic(auto, unfolding(crate::specs::Spelling::spell_map_item))]
-fn put_map_content(out: &mut Vec<u8>, item: &MapItem) -> Result<(), Memory>
-    ensures { OnOk result (out.new.items ≡ out.old.items ++ spell_map_item item.now) }
+fn put_map_content(out: &mut Vec<u8>, key: &[u8], value: &[u8]) -> Result<(), Memory>
+    ensures { OnOk result (out.new.items ≡ out.old.items ++ spell_map_item (record { key = key.now; value = value.now })) }
 {
-    put_bytes(out, 1, item.key.as_slice())?;
-    put_bytes(out, 2, item.value.as_slice())
+    put_bytes(out, 1, key)?;
+    put_bytes(out, 2, value)
 }
 
+/// Writes one item of the map with this field number, with its tag and its length, behind what `out` holds. The map is
+/// number 3 in an `X509SVIDResponse`, 2 in an `X509BundlesResponse`, 1 in a `JWTBundlesResponse`.
 #[tactic(auto, unfolding(crate::specs::Spelling::map_field))]
-fn put_map_item(out: &mut Vec<u8>, number: u32, item: &MapItem) -> Result<(), Memory>
+pub fn put_map_item(out: &mut Vec<u8>, number: u32, key: &[u8], value: &[u8]) -> Result<(), Memory>
     requires least { 1 ≤ number }
     requires most { number ≤ 536_870_911 }
-    requires size { length (map_field number item.now) ≤ 2 ^ 31 }
-    ensures { OnOk result (out.new.items ≡ out.old.items ++ map_field number item.now) }
+    requires size { length (map_field number (record { key = key.now; value = value.now })) ≤ 2 ^ 31 }
+    ensures { OnOk result (out.new.items ≡ out.old.items ++ map_field number (record { key = key.now; value = value.now })) }
 {
-    let size = map_content_size(item.key.len(), item.value.as_slice());
+    let size = map_content_size(key.len(), value);
     put_head(out, number, size)?;
-    put_map_content(out, item)
+    put_map_content(out, key, value)
 }
 
 #[tactic(auto, unfolding(crate::specs::Spelling::spell_jwt_item))]
@@ -92,12 +104,35 @@ fn put_jwt_item(out: &mut Vec<u8>, item: &JwtItem) -> Result<(), Memory>
     put_jwt_content(out, item)
 }
 
+fn put_x509(out: &mut Vec<u8>, item: &X509Item) -> Result<(), Memory>
+    requires { length (x509_field item.now) ≤ 2 ^ 31 }
+    ensures { OnOk result (out.new.items ≡ out.old.items ++ x509_field item.now) }
+{
+    put_x509_item(
+        out,
+        item.spiffe_id.as_slice(),
+        item.chain.as_slice(),
+        item.key.as_slice(),
+        item.bundle.as_slice(),
+        item.hint.as_slice(),
+    )
+}
+
+fn put_map(out: &mut Vec<u8>, number: u32, item: &MapItem) -> Result<(), Memory>
+    requires least { 1 ≤ number }
+    requires most { number ≤ 536_870_911 }
+    requires size { length (map_field number item.now) ≤ 2 ^ 31 }
+    ensures { OnOk result (out.new.items ≡ out.old.items ++ map_field number item.now) }
+{
+    put_map_item(out, number, item.key.as_slice(), item.value.as_slice())
+}
+
 pub(crate) fn put_x509_items(out: &mut Vec<u8>, svids: &[X509Item]) -> Result<(), Memory>
     requires { length (flat_map x509_field svids.now) ≤ 2 ^ 31 }
     ensures { OnOk result (out.new.items ≡ out.old.items ++ flat_map x509_field svids.now) }
 {
     for svid in svids {
-        put_x509_item(out, svid)?;
+        put_x509(out, svid)?;
     }
     Ok(())
 }
@@ -109,7 +144,7 @@ pub(crate) fn put_map_items(out: &mut Vec<u8>, number: u32, items: &[MapItem]) -
     ensures { OnOk result (out.new.items ≡ out.old.items ++ flat_map (map_field number) items.now) }
 {
     for item in items {
-        put_map_item(out, number, item)?;
+        put_map(out, number, item)?;
     }
     Ok(())
 }

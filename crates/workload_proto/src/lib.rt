@@ -15,6 +15,7 @@ mod size;
 pub use decode::{decode_empty, decode_jwt_request};
 pub use encode::{encode_bundles, encode_jwt, encode_jwt_bundles, encode_x509};
 pub use fault::ProtoFault;
+pub use items::{put_map_item, put_x509_item};
 pub use message::{
     BundlesResponse, JwtBundlesResponse, JwtItem, JwtRequest, JwtResponse, MapItem, X509Item,
     X509Response,

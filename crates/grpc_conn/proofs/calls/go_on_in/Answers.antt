@@ -1,6 +1,4 @@
-use Rattle.std.proofs.Common.{◌≡◌, get_or, refl, sym, ap, ◌∙◌}
-use Rattle.std.proofs.Math.ListN.{set}
-use Rattle.grpc_conn.specs.declared.standing.Standing.{Standing}
+use Rattle.std.proofs.Common.{◌≡◌, get_or, refl, sym}
 use Rattle.grpc_conn.specs.Calls.{moved}
 use Rattle.grpc_conn.proofs.Places.{standing_placed, moved_placed, none_there, none_moved, unplaced, on_ok_map}
 use Rattle.grpc_conn.proofs.calls.go_on_in.Goals as goal

@@ -1,4 +1,4 @@
-use Rattle.std.proofs.Common.{◌≡◌, ◌++◌, ◌<◌, ◌≤◌, ◌+◌, length, take, Ok, Err, Some, None, sym, ◌∙◌, arith}
+use Rattle.std.proofs.Common.{◌≡◌, Ok, Err, Some, None, sym, ◌∙◌, arith}
 use Rattle.grpc_wire.specs.Messages.{prefix_of}
 use Rattle.grpc_conn.proofs.Bodies.{fault_parts, fault_told, sized_parts, part_all, part_parts}
 use Rattle.grpc_conn.proofs.judge.take_in.Goals as goal

@@ -1,5 +1,5 @@
-use Rattle.std.proofs.Common.{◌≡◌, ◌≤◌, length, take, Ok, Some, arith, sym, ap, ◌∙◌}
-use Rattle.grpc_wire.specs.Messages.{prefix_of, whole}
+use Rattle.std.proofs.Common.{◌≡◌, take, Ok, Some, arith}
+use Rattle.grpc_wire.specs.Messages.{prefix_of}
 use Rattle.grpc_wire.proofs.Fronts.{first_whole}
 use Rattle.grpc_wire.proofs.reading.first.Goals as goal
 

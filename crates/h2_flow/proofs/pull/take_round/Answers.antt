@@ -4,6 +4,7 @@ use Rattle.h2_flow.specs.Streams.{turn}
 use Rattle.h2_flow.specs.Pulls.{round}
 use Rattle.h2_flow.proofs.Puts.{put_none, put_more, front_bytes, front_ended}
 use Rattle.h2_flow.proofs.Rounds.{so_far_none, so_far_step, so_far_due, so_far_end}
+use Rattle.h2_flow.proofs.Numbers.{so_far_numbers}
 use Rattle.h2_flow.proofs.pull.take_round.Goals as goal
 
 pub loop-stream-init : goal.loop-stream-init
@@ -24,7 +25,7 @@ returns-in_err-take_turn c =
     let due = so_far_due _ _ so.0 c.loop-stream.streams i c.loop-stream.flow c.stream-item.result (omega arith) so.2 in
     let took = turn c.loop-stream.flow (get_or c.loop-stream.streams i c.stream-item.result) in
     let rest = (round took.flow (drop (i + 1) c.loop-stream.streams)).sent in
-    rw (p.1, due) (front_bytes so.0 took.sent rest _ c.loop-stream.out _ _ c.loop-stream.ended so.1 c.in_err-take_turn.ensures.0, front_ended so.0 took.sent rest _ c.loop-stream.out _ c.loop-stream.ended _ so.1 c.in_err-take_turn.ensures.1)
+    rw (p.1, due) (front_bytes so.0 took.sent rest _ c.loop-stream.out _ _ c.loop-stream.ended so.1 c.in_err-take_turn.ensures.0, front_ended so.0 took.sent rest _ c.loop-stream.out _ c.loop-stream.ended _ so.1 c.in_err-take_turn.ensures.1, so_far_numbers _ _ so.0 c.loop-stream.streams i c.loop-stream.flow c.stream-item.result _ c.in_err-take_turn.ensures.2 so.2)
 
 pub returns : goal.returns
 returns c =

@@ -4,6 +4,7 @@ use Rattle.std.proofs.lemmas.List.{length-append}
 use Rattle.h2_flow.specs.Pulls.{round, bytes_of}
 use Rattle.h2_flow.proofs.Puts.{put_none, put_more, front_bytes, front_ended}
 use Rattle.h2_flow.proofs.Rounds.{left_none, left_next, left_due, left_end, works_less, none_sent, bytes_none}
+use Rattle.h2_flow.proofs.Numbers.{left_numbers}
 use Rattle.h2_flow.proofs.pull.take_rounds.Goals as goal
 
 pub rounds-init : goal.rounds-init
@@ -15,7 +16,7 @@ returns-in_err-take_round c =
     let so = c.rounds.invariant in
     let due = left_due _ _ so.0 c.rounds.flow c.rounds.streams so.2 in
     let sent = (round c.rounds.flow c.rounds.streams).sent in
-    rw (p.1, due.1) (front_bytes so.0 sent due.0 _ c.rounds.out _ _ c.rounds.ended so.1 c.in_err-take_round.ensures.0, front_ended so.0 sent due.0 _ c.rounds.out _ c.rounds.ended _ so.1 c.in_err-take_round.ensures.1)
+    rw (p.1, due.1) (front_bytes so.0 sent due.0 _ c.rounds.out _ _ c.rounds.ended so.1 c.in_err-take_round.ensures.0, front_ended so.0 sent due.0 _ c.rounds.out _ c.rounds.ended _ so.1 c.in_err-take_round.ensures.1, left_numbers _ _ so.0 c.rounds.flow c.rounds.streams _ so.2 c.in_err-take_round.ensures.2)
 
 pub returns-then-len-before : goal.returns-then-len-before
 returns-then-len-before c =

@@ -2,6 +2,7 @@ use Rattle.std.proofs.Common.{◌≡◌, ap, ◌∙◌, arith}
 use Rattle.std.proofs.lemmas.List.{take_all}
 use Rattle.hpack.specs.Writing.{spelled_block}
 use Rattle.hpack.proofs.Spelling.{block_spelled, block_again}
+use Rattle.hpack.proofs.Lengths.{block_small}
 use Rattle.hpack.proofs.encode.encode_plain.Goals as goal
 use Rattle.hpack.proofs.encode.encode_plain.Goals.{After-from_vec}
 
@@ -13,3 +14,6 @@ returns-clause-readable c = λ fits table. rw (written c) (block_spelled c.args.
 
 pub returns-clause-read_again : goal.returns-clause-read_again
 returns-clause-read_again c = λ fits table. rw (written c) (block_again c.args.headers.now fits table)
+
+pub returns-clause-small : goal.returns-clause-small
+returns-clause-small c = λ fits. rw (written c) (block_small c.args.headers.now fits)

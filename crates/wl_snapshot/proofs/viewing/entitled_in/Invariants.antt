@@ -1,5 +1,5 @@
 use Rattle.std.proofs.Common.{◌≡◌, filter, take}
-use Rattle.wl_snapshot.specs.Views.{is_entitled}
+use Rattle.wl_entry.specs.Entitled.{is_entitled}
 use Rattle.wl_snapshot.proofs.viewing.entitled_in.Given as goal
 
 abbrev pub invariant-loop-entry : goal.invariant-loop-entry

@@ -1,6 +1,7 @@
 use Rattle.std.proofs.Common.{filter, sym, ◌∙◌, ap, subst}
 use Rattle.wl_snapshot.specs.Snapshots.{IsPublication}
-use Rattle.wl_snapshot.specs.Views.{ChosenFrom, is_entitled}
+use Rattle.wl_entry.specs.Entitled.{is_entitled}
+use Rattle.wl_snapshot.specs.Views.{ChosenFrom}
 use Rattle.wl_snapshot.proofs.Choices.{chosen_by}
 use Rattle.wl_snapshot.proofs.viewing.view.Goals as goal
 

@@ -1,6 +1,5 @@
-use Rattle.std.proofs.Common.{rules, ◌∙◌, ap}
+use Rattle.std.proofs.Common.{rules}
 use Rattle.std.proofs.lemmas.Fn.{filter_same}
-use Rattle.grpc_conn.specs.Calls.{without}
 use Rattle.grpc_conn.proofs.calls.Calls.gone.Goals as goal
 
 pub returns-clause-calls : goal.returns-clause-calls

@@ -1,4 +1,4 @@
-use Rattle.std.proofs.Common.{◌≡◌, true, false, sym, ◌∙◌}
+use Rattle.std.proofs.Common.{sym, ◌∙◌}
 use Rattle.wl_manager.specs.Managers.{with_parts}
 use Rattle.wl_manager.proofs.Settling.{settled_same, settled_new, change_same, change_new, shown_cached}
 use Rattle.wl_manager.proofs.manager.Manager.settle.Goals as goal

@@ -1,0 +1,121 @@
+//! Places of entries in a list by ascending id.
+
+ghost use Rattle.std.specs.Prelude.{◌||◌, ◌∷◌, [], take, ◌^◌, OnOk, IfOk, ◌≡◌, ◌==◌, ◌<◌, ℕ, false, map, length, slice_get, IfNone, IfSome};
+ghost use Rattle.std.specs.BTreeSet.{contains};
+ghost use Rattle.std.specs.Ordering.{nat_cmp};
+ghost use Rattle.std.specs.List.{flat_map};
+ghost use Rattle.std.specs.List.Sorted.{IsStrictlySortedBy};
+ghost use Rattle.wl_words.specs.Lists.{Rises};
+ghost use Rattle.wl_entry.specs.Keys.{entry_key};
+ghost use Rattle.wl_match.specs.Indexes.{entitled_places};
+ghost use Rattle.wl_match.specs.Postings.{has_id, is_hit, ids_at, posting_key, IsIndex};
+
+use crate::postings::{Posting, ids_at};
+use std::alloc::Global;
+use std::cmp::Ordering;
+use std::collections::BTreeSet;
+use wl_entry::Entry;
+use wl_keyed::Keyed;
+use wl_octets::{Memory, Octets, Row, Shared};
+use wl_selector::Selectors;
+
+/// The place of the entry of this id.
+pub fn place_of(entries: &[Shared<Entry>], id: &[u8]) -> Option<usize>
+    requires { Rises (map entry_key entries.now) }
+    ensures none { IfNone result ((q : ℕ) → has_id id.now (slice_get entries.now q) ≡ false) }
+    ensures some { IfSome result (λ p. (p < length entries.now) × ((q : ℕ) → has_id id.now (slice_get entries.now q) ≡ (p == q))) }
+{
+    let mut low = 0;
+    let mut high = entries.len();
+    'halves: while low < high {
+        let middle = low + (high - low) / 2;
+        match entries[middle].key().cmp(&id) {
+            Ordering::Less => low = middle + 1,
+            Ordering::Equal => return Some(middle),
+            Ordering::Greater => high = middle,
+        }
+    }
+    None
+}
+
+/// Adds the place of the entry of this id, where the caller is entitled to it.
+fn gather_one(
+    entries: &[Shared<Entry>],
+    id: &[u8],
+    selectors: &Selectors,
+    places: &mut BTreeSet<u32>,
+) -> Result<(), Memory>
+    requires rises { Rises (map entry_key entries.now) }
+    requires few { length entries.now < 2 ^ 32 }
+    ensures { OnOk result ((q : ℕ) → contains nat_cmp places.new q ≡ (contains nat_cmp places.old q || is_hit selectors.now (id.now ∷ []) (slice_get entries.now q))) }
+{
+    let Some(place) = place_of(entries, id) else {
+        return Ok(());
+    };
+    if entries[place].part().selectors.is_subset(selectors) {
+        places.insert(place as u32)?;
+    }
+    Ok(())
+}
+
+/// Adds the places of the entries of these ids to which the caller is entitled.
+fn gather(
+    entries: &[Shared<Entry>],
+    ids: &[Octets],
+    selectors: &Selectors,
+    places: &mut BTreeSet<u32>,
+) -> Result<(), Memory>
+    requires rises { Rises (map entry_key entries.now) }
+    requires few { length entries.now < 2 ^ 32 }
+    ensures { OnOk result ((q : ℕ) → contains nat_cmp places.new q ≡ (contains nat_cmp places.old q || is_hit selectors.now ids.now (slice_get entries.now q))) }
+{
+    for id in ids {
+        gather_one(entries, id.as_slice(), selectors, places)?;
+    }
+    Ok(())
+}
+
+/// The places of the entries to which the caller is entitled, among what is filed under the caller's selectors or
+/// under none.
+fn gathered(
+    alloc: Global,
+    entries: &[Shared<Entry>],
+    postings: &[Shared<Posting>],
+    selectors: &Selectors,
+) -> Result<BTreeSet<u32>, Memory>
+    requires rises { Rises (map entry_key entries.now) }
+    requires few { length entries.now < 2 ^ 32 }
+    requires keys { Rises (map posting_key postings.now) }
+    ensures { IfOk result (λ places. (q : ℕ) → contains nat_cmp places q ≡ is_hit selectors.now (flat_map (ids_at postings.now) ([] ∷ selectors.now)) (slice_get entries.now q)) }
+{
+    let mut places = BTreeSet::new(alloc);
+    gather(entries, ids_at(postings, &[]), selectors, &mut places)?;
+    for selector in selectors.as_slice() {
+        let ids = ids_at(postings, selector.as_bytes());
+        gather(entries, ids, selectors, &mut places)?;
+    }
+    Ok(places)
+}
+
+/// The places, in their order.
+fn listed(alloc: Global, places: BTreeSet<u32>) -> Result<Vec<u32>, Memory>
+    ensures value { IfOk result (λ v. v.items ≡ places.keys) }
+    ensures ordered { IfOk result (λ v. IsStrictlySortedBy nat_cmp v.items) }
+{
+    Ok(places.into_iter().collect(alloc)?)
+}
+
+/// The rising places of exactly the entries to which the caller is entitled.
+pub fn entitled_in(
+    alloc: Global,
+    entries: &[Shared<Entry>],
+    postings: &[Shared<Posting>],
+    selectors: &Selectors,
+) -> Result<Row<u32>, Memory>
+    requires { IsIndex entries.now postings.now }
+    ensures { IfOk result (λ places. places ≡ entitled_places selectors.now entries.now) }
+{
+    let places = gathered(alloc, entries, postings, selectors)?;
+    let list = listed(alloc, places)?;
+    Ok(Row::from_vec(list))
+}

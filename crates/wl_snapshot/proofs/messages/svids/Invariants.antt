@@ -1,7 +1,0 @@
-use Rattle.std.proofs.Common.{◌≡◌, take}
-use Rattle.std.specs.List.{flat_map}
-use Rattle.wl_snapshot.specs.Answers.{x509_items}
-use Rattle.wl_snapshot.proofs.messages.svids.Given as goal
-
-abbrev pub invariant-loop-one : goal.invariant-loop-one
-invariant-loop-one l = l.items ≡ flat_map (x509_items l.own) (take l.one-index l.held)
