@@ -17,4 +17,4 @@ mod tickets;
 
 pub use manager::Manager;
 pub use preparing::Prepared;
-pub use tickets::{Adopted, Change, Claim, Flight, Ticket};
+pub use tickets::{Adopted, Change, Claim, Flight, Ticket, let_go_all};

@@ -1,7 +1,9 @@
 //! The manager.
 
-ghost use Rattle.std.specs.Prelude.{◌≡◌, ◌==◌, [], true, false, IfOk, OnOk, OnErr};
+ghost use Rattle.std.specs.Prelude.{◌≡◌, ◌==◌, [], true, false, None, IfOk, IfErr, IsOkAnd};
 ghost use Rattle.std.specs.List.{list_any};
+ghost use Rattle.wl_document.specs.Checks.{Faults};
+ghost use Rattle.wl_document.specs.Documents.{document_state};
 ghost use Rattle.wl_manager.specs.Stores.{flies};
 ghost use Rattle.wl_manager.specs.Managers.{started, spending, AllTrusted, IsStock};
 
@@ -13,7 +15,7 @@ use spiffe_id::TrustDomain;
 use std::alloc::Global;
 use std::marker::{Model, PhantomData};
 use svid_cache::Cache;
-use wl_document::AuthorityState;
+use wl_document::{AuthorityState, DocFault, read_state};
 use wl_entry::{Bundle, Entry, Voucher};
 use wl_octets::{Memory, Row, Shared};
 use wl_snapshot::Snapshot;
@@ -40,6 +42,32 @@ impl<V: Voucher> Model for Manager<V> {
 }
 
 impl<V: Voucher> Manager<V> {
+    /// A manager that begins with a document, in which no SVID is kept. Leaves are not judged in it. The first check of
+    /// the document that fails is the fault.
+    pub fn start(alloc: Global, document: &[u8]) -> Result<Manager<V>, DocFault>
+        ensures ok { IfOk result (λ m. IsOkAnd (document_state None document.now) (λ d. m ≡ started false d)) }
+        ensures fault { IfErr result (λ e. Faults e (document_state None document.now)) }
+    {
+        let state = read_state(alloc, document, None)?;
+        match Manager::begin(alloc, state, false) {
+            Ok(manager) => Ok(manager),
+            Err(Memory) => Err(DocFault::Memory),
+        }
+    }
+
+    /// As `start`, and the store is strict for good: no SVID is kept whose leaf names another id than its ask's, or has
+    /// other times.
+    pub fn start_strict(alloc: Global, document: &[u8]) -> Result<Manager<V>, DocFault>
+        ensures ok { IfOk result (λ m. IsOkAnd (document_state None document.now) (λ d. m ≡ started true d)) }
+        ensures fault { IfErr result (λ e. Faults e (document_state None document.now)) }
+    {
+        let state = read_state(alloc, document, None)?;
+        match Manager::begin(alloc, state, true) {
+            Ok(manager) => Ok(manager),
+            Err(Memory) => Err(DocFault::Memory),
+        }
+    }
+
     /// A manager of a document's state.
     fn begin(alloc: Global, state: AuthorityState, strict: bool) -> Result<Manager<V>, Memory>
         ensures { IfOk result (λ m. m ≡ started strict state) }
