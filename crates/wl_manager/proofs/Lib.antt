@@ -1,0 +1,4 @@
+pub mod Asks
+pub mod Publications
+pub mod Sames
+pub mod Settling

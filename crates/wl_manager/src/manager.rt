@@ -1,0 +1,136 @@
+//! The manager.
+
+ghost use Rattle.std.specs.Prelude.{◌≡◌, ◌==◌, [], true, false, None, IfOk, IfErr, IsOkAnd};
+ghost use Rattle.std.specs.List.{list_any};
+ghost use Rattle.wl_document.specs.Checks.{Faults};
+ghost use Rattle.wl_document.specs.Documents.{document_state};
+ghost use Rattle.wl_manager.specs.Stores.{flies};
+ghost use Rattle.wl_manager.specs.Managers.{started, spending, AllTrusted, IsStock};
+
+use crate::flights::{has_number, has_ticket, remove_flight};
+use crate::lists::{cache_of, share_bundles, share_entries};
+use crate::publishing::publication;
+use crate::tickets::{Flight, Ticket};
+use spiffe_id::TrustDomain;
+use std::alloc::Global;
+use std::marker::{Model, PhantomData};
+use svid_cache::Cache;
+use wl_document::{AuthorityState, DocFault, read_state};
+use wl_entry::{Bundle, Entry, Voucher};
+use wl_octets::{Memory, Row, Shared};
+use wl_snapshot::Snapshot;
+
+/// The store of the agent and its last publication. Times are Unix seconds.
+#[derive(Drop)]
+pub struct Manager<V: Voucher> {
+    pub(crate) strict: bool,
+    pub(crate) published: Shared<Snapshot>,
+    pub(crate) cache: Cache,
+    pub(crate) flying: Vec<Flight>,
+    pub(crate) last: u64,
+    pub(crate) of: PhantomData<V>,
+}
+
+impl<V: Voucher> Model for Manager<V> {
+    ghost use Rattle.wl_manager.specs.Managers.{Managed, IsKept, managed};
+
+    ghost Value = { Managed };
+
+    ghost view = { λ m. managed m.strict m.published m.flying.items m.last };
+
+    ghost invariant = { λ m. IsKept V.signed m.strict m.published m.cache };
+}
+
+impl<V: Voucher> Manager<V> {
+    /// A manager that begins with a document, in which no SVID is kept. Leaves are not judged in it. The first check of
+    /// the document that fails is the fault.
+    pub fn start(alloc: Global, document: &[u8]) -> Result<Manager<V>, DocFault>
+        ensures ok { IfOk result (λ m. IsOkAnd (document_state None document.now) (λ d. m ≡ started false d)) }
+        ensures fault { IfErr result (λ e. Faults e (document_state None document.now)) }
+    {
+        let state = read_state(alloc, document, None)?;
+        match Manager::begin(alloc, state, false) {
+            Ok(manager) => Ok(manager),
+            Err(Memory) => Err(DocFault::Memory),
+        }
+    }
+
+    /// As `start`, and the store is strict for good: no SVID is kept whose leaf names another id than its ask's, or has
+    /// other times.
+    pub fn start_strict(alloc: Global, document: &[u8]) -> Result<Manager<V>, DocFault>
+        ensures ok { IfOk result (λ m. IsOkAnd (document_state None document.now) (λ d. m ≡ started true d)) }
+        ensures fault { IfErr result (λ e. Faults e (document_state None document.now)) }
+    {
+        let state = read_state(alloc, document, None)?;
+        match Manager::begin(alloc, state, true) {
+            Ok(manager) => Ok(manager),
+            Err(Memory) => Err(DocFault::Memory),
+        }
+    }
+
+    /// A manager of a document's state.
+    fn begin(alloc: Global, state: AuthorityState, strict: bool) -> Result<Manager<V>, Memory>
+        ensures { IfOk result (λ m. m ≡ started strict state) }
+    {
+        let AuthorityState {
+            domain,
+            bundles,
+            entries,
+            svids: _,
+        } = state;
+        Manager::with(alloc, strict, domain, entries, bundles)
+    }
+
+    /// A manager of these parts.
+    fn with(
+        alloc: Global,
+        strict: bool,
+        domain: TrustDomain,
+        entries: Row<Entry>,
+        bundles: Row<Bundle>,
+    ) -> Result<Manager<V>, Memory>
+        requires { IsStock entries bundles }
+        ensures { IfOk result (λ m. m ≡ started strict (record { domain = domain; bundles = bundles; entries = entries; svids = [] })) }
+    {
+        let cache = cache_of(alloc, entries.as_slice())?;
+        let entries = share_entries(alloc, &[], entries)?;
+        let bundles = share_bundles(alloc, &[], bundles)?;
+        let published = publication(alloc, 0, domain, entries, Row::empty(alloc), bundles)?;
+        Ok(Manager {
+            strict,
+            published,
+            cache,
+            flying: Vec::new(alloc),
+            last: 0,
+            of: PhantomData,
+        })
+    }
+
+    /// The last publication. It takes no memory.
+    pub fn snapshot(&self) -> &Shared<Snapshot>
+        ensures value { result.now ≡ self.now.published }
+        ensures trusted { AllTrusted V.signed self.now.store.strict self.now.published.svids }
+    {
+        &self.published
+    }
+
+    /// Whether a ticket of this number is in flight. It takes no memory.
+    pub fn in_flight(&self, number: u64) -> bool
+        ensures { result ≡ list_any (λ f. f.number == number) self.now.store.flying }
+    {
+        has_number(self.flying.as_slice(), number)
+    }
+
+    /// Takes back a ticket without an identity: it is in flight no more. Nothing changes where it was not in flight.
+    /// It takes no memory.
+    #[tactic(auto, unfolding(crate::specs::Stores::spent))]
+    pub fn failed(&mut self, ticket: Ticket)
+        ensures left { flies ticket.number ticket.ask self.old.store.flying ≡ true → self.new ≡ spending ticket.number self.old }
+        ensures other { flies ticket.number ticket.ask self.old.store.flying ≡ false → self.new ≡ self.old }
+    {
+        if has_ticket(self.flying.as_slice(), &ticket) {
+            remove_flight(&mut self.flying, ticket.number);
+        }
+        ticket.let_go();
+    }
+}
