@@ -40,37 +40,46 @@ fn entitles(alloc: Global, index: &Index, texts: &[&[u8]], expected: &[u32]) -> 
     Ok(places.as_slice() == expected)
 }
 
-/// The index of no entry, with these changes.
-fn index_of(alloc: Global, changes: &[Change]) -> Result<Index, Fail> {
-    let mut index = Index::build(alloc, &[])?;
-    match index.change(alloc, changes) {
-        Ok(()) => Ok(index),
-        Err(Memory) => Err(Fail::from("no memory")),
+/// The index of an entry.
+fn index_of(alloc: Global, entry: Shared<Entry>) -> Result<Index, Memory> {
+    Index::build(alloc, &[entry])
+}
+
+/// Makes changes of an index with few entries.
+fn change(alloc: Global, index: &mut Index, changes: &[Change]) -> Result<(), Fail> {
+    if index.entries().len() > 10 || changes.len() > 10 {
+        return Err(Fail::from("too many"));
     }
+    Ok(index.change(alloc, changes)?)
 }
 
 #[test]
 fn index_calls(rt: HostRuntime) -> Result<(), Fail> {
     let alloc = rt.alloc();
     let uid = b"unix:uid:1".as_slice();
-    let entries = vec![in alloc; entry(alloc, b"e1", &[uid])?]?;
-    let mut index = Index::build(alloc, entries.as_slice())?;
+    let mut index = index_of(alloc, entry(alloc, b"e1", &[uid])?)?;
     assert!(rt; entitles(alloc, &index, &[uid], &[0])?);
-    index.change(alloc, &[Change::Remove(Octets::from_slice(alloc, b"e1")?)])?;
+    let gone = Change::Remove(Octets::from_slice(alloc, b"e1")?);
+    change(alloc, &mut index, &[gone])?;
     assert!(rt; entitles(alloc, &index, &[uid], &[])?);
     Ok(())
 }
 
-/// Four entries, which share selectors, and one of which has none.
+/// Puts of three entries, of which one has no selector.
+fn three_puts(alloc: Global) -> Result<Vec<Change>, Fail> {
+    let (a, b) = (b"k:a".as_slice(), b"k:b".as_slice());
+    let mut changes = Vec::new(alloc);
+    changes.push(Change::Put(entry(alloc, b"e1", &[a])?))?;
+    changes.push(Change::Put(entry(alloc, b"e4", &[])?))?;
+    changes.push(Change::Put(entry(alloc, b"e2", &[a, b])?))?;
+    Ok(changes)
+}
+
+/// Four entries, which share selectors.
 fn four(alloc: Global) -> Result<Index, Fail> {
-    let (a, b, c) = (b"k:a".as_slice(), b"k:b".as_slice(), b"k:c".as_slice());
-    let changes = vec![in alloc;
-        Change::Put(entry(alloc, b"e3", &[b, c])?),
-        Change::Put(entry(alloc, b"e1", &[a])?),
-        Change::Put(entry(alloc, b"e4", &[])?),
-        Change::Put(entry(alloc, b"e2", &[a, b])?),
-    ]?;
-    index_of(alloc, changes.as_slice())
+    let mut index = index_of(alloc, entry(alloc, b"e3", &[b"k:b", b"k:c"])?)?;
+    change(alloc, &mut index, three_puts(alloc)?.as_slice())?;
+    Ok(index)
 }
 
 #[test]
@@ -92,19 +101,31 @@ fn places_rise(rt: HostRuntime) -> Result<(), Fail> {
     Ok(())
 }
 
+/// The index after changes of one with few entries.
+fn changed(alloc: Global, index: &Index, changes: &[Change]) -> Result<Index, Fail> {
+    if index.entries().len() > 10 || changes.len() > 10 {
+        return Err(Fail::from("too many"));
+    }
+    Ok(index.changed(alloc, changes)?)
+}
+
+/// An entry takes the place of another one, one is gone, and so is one that wasn't there.
+fn three_changes(alloc: Global) -> Result<Vec<Change>, Fail> {
+    let mut changes = Vec::new(alloc);
+    changes.push(Change::Put(entry(alloc, b"e1", &[b"k:d"])?))?;
+    changes.push(Change::Remove(Octets::from_slice(alloc, b"e4")?))?;
+    changes.push(Change::Remove(Octets::from_slice(alloc, b"e9")?))?;
+    Ok(changes)
+}
+
 #[test]
 fn an_entry_is_replaced(rt: HostRuntime) -> Result<(), Fail> {
     let alloc = rt.alloc();
     let index = four(alloc)?;
-    let (b, d) = (b"k:b".as_slice(), b"k:d".as_slice());
-    let changes = vec![in alloc;
-        Change::Put(entry(alloc, b"e1", &[d])?),
-        Change::Remove(Octets::from_slice(alloc, b"e4")?),
-        Change::Remove(Octets::from_slice(alloc, b"e9")?),
-    ]?;
-    let changed = index.changed(alloc, changes.as_slice())?;
-    assert_eq!(rt; changed.entries().len(), 3);
-    assert!(rt; entitles(alloc, &changed, &[b, d], &[0])?);
-    assert!(rt; entitles(alloc, &index, &[b, d], &[3])?);
+    let callers = [b"k:b".as_slice(), b"k:d".as_slice()];
+    let after = changed(alloc, &index, three_changes(alloc)?.as_slice())?;
+    assert_eq!(rt; after.entries().len(), 3);
+    assert!(rt; entitles(alloc, &after, &callers, &[0])?);
+    assert!(rt; entitles(alloc, &index, &callers, &[3])?);
     Ok(())
 }

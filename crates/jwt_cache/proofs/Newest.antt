@@ -1,0 +1,17 @@
+-- The newest that passes, one item further.
+use Rattle.std.proofs.Common.{◌≡◌, ℕ, zero, suc, ◌+◌, ◌<◌, Bool, if◌then◌else◌, List, [], ◌∷◌, length, drop, slice_get, Option, Some, None, refl, sym, ap, ◌∙◌, arith}
+use Rattle.std.proofs.lemmas.Option.{slice_get_within, get_or_from_slice_get}
+use Rattle.std.proofs.Math.Seq.{drop-cons}
+use Rattle.std.proofs.Common.{add-one, get_or}
+use Rattle.jwt_cache.specs.Keeps.{newest}
+
+pub newest_step : {A : Type 0} (test : A → Bool) (xs : List A) (i : ℕ) (k : A) (before whole : Option A) → slice_get xs i ≡ Some k → newest test before (drop i xs) ≡ whole
+    → newest test (if test k then Some k else before) (drop (i + 1) xs) ≡ whole
+newest_step {A} test xs i k before whole at is =
+    let cut : drop i xs ≡ k ∷ drop (i + 1) xs = rw add-one (drop-cons xs i k (slice_get_within xs i k at) ∙ ap (λ (x : A). x ∷ drop (suc i) xs) (get_or_from_slice_get xs i k k at)) in
+    ap (newest test before) (sym cut) ∙ is
+
+pub none_in : {A : Type 0} (xs : List A) (i : ℕ) → None ≡ slice_get xs i → i < length xs → ⊥
+none_in [] i is lt = omega arith
+none_in (x ∷ xs) zero is lt = cc
+none_in (x ∷ xs) (suc i) is lt = none_in xs i is (omega (arith, lt))

@@ -1,0 +1,7 @@
+use Rattle.std.proofs.Common.{◌∙◌}
+use Rattle.wl_selector.specs.Selectors.{sorted_texts}
+use Rattle.jwt_cache.proofs.Keeping.{stands_found}
+use Rattle.jwt_cache.proofs.tokens.Tokens.find.Goals as goal
+
+pub returns-clause-keeps : goal.returns-clause-keeps
+returns-clause-keeps c = λ keeps s. c.in_ok-token.ensures ∙ stands_found c.args.self.now keeps c.args.ask.now (sorted_texts c.args.audience.now) c.args.now s

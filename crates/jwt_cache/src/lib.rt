@@ -1,0 +1,15 @@
+//! Tokens that are kept to be handed out again.
+//!
+//! [`Tokens`] keeps the last sixteen tokens of each entry, each for an ask and for audiences that are sorted, each
+//! once. A token is found where its ask and its audiences are equal and less than half of its time is over; among
+//! several, the one that was kept last.
+#![tactic(auto)]
+
+mod rings;
+mod sorting;
+#[cfg(test)]
+mod tests;
+mod tokens;
+
+pub use rings::Kept;
+pub use tokens::Tokens;

@@ -1,0 +1,158 @@
+//! The tokens of all entries.
+
+ghost use Rattle.std.specs.Prelude.{◌≡◌, ℕ, List, [], ◌∷◌, ◌++◌, map, if◌then◌else◌, unwrap_or, IfOk, OnOk, OnErr};
+ghost use Rattle.std.specs.Str.{bytes_eq};
+ghost use Rattle.std.specs.Map.{lookup};
+ghost use Rattle.std.specs.Ordering.{nat_cmp, is_eq};
+ghost use Rattle.std.specs.Cmp.Lexicographic.{slice_cmp};
+ghost use Rattle.wl_selector.specs.Selectors.{sorted_texts};
+ghost use Rattle.jwt_cache.specs.Keeps.{last_of, is_of, keep_of, found_among, found_in, without};
+ghost use Rattle.jwt_cache.specs.Rings.{kept_for, StandsFor};
+ghost use Rattle.jwt_cache.specs.declared.rings.Kept.{Kept};
+
+use crate::rings::{Kept, Ring};
+use crate::sorting::sorted;
+use std::alloc::Global;
+use std::collections::BTreeMap;
+use std::marker::Model;
+use wl_entry::{Ask, JwtToken};
+use wl_octets::{Memory, Octets};
+
+/// The last sixteen tokens of each entry.
+#[derive(Drop)]
+pub struct Tokens {
+    rings: BTreeMap<Vec<u8>, Ring>,
+}
+
+impl Model for Tokens {
+    ghost use Rattle.std.specs.Prelude.{List, ℕ, map};
+    ghost use Rattle.jwt_cache.specs.declared.rings.Kept.{Kept};
+
+    ghost Value = { List (List ℕ × List Kept) };
+
+    ghost view = { λ t. map (λ e. (e.0.items, e.1)) t.rings.entries };
+}
+
+/// The rings of the entries, by the entry's id.
+type Rings = BTreeMap<Vec<u8>, Ring>;
+
+/// Keeps one more.
+fn put(alloc: Global, rings: &mut Rings, kept: Kept) -> Result<(), Memory>
+    ensures ok { OnOk result ((q : List ℕ) → unwrap_or (lookup (λ k. is_eq (slice_cmp nat_cmp q k.items)) rings.new.entries) []
+        ≡ (if is_of q kept then last_of 16 (unwrap_or (lookup (λ k. is_eq (slice_cmp nat_cmp q k.items)) rings.old.entries) [] ++ kept ∷ [])
+        else unwrap_or (lookup (λ k. is_eq (slice_cmp nat_cmp q k.items)) rings.old.entries) [])) }
+    ensures err { OnErr result (rings.new.entries ≡ rings.old.entries) }
+{
+    match rings.get_mut(kept.ask.entry_id.as_slice()) {
+        Some(ring) => ring.push(kept),
+        None => {
+            let id = kept.ask.entry_id.copy(alloc)?.into_vec();
+            let mut ring = Ring::start(alloc)?;
+            ring.push(kept);
+            rings.insert(id, ring)?;
+        }
+    }
+    Ok(())
+}
+
+impl Tokens {
+    /// No tokens. It takes no memory.
+    pub fn start(alloc: Global) -> Tokens
+        ensures value { result ≡ [] }
+        ensures stands { StandsFor result [] }
+    {
+        Tokens {
+            rings: BTreeMap::new(alloc),
+        }
+    }
+
+    /// The newest token that is kept for this ask and these audiences, in whatever order and however often each is
+    /// named, of which less than half of the time is over.
+    fn find_kept(
+        &self,
+        alloc: Global,
+        ask: &Ask,
+        audience: &[Octets],
+        now: u64,
+    ) -> Result<Option<JwtToken>, Memory>
+        ensures { IfOk result (λ t. t ≡ found_among ask.now (sorted_texts audience.now) now (kept_for self.now ask.now.entry_id)) }
+    {
+        let wanted = sorted(alloc, audience)?;
+        let Some(ring) = self.rings.get(ask.entry_id.as_slice()) else {
+            return Ok(None);
+        };
+        match ring.newest(ask, &wanted, now) {
+            Some(kept) => Ok(Some(kept.token.copy(alloc)?)),
+            None => Ok(None),
+        }
+    }
+
+    /// Keeps one more.
+    fn keep_one(
+        &mut self,
+        alloc: Global,
+        ask: &Ask,
+        audience: &[Octets],
+        token: JwtToken,
+    ) -> Result<(), Memory>
+        ensures ok { OnOk result ((q : List ℕ) → kept_for self.new q ≡ (if is_of q (keep_of ask.now audience.now token) then last_of 16 (kept_for self.old q ++ keep_of ask.now audience.now token ∷ []) else kept_for self.old q)) }
+        ensures err { OnErr result (self.new ≡ self.old) }
+    {
+        let kept = Kept {
+            ask: ask.copy(alloc)?,
+            audience: sorted(alloc, audience)?,
+            token,
+        };
+        put(alloc, &mut self.rings, kept)?;
+        Ok(())
+    }
+
+    /// The newest token that is kept for this ask and these audiences, of which less than half of the time is over. In
+    /// what order and how often the audiences are named is all the same.
+    pub fn find(
+        &self,
+        alloc: Global,
+        ask: &Ask,
+        audience: &[Octets],
+        now: u64,
+    ) -> Result<Option<JwtToken>, Memory>
+        ensures found { IfOk result (λ t. t ≡ found_among ask.now (sorted_texts audience.now) now (kept_for self.now ask.now.entry_id)) }
+        // Where the cache stands for these keeps, it is the one that is found in them.
+        ensures keeps { (keeps : List Kept) → StandsFor self.now keeps → IfOk result (λ t. t ≡ found_in keeps ask.now (sorted_texts audience.now) now) }
+    {
+        let token = self.find_kept(alloc, ask, audience, now)?;
+        Ok(token)
+    }
+
+    /// Keeps a token for an ask and audiences. A seventeenth of the entry pushes out the oldest. On want of memory the
+    /// cache is as it was.
+    pub fn keep(
+        &mut self,
+        alloc: Global,
+        ask: &Ask,
+        audience: &[Octets],
+        token: JwtToken,
+    ) -> Result<(), Memory>
+        ensures ok { OnOk result ((q : List ℕ) → kept_for self.new q ≡ (if is_of q (keep_of ask.now audience.now token) then last_of 16 (kept_for self.old q ++ keep_of ask.now audience.now token ∷ []) else kept_for self.old q)) }
+        ensures keeps { (keeps : List Kept) → StandsFor self.old keeps → OnOk result (StandsFor self.new (keeps ++ keep_of ask.now audience.now token ∷ [])) }
+        ensures err { OnErr result (self.new ≡ self.old) }
+    {
+        self.keep_one(alloc, ask, audience, token)?;
+        Ok(())
+    }
+
+    /// Drops the tokens of an entry. It takes no memory.
+    fn drop_ring(&mut self, entry_id: &[u8])
+        ensures { (q : List ℕ) → kept_for self.new q ≡ (if bytes_eq q entry_id.now then [] else kept_for self.old q) }
+    {
+        self.rings.remove(entry_id);
+    }
+
+    /// Drops the tokens of an entry. It takes no memory.
+    pub fn forget(&mut self, entry_id: &[u8])
+        ensures rings { (q : List ℕ) → kept_for self.new q ≡ (if bytes_eq q entry_id.now then [] else kept_for self.old q) }
+        ensures keeps { (keeps : List Kept) → StandsFor self.old keeps → StandsFor self.new (without entry_id.now keeps) }
+    {
+        self.drop_ring(entry_id);
+    }
+}
