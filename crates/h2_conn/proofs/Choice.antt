@@ -1,5 +1,5 @@
 -- The table is the rows of each kind, behind those of all kinds.
-use Rattle.std.proofs.Common.{◌≡◌, ℕ, ◌∙◌, Bool, true, false, List, [], ◌∷◌, Option, Some, None, Result, Ok, Err, refl, ap}
+use Rattle.std.proofs.Common.{◌≡◌, ℕ, ◌∙◌, true, false, List, Option, Some, None, Result, Ok, Err, refl, ap}
 use Rattle.wl_octets.specs.declared.header.Header.{Header}
 use Rattle.hpack.specs.declared.fault.HpackFault.{HpackFault}
 use Rattle.hpack.specs.Decoding.{Standing}

@@ -1,13 +1,12 @@
 -- Each frame that is read has what a connection asks of it.
-use Rattle.std.proofs.Common.{◌≡◌, ℕ, zero, suc, ◌-◌, ◌%◌, ◌^◌, ◌<◌, ◌≤◌, ◌==◌, Bool, true, false, cond, nat_lt, List, [], ◌∷◌, ◌++◌, length, take, drop, slice_index, Result, Ok, Err, refl, arith, inl, inr, length-take, length-drop}
+use Rattle.std.proofs.Common.{◌≡◌, ℕ, zero, suc, ◌-◌, ◌%◌, ◌^◌, ◌<◌, ◌≤◌, ◌==◌, Bool, true, false, cond, nat_lt, List, [], ◌∷◌, ◌++◌, length, take, drop, slice_index, Result, Ok, Err, refl, arith, length-take, length-drop}
 use Rattle.std.specs.Int.{w32, from_be_bytes}
 use Rattle.std.specs.List.{AllByRecursion}
 use Rattle.std.proofs.lemmas.Bool.{ltb-false}
 use Rattle.h2_frame.specs.declared.fault.FrameFault.{FrameFault}
 use Rattle.h2_frame.specs.declared.fault.FrameFault.TheVariants as faults
 use Rattle.h2_frame.specs.declared.frame.Body.{Body}
-use Rattle.h2_frame.specs.declared.frame.Body.TheVariants.{Bytes, Headers, Priority, Reset, Settings, SettingsAck, PushPromise, Ping, GoAway, WindowUpdate, Continuation, Unknown}
-use Rattle.h2_frame.specs.declared.frame.Frame.{Frame}
+use Rattle.h2_frame.specs.declared.frame.Body.TheVariants.{Bytes, Headers, Settings, SettingsAck, WindowUpdate, Continuation, Unknown}
 use Rattle.h2_frame.specs.declared.head.Head.{Head}
 use Rattle.h2_frame.specs.Heads.{has, front_of, head_of, is_wrong_length}
 use Rattle.h2_frame.specs.Payloads.{content_of, with_content, settings_of, body_of}

@@ -1,7 +1,7 @@
 -- Laws of a connection.
-use Rattle.std.proofs.Common.{◌≡◌, ℕ, ◌==◌, ◌&&◌, ◌||◌, Bool, true, false, not, cond, List, [], ◌∷◌, length, refl, ap, ◌∙◌, arith}
+use Rattle.std.proofs.Common.{◌≡◌, ℕ, ◌==◌, ◌&&◌, ◌||◌, Bool, true, false, not, cond, List, [], ◌∷◌, refl, ap, ◌∙◌, arith}
 use Rattle.std.proofs.lemmas.Bool.Decides.{nat_tests}
-use Rattle.h2_flow.specs.Outboxes.{Pulled, pulled, IsQuiet, is_open, controlled, removed}
+use Rattle.h2_flow.specs.Outboxes.{Pulled, pulled, IsQuiet, is_open}
 use Rattle.h2_flow.proofs.Quiet.{pulls_once, removes_quietly}
 use Rattle.h2_conn.specs.declared.fault.ConnFault.{ConnFault}
 use Rattle.h2_conn.specs.declared.link.Link.{Link}
@@ -10,7 +10,7 @@ use Rattle.h2_conn.specs.declared.link.Past.{Past}
 use Rattle.h2_conn.specs.declared.state.State.{State}
 use Rattle.h2_conn.specs.Streams.{is_live, has_ended, answering}
 use Rattle.h2_conn.specs.Peer.{closed}
-use Rattle.h2_conn.specs.Conns.{is_live_on, on_open, takes, given_head, given_last, given_message, left_message, reset_by, answer_ends, answers_end, moved, after_pull, flushed}
+use Rattle.h2_conn.specs.Conns.{is_live_on, on_open, given_head, given_last, given_message, left_message, reset_by, answer_ends, answers_end, moved, after_pull, flushed}
 
 -- ---- two flushes are one
 

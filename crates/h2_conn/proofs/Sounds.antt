@@ -1,5 +1,5 @@
 -- What holds of each state is kept by each row, and what a row tells names live streams.
-use Rattle.std.proofs.Common.{◌≡◌, ℕ, ◌+◌, ◌<◌, ◌≤◌, ◌==◌, ◌^◌, ◌%◌, ◌∙◌, Bool, true, false, not, cond, ◌&&◌, ◌||◌, nat_lt, List, [], ◌∷◌, ◌++◌, length, map, filter, Option, Some, None, Result, Ok, Err, OnOk, refl, sym, ap, subst, inl, inr, arith}
+use Rattle.std.proofs.Common.{◌≡◌, ℕ, ◌+◌, ◌<◌, ◌≤◌, ◌==◌, ◌^◌, ◌%◌, ◌∙◌, Bool, true, false, not, cond, ◌&&◌, ◌||◌, nat_lt, List, [], ◌∷◌, ◌++◌, length, map, filter, Option, Some, None, Result, Ok, Err, OnOk, refl, sym, ap, inl, inr, arith}
 use Rattle.std.specs.List.{list_any, AllByRecursion}
 use Rattle.std.proofs.lemmas.Bool.{cases_Bool, ltb-true}
 use Rattle.std.proofs.lemmas.Bool.Decides.{nat_tests}
@@ -16,7 +16,7 @@ use Rattle.h2_frame.specs.declared.frame.Setting.{Setting}
 use Rattle.h2_frame.specs.Writing.{spelling}
 use Rattle.h2_flow.specs.declared.overflow.Overflow.{Overflow}
 use Rattle.h2_flow.specs.declared.stream.Stream as other
-use Rattle.h2_flow.specs.Outboxes.{Out, has, is_number, is_written, is_shrunk, numbers, IsAbove, added, removed, controlled, shrunk, grown, initialed, headed, offered, withdrawn, closed_by, pulled}
+use Rattle.h2_flow.specs.Outboxes.{Out, has, is_number, is_written, is_shrunk, numbers, IsAbove, added, controlled, shrunk, grown, initialed, headed, offered, withdrawn, closed_by, pulled}
 use Rattle.h2_flow.proofs.Numbers.{KeepsNumbers, numbers_added, numbers_removed, numbers_controlled, numbers_shrunk, numbers_grown, numbers_initialed, numbers_headed, numbers_offered, numbers_withdrawn, numbers_closed, numbers_pulled}
 use Rattle.h2_conn.specs.declared.fault.ConnCause.TheVariants as cause
 use Rattle.h2_conn.specs.declared.fault.ConnFault.{ConnFault}
@@ -29,11 +29,11 @@ use Rattle.h2_conn.specs.declared.state.State.{State}
 use Rattle.h2_conn.specs.declared.state.Unfinished.{Unfinished}
 use Rattle.h2_conn.specs.declared.streams.Stream.{Stream}
 use Rattle.h2_conn.specs.Streams.{is_live, has_ended, is_answered, without, ended_if, ending, answered_if, answering}
-use Rattle.h2_conn.specs.Peer.{Outcome, goes, fails, fault, nothing, queued, closed, reset_with, request_ends, given_back, with_window, is_idle, has_come, is_settings, is_continuation, interrupts, is_none, is_misplaced, pieces_of, is_empty_data, is_rapid, is_frame_size, noted, set_one, after_setting, set_all, set_frame, reset_frame, data_on, data_counted, Gathered, started, continued, too_long, grows, decoding, code_of, opened, tabled, head_in, closed_in, ended_in, trailed, when, or_else, peer}
+use Rattle.h2_conn.specs.Peer.{Outcome, goes, fails, fault, nothing, queued, closed, reset_with, request_ends, given_back, with_window, is_idle, has_come, is_settings, is_continuation, interrupts, is_none, is_misplaced, pieces_of, is_empty_data, is_rapid, is_frame_size, noted, set_one, after_setting, set_all, set_frame, reset_frame, data_on, data_counted, Gathered, started, continued, grows, decoding, opened, tabled, closed_in, ended_in, trailed, when, or_else, peer}
 use Rattle.h2_conn.specs.Kinds.{Steps, guarded, headers_rows, decoded_rows, block_rows, gathered_rows, kind_rows, data_rows, reset_rows, settings_rows, ping_rows, window_rows, head_rows, continuation_rows, Fits}
 use Rattle.h2_conn.specs.Conns.{takes, given_head, given_last, given_message, left_message, reset_by}
 use Rattle.h2_conn.specs.Sound.{number_of, IsLow, Ties, Sound, SoundLink, SoundAfter}
-use Rattle.h2_conn.specs.Naming.{Names, NamesTold, NamesAfter, NamesOn}
+use Rattle.h2_conn.specs.Naming.{Names, NamesAfter, NamesOn}
 use Rattle.h2_conn.proofs.Choice.{peer_is}
 
 -- ---- tests

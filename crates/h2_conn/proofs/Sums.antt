@@ -1,7 +1,6 @@
 -- The flood counts are sums over what came and was written.
-use Rattle.std.proofs.Common.{◌≡◌, ℕ, ◌+◌, ◌<◌, ◌≤◌, ◌==◌, ◌%◌, ◌∙◌, Bool, true, false, not, cond, ◌&&◌, ◌||◌, nat_lt, List, [], ◌∷◌, ◌++◌, length, count_by, Option, Some, None, Result, Ok, Err, refl, sym, ap, arith, inl, inr, add-zero, zero-add}
+use Rattle.std.proofs.Common.{◌≡◌, ℕ, ◌+◌, ◌==◌, ◌%◌, ◌∙◌, Bool, true, false, not, cond, ◌&&◌, ◌||◌, nat_lt, List, [], ◌∷◌, ◌++◌, length, count_by, Option, Some, None, Result, Ok, Err, refl, sym, ap, arith, zero-add}
 use Rattle.std.specs.List.{take_while}
-use Rattle.std.proofs.lemmas.Bool.{cases_Bool}
 use Rattle.std.proofs.lemmas.List.Sums.{sum_by-cons, take_while-cons}
 use Rattle.wl_octets.specs.declared.header.Header.{Header}
 use Rattle.wl_heads.specs.Heads.{are_good_trailers}
@@ -12,7 +11,7 @@ use Rattle.h2_frame.specs.declared.frame.Body.TheVariants.{Bytes, Headers, Prior
 use Rattle.h2_frame.specs.declared.frame.Frame.{Frame}
 use Rattle.h2_frame.specs.declared.frame.Setting.{Setting}
 use Rattle.h2_flow.specs.declared.overflow.Overflow.{Overflow}
-use Rattle.h2_flow.specs.Outboxes.{Out, Pulled, pulled, is_written, is_open, is_shrunk, shrunk, initialed, grown, headed, offered, withdrawn, closed_by}
+use Rattle.h2_flow.specs.Outboxes.{Out, Pulled, pulled, is_written, is_shrunk, shrunk, initialed, grown, headed, offered, withdrawn, closed_by}
 use Rattle.h2_conn.specs.declared.fault.ConnCause.TheVariants as cause
 use Rattle.h2_conn.specs.declared.fault.ConnFault.{ConnFault}
 use Rattle.h2_conn.specs.declared.happening.Happening.{Happening}
@@ -20,7 +19,7 @@ use Rattle.h2_conn.specs.declared.happening.Happening.TheVariants as happening
 use Rattle.h2_conn.specs.declared.state.State.{State}
 use Rattle.h2_conn.specs.declared.state.Unfinished.{Unfinished}
 use Rattle.h2_conn.specs.Streams.{is_live, has_ended, is_answered, ending, answering}
-use Rattle.h2_conn.specs.Peer.{Outcome, goes, fails, fault, nothing, queued, closed, reset_with, request_ends, given_back, with_window, is_idle, has_come, is_settings, is_continuation, interrupts, is_none, is_misplaced, pieces_of, is_empty_data, is_rapid, is_frame_size, noted, set_one, after_setting, set_all, set_frame, reset_frame, data_on, data_counted, Gathered, started, continued, too_long, grows, decoding, code_of, opened, tabled, head_in, closed_in, ended_in, trailed, when, or_else, peer}
+use Rattle.h2_conn.specs.Peer.{Outcome, goes, fails, fault, nothing, queued, closed, reset_with, request_ends, given_back, with_window, is_idle, has_come, is_settings, is_continuation, interrupts, is_none, is_misplaced, pieces_of, is_empty_data, is_rapid, is_frame_size, noted, set_one, after_setting, set_all, set_frame, reset_frame, data_on, data_counted, Gathered, started, continued, grows, decoding, opened, tabled, closed_in, ended_in, trailed, when, or_else, peer}
 use Rattle.h2_conn.specs.Kinds.{guarded, headers_rows, decoded_rows, block_rows, gathered_rows, kind_rows, data_rows, reset_rows, settings_rows, ping_rows, window_rows, head_rows, continuation_rows}
 use Rattle.h2_conn.specs.Conns.{takes, given_head, given_last, given_message, left_message, reset_by, answer_ends, answers_end, moved, after_pull}
 use Rattle.h2_conn.specs.Counts.{Step, Came, Wrote, Head, Finish, Offer, Withdraw, Refuse, is_early, Leads, Reaches, is_data, is_head, is_empty, came, came_early, ends_resets, restarts, since, PiecesAre, HasCounts}

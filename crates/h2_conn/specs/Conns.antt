@@ -1,11 +1,9 @@
 -- What each call of a connection does. `Link` is the state from which the connection is resumed, failing for good included.
-use Rattle.std.specs.Prelude.{◌≡◌, ℕ, ◌==◌, Bool, true, false, not, ◌&&◌, ◌||◌, if◌then◌else◌, List, [], ◌∷◌, ◌++◌, length, Option, Some, None, Result, Ok, Err}
-use Rattle.wl_octets.specs.declared.header.Header.{Header}
+use Rattle.std.specs.Prelude.{◌≡◌, ℕ, ◌==◌, Bool, false, not, ◌&&◌, ◌||◌, if◌then◌else◌, List, [], ◌∷◌, ◌++◌, length, Option, Some, None, Result, Ok, Err}
 use Rattle.wl_octets.specs.declared.memory.Memory.{Memory}
 use Rattle.wl_words.specs.Lists.{GainsFront}
 use Rattle.hpack.specs.Tables.{first_table}
 use Rattle.hpack.specs.Decoding as decoder
-use Rattle.hpack.specs.Writing.{spelled_block}
 use Rattle.h2_frame.specs.declared.fault.FrameFault.{FrameFault}
 use Rattle.h2_frame.specs.declared.fault.FrameFault.TheVariants as frames
 use Rattle.h2_frame.specs.declared.frame.Body.TheVariants.{Reset, GoAway}
@@ -95,14 +93,32 @@ abbrev pub told_list : Option Happening → List Happening
 told_list None = []
 told_list (Some h) = h ∷ []
 
-abbrev pub Heard : State → Outcome → Result (Unit {0}) ConnError → List Happening → List Happening → Link → Type 0
-Heard q due (Ok x) old now new = (next : State) × (told : Option Happening) × (due ≡ goes next told) × (new ≡ Open next) × (now ≡ old ++ told_list told)
-Heard q due (Err (refusal.Fault f)) old now new = (control : List ℕ) × (due ≡ fails control f) × (new ≡ Failed f (control ++ goaway f) (past_of q)) × (now ≡ old)
-Heard q due (Err refusal.Memory) old now new = (new ≡ Broken (past_of q)) × (now ≡ old)
+-- where the connection stands behind a frame, what that told, and the connection's failure
+pub record Heard : Type 0 where
+  pub after : Link
+  pub told : List Happening
+  pub fault : Option ConnFault
 
--- the table's row; the first fault again; or want of memory again
+-- what an outcome makes of the state before it: at a fault the control frames still due and GOAWAY are all that is written
+abbrev pub heard_of : State → Outcome → Heard
+heard_of q (goes next told) = record { after = Open next; told = told_list told; fault = None }
+heard_of q (fails control f) = record { after = Failed f (control ++ goaway f) (past_of q); told = []; fault = Some f }
+
+-- the table's row; after a fault that fault again
+unfoldable pub heard : Link → Frame → Heard
+heard (Open q) f = heard_of q (peer q f)
+heard (Failed fault left past) f = record { after = Failed fault left past; told = []; fault = Some fault }
+heard (Broken past) f = record { after = Broken past; told = []; fault = None }
+
+-- what was answered is what is due, unless memory ran out
+abbrev pub Hears : Heard → Past → Result (Unit {0}) ConnError → List Happening → List Happening → Link → Type 0
+Hears due past (Ok x) old now new = (due.fault ≡ None) × (new ≡ due.after) × (now ≡ old ++ due.told)
+Hears due past (Err (refusal.Fault f)) old now new = (due.fault ≡ Some f) × (new ≡ due.after) × (now ≡ old)
+Hears due past (Err refusal.Memory) old now new = (new ≡ Broken past) × (now ≡ old)
+
+-- on a connection that has failed or is broken there is one answer
 abbrev pub Takes : Link → Frame → Result (Unit {0}) ConnError → List Happening → List Happening → Link → Type 0
-Takes (Open q) f result old now new = Heard q (peer q f) result old now new
+Takes (Open q) f result old now new = Hears (heard (Open q) f) (past_of q) result old now new
 Takes (Failed fault left past) f result old now new = (result ≡ Err (refusal.Fault fault)) × (new ≡ Failed fault left past) × (now ≡ old)
 Takes (Broken past) f result old now new = (result ≡ Err refusal.Memory) × (new ≡ Broken past) × (now ≡ old)
 

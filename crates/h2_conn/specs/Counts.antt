@@ -1,9 +1,9 @@
 -- What came to a connection and what it wrote, and the four flood counts as sums over that.
-use Rattle.std.specs.Prelude.{◌≡◌, ℕ, ◌==◌, Bool, true, false, not, ◌&&◌, ◌||◌, List, [], ◌∷◌, length, count_by, Option, Some, None}
+use Rattle.std.specs.Prelude.{◌≡◌, ℕ, ◌==◌, Bool, true, false, not, ◌||◌, List, [], ◌∷◌, length, count_by, Option, Some, None}
 use Rattle.std.specs.List.{take_while}
 use Rattle.h2_flow.specs.Outboxes.{pulled}
 use Rattle.h2_frame.specs.declared.frame.Body.{Body}
-use Rattle.h2_frame.specs.declared.frame.Body.TheVariants.{Bytes, Headers, Reset, Settings, Continuation}
+use Rattle.h2_frame.specs.declared.frame.Body.TheVariants.{Bytes, Headers, Reset}
 use Rattle.h2_frame.specs.declared.frame.Frame.{Frame}
 use Rattle.h2_conn.specs.declared.happening.Happening.{Happening}
 use Rattle.h2_conn.specs.declared.state.State.{State}

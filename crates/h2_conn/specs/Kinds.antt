@@ -1,5 +1,5 @@
 -- The table's rows for each kind of frame, as the code takes them.
-use Rattle.std.specs.Prelude.{◌≡◌, ℕ, ◌+◌, ◌<◌, ◌≤◌, ◌^◌, Bool, true, false, List, [], ◌∷◌, length, Option, Some, None, Result, Ok, Err}
+use Rattle.std.specs.Prelude.{◌≡◌, ℕ, ◌<◌, ◌≤◌, ◌^◌, Bool, true, List, [], ◌∷◌, length, Option, Some, None, Result, Ok, Err}
 use Rattle.wl_octets.specs.declared.header.Header.{Header}
 use Rattle.hpack.specs.declared.fault.HpackFault.{HpackFault}
 use Rattle.hpack.specs.declared.fault.HpackFault.TheVariants as hpack
@@ -15,7 +15,7 @@ use Rattle.h2_conn.specs.declared.fault.ConnError.TheVariants as refusal
 use Rattle.h2_conn.specs.declared.happening.Happening.{Happening}
 use Rattle.h2_conn.specs.declared.state.State.{State}
 use Rattle.h2_conn.specs.declared.state.Unfinished.{Unfinished}
-use Rattle.h2_conn.specs.Peer.{Outcome, goes, fails, fault, nothing, or_else, first_row, first_frame, block_open, no_block, stream_zero, empty_data_flood, idle_stream, data_received, reset_flood, reset_received, settings_flood, settings_received, no_effect, ping_received, connection_window, stream_window, continuation_flood, even_stream, Gathered, started, continued, too_long, grows, Decoding, decoding, code_of, tabled, head_in, closed_in, ended_in, trailed}
+use Rattle.h2_conn.specs.Peer.{Outcome, goes, fails, fault, nothing, or_else, first_row, first_frame, block_open, no_block, stream_zero, empty_data_flood, idle_stream, data_received, reset_flood, reset_received, settings_flood, settings_received, no_effect, ping_received, connection_window, stream_window, continuation_flood, even_stream, Gathered, started, continued, too_long, grows, decoding, code_of, tabled, head_in, closed_in, ended_in, trailed}
 
 -- what was answered is what is due, unless memory ran out
 abbrev pub Steps : Outcome → Result (Option Happening) ConnError → State → Type 0

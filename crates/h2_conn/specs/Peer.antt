@@ -2,7 +2,7 @@
 --
 -- A row is a section of RFC 9113 or an own rule. In two places the profile departs from the RFC, and each says so: late DATA
 -- on a closed stream (row `data_received`) and late HEADERS on one (row `late_on_closed`) are ignored, whatever closed it.
-use Rattle.std.specs.Prelude.{◌≡◌, ℕ, ◌+◌, ◌%◌, ◌==◌, nat_lt, Bool, true, false, not, ◌&&◌, ◌||◌, if◌then◌else◌, List, [], ◌∷◌, ◌++◌, length, Option, Some, None, Result, Ok, Err}
+use Rattle.std.specs.Prelude.{ℕ, ◌+◌, ◌%◌, ◌==◌, nat_lt, Bool, true, false, not, ◌&&◌, ◌||◌, if◌then◌else◌, List, [], ◌∷◌, ◌++◌, length, Option, Some, None, Result, Ok, Err}
 use Rattle.wl_octets.specs.declared.header.Header.{Header}
 use Rattle.wl_heads.specs.Heads.{are_good_trailers}
 use Rattle.hpack.specs.declared.fault.HpackFault.{HpackFault}

@@ -115,7 +115,7 @@ impl Conn {
     /// Takes one frame, by the first row of the connection table that applies to it: queues
     /// what it is answered by, and tells in `into` what happened, at most one happening. A
     /// fault is answered where a row gives one, and by each later frame again.
-    #[tactic(auto, using(crate::proofs::Sounds::names_on))]
+    #[tactic(auto, using(crate::proofs::Sounds::names_on), unfolding(crate::specs::Conns::heard))]
     pub fn frame(&mut self, frame: Frame, into: &mut Row<Happening>) -> Result<(), ConnError>
         requires { Fits frame }
         ensures step { Takes self.old frame result into.old into.new self.new }
