@@ -1,8 +1,15 @@
 -- What a cache is made of.
-use Rattle.std.specs.Prelude.{List, [], Option, Some, None}
+use Rattle.std.specs.Prelude.{ℕ, List, [], Option, Some, None}
 use Rattle.wl_entry.specs.declared.asks.Ask.{Ask}
+use Rattle.svid_cache.specs.Caches.{Cached, IsCached}
+use Rattle.svid_cache.specs.Queue.{Filed, NotBefore}
 
 -- the asks, none before the first are told
 abbrev pub told : Option (List Ask) → List Ask
 told None = []
 told (Some asks) = asks
+
+-- The facts of a cache; and none of its asks is due before the second of its block of 64.
+pub record IsKept (c : Cached) (firsts : List ℕ) : Type 0 where
+  pub cached : IsCached c
+  pub filed : Filed (NotBefore c.svids) 64 firsts c.asks

@@ -8,11 +8,15 @@ ghost use Rattle.svid_cache.specs.Caches.{is_listed, due_asks, synced, swept, in
 
 use crate::asks::lists;
 use crate::install::Installed;
-use crate::kept::{due_of, find_kept, judge_end, share_all, share_listed, share_with};
+use crate::kept::{find_kept, judge_end, share_all, share_listed, share_with};
+use crate::queue::{clear_until, due_of, file_all, refile};
 use std::alloc::Global;
 use std::marker::Model;
 use wl_entry::{Ask, Svid};
 use wl_octets::{Memory, Row, Shared};
+
+/// How many asks stand in a block of the queue.
+const BLOCK: usize = 64;
 
 /// The asks of the entries, and at most one SVID for each. Times are Unix seconds. After any answer but `Ok` it is
 /// as it was.
@@ -21,17 +25,19 @@ pub struct Cache {
     /// None before the first are told.
     asks: Option<Shared<Row<Ask>>>,
     svids: Vec<Shared<Svid>>,
+    /// A second for each block of asks, before which none of them is due.
+    firsts: Vec<u64>,
 }
 
 impl Model for Cache {
-    ghost use Rattle.svid_cache.specs.Caches.{Cached, IsCached};
-    ghost use Rattle.svid_cache.specs.Inside.{told};
+    ghost use Rattle.svid_cache.specs.Caches.{Cached};
+    ghost use Rattle.svid_cache.specs.Inside.{told, IsKept};
 
     ghost Value = { Cached };
 
     ghost view = { λ c. record { asks = told c.asks; svids = c.svids.items } };
 
-    ghost invariant = { λ c. IsCached (record { asks = told c.asks; svids = c.svids.items }) };
+    ghost invariant = { λ c. IsKept (record { asks = told c.asks; svids = c.svids.items }) c.firsts.items };
 }
 
 impl Cache {
@@ -42,6 +48,7 @@ impl Cache {
         Cache {
             asks: None,
             svids: Vec::new(alloc),
+            firsts: Vec::new(alloc),
         }
     }
 
@@ -56,6 +63,7 @@ impl Cache {
         Ok(Cache {
             asks,
             svids: share_all(alloc, self.svids.as_slice())?,
+            firsts: Vec::from_slice(alloc, self.firsts.as_slice())?,
         })
     }
 
@@ -93,8 +101,10 @@ impl Cache {
         ensures err { OnErr result (self.new ≡ self.old) }
     {
         let svids = share_listed(alloc, self.svids.as_slice(), asks.as_slice())?;
+        let firsts = file_all(alloc, BLOCK, asks.as_slice(), svids.as_slice())?;
         self.asks = Some(Shared::new(alloc, asks)?);
         self.svids = svids;
+        self.firsts = firsts;
         Ok(())
     }
 
@@ -105,6 +115,7 @@ impl Cache {
     {
         let before = self.svids.len();
         self.svids.retain(|svid| now < svid.part().signed.not_after);
+        clear_until(self.firsts.as_mut_slice(), now);
         (before - self.svids.len()) as u32
     }
 
@@ -112,7 +123,14 @@ impl Cache {
     pub fn due(&self, alloc: Global, now: u64) -> Result<Row<Ask>, Memory>
         ensures { IfOk result (λ r. r ≡ due_asks now self.now) }
     {
-        due_of(alloc, self.asks(), self.svids(), now)
+        due_of(
+            alloc,
+            BLOCK,
+            self.firsts.as_slice(),
+            self.asks(),
+            self.svids(),
+            now,
+        )
     }
 
     /// Takes a new SVID in, where nothing stands against it.
@@ -137,7 +155,17 @@ impl Cache {
         ensures ok { OnOk result (self.new ≡ after Installed.Kept svid self.old) }
         ensures err { OnErr result (self.new ≡ self.old) }
     {
-        self.svids = share_with(alloc, self.svids.as_slice(), svid)?;
+        let id = svid.ask.entry_id.copy(alloc)?;
+        let svids = share_with(alloc, self.svids.as_slice(), svid)?;
+        self.firsts = refile(
+            alloc,
+            BLOCK,
+            self.firsts.as_slice(),
+            self.asks(),
+            svids.as_slice(),
+            &id,
+        )?;
+        self.svids = svids;
         Ok(())
     }
 

@@ -11,7 +11,7 @@ use crate::install::Installed;
 use std::alloc::Global;
 use wl_entry::{Ask, Signed, Svid};
 use wl_keyed::find_by_key;
-use wl_octets::{Memory, Octets, Row, Shared};
+use wl_octets::{Memory, Octets, Shared};
 
 /// The SVID, where it was signed for this ask.
 fn signed_for<'a>(svid: &'a Shared<Svid>, ask: &Ask) -> Option<&'a Shared<Svid>>
@@ -38,7 +38,7 @@ pub(crate) fn find_kept<'a>(svids: &'a [Shared<Svid>], ask: &Ask) -> Option<&'a 
 
 /// Whether an ask is due.
 #[tactic(auto, unfolding(crate::specs::Caches::is_due))]
-fn due_at(svids: &[Shared<Svid>], ask: &Ask, now: u64) -> bool
+pub(crate) fn due_at(svids: &[Shared<Svid>], ask: &Ask, now: u64) -> bool
     requires { Rises (map svid_key svids.now) }
     ensures { result ≡ is_due now svids.now ask.now }
 {
@@ -46,25 +46,6 @@ fn due_at(svids: &[Shared<Svid>], ask: &Ask, now: u64) -> bool
         Some(svid) => svid.part().signed.is_due(now),
         None => true,
     }
-}
-
-/// The asks that are due.
-pub(crate) fn due_of(
-    alloc: Global,
-    asks: &[Ask],
-    svids: &[Shared<Svid>],
-    now: u64,
-) -> Result<Row<Ask>, Memory>
-    requires { Rises (map svid_key svids.now) }
-    ensures { IfOk result (λ r. r ≡ filter (is_due now svids.now) asks.now) }
-{
-    let mut due = Vec::new(alloc);
-    for ask in asks {
-        if due_at(svids, ask, now) {
-            due.push(ask.copy(alloc)?)?;
-        }
-    }
-    Ok(Row::from_vec(due))
 }
 
 /// The same SVIDs once more, shared.

@@ -8,6 +8,7 @@ mod asks;
 mod cache;
 mod install;
 mod kept;
+mod queue;
 #[cfg(test)]
 mod tests;
 

@@ -4,6 +4,7 @@ ghost use Rattle.std.specs.Prelude.{◌<◌, ◌^◌, length, map, IfOk};
 ghost use Rattle.wl_words.specs.Lists.{Rises};
 ghost use Rattle.wl_entry.specs.Keys.{ask_key};
 
+use crate::queue::{due_of, file_all};
 use crate::{Cache, Installed};
 use spiffe_id::SpiffeId;
 use std::alloc::Global;
@@ -92,6 +93,27 @@ fn first_due_second(rt: HostRuntime) -> Result<(), Fail> {
     let _ = cache.install(alloc, svid(alloc, b"e1", 100, 201)?, 100)?;
     assert_eq!(rt; count_due(alloc, &cache, 150)?, 0);
     assert_eq!(rt; count_due(alloc, &cache, 151)?, 1);
+    Ok(())
+}
+
+/// How many asks of the entries `e1` and `e2` are due, in blocks of this size.
+fn count_in_blocks(alloc: Global, size: usize, cache: &Cache, now: u64) -> Result<usize, Fail>
+    requires { 0 < size }
+{
+    let svids = cache.svids();
+    let asks = vec![in alloc; ask(alloc, b"e1")?, ask(alloc, b"e2")?]?;
+    let firsts = file_all(alloc, size, asks.as_slice(), svids)?;
+    Ok(due_of(alloc, size, firsts.as_slice(), asks.as_slice(), svids, now)?.len())
+}
+
+#[test]
+fn blocks_of_asks(rt: HostRuntime) -> Result<(), Fail> {
+    let alloc = rt.alloc();
+    let mut cache = cache(alloc)?;
+    let _ = cache.install(alloc, svid(alloc, b"e1", 100, 200)?, 100)?;
+    assert_eq!(rt; count_in_blocks(alloc, 1, &cache, 149)?, 1);
+    assert_eq!(rt; count_in_blocks(alloc, 1, &cache, 150)?, 2);
+    assert_eq!(rt; count_in_blocks(alloc, 2, &cache, 149)?, 1);
     Ok(())
 }
 

@@ -1,5 +1,11 @@
+use Rattle.std.proofs.Common.{[], refl}
+use Rattle.svid_cache.specs.Queue.{NotBefore}
+use Rattle.svid_cache.proofs.Filing.{filed_none}
 use Rattle.svid_cache.proofs.Keeping.{empty_cached}
 use Rattle.svid_cache.proofs.cache.Cache.start.Goals as goal
 
 pub invariant_of-result : goal.invariant_of-result
-invariant_of-result c = empty_cached c.new.result.items c.new.ensures.items
+invariant_of-result c = record {
+  cached = empty_cached c.new.result.items c.new.ensures.items;
+  filed = filed_none (NotBefore c.new.result.items) 64 c.new-2.result.items [] c.new-2.ensures.items refl;
+}

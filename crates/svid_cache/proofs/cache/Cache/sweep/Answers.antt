@@ -1,14 +1,26 @@
-use Rattle.std.proofs.Common.{◌≡◌, ◌≤◌, length, filter, arith, rules, sym, ◌∙◌, ap, subst}
+use Rattle.std.proofs.Common.{◌≡◌, ◌≤◌, ◌++◌, List, ℕ, length, map, filter, take, drop, arith, rules, sym, ◌∙◌, ap, subst}
 use Rattle.std.proofs.lemmas.Fn.{filter_same}
-use Rattle.svid_cache.specs.Caches.{IsCached, lasts, swept}
-use Rattle.svid_cache.specs.Inside.{told}
+use Rattle.svid_cache.specs.Caches.{lasts, swept}
+use Rattle.svid_cache.specs.Inside.{told, IsKept}
+use Rattle.svid_cache.specs.Queue.{cleared}
+use Rattle.svid_cache.proofs.Filing.{filed_swept, written}
 use Rattle.svid_cache.proofs.Keeping.{swept_cached, few_svids}
 use Rattle.svid_cache.proofs.cache.Cache.sweep.Goals as goal
 
 pub invariant_of-self : goal.invariant_of-self
 invariant_of-self c =
     let same : c.retain.new.self.items ≡ filter (lasts c.args.now) c.self.inside.svids.items = filter_same _ _ _ (λ x b f' k. search rules) _ _ c.retain.ensures.filtered in
-    subst (λ l. IsCached (record { asks = told c.self.inside.asks; svids = l })) (sym same) (swept_cached c.args.now (told c.self.inside.asks) c.self.inside.svids.items c.self.invariant)
+    let mapped : c.clear_until.new.firsts ≡ map (cleared c.args.now) c.self.inside.firsts.items = c.clear_until.ensures ∙ ap (map (cleared c.args.now)) c.as_mut_slice.ensures.value in
+    let long : length c.clear_until.new.firsts ≡ length c.self.inside.firsts.items = c.clear_until.auto.firsts ∙ ap length c.as_mut_slice.ensures.value in
+    let all : length c.self.inside.firsts.items ≡ c.self.inside.firsts.len = sym (ap length c.as_mut_slice.ensures.value) ∙ c.as_mut_slice.ensures.len in
+    let firsts : take c.self.inside.firsts.len (c.clear_until.new.firsts ++ drop (length c.clear_until.new.firsts) c.self.inside.firsts.items) ≡ map (cleared c.args.now) c.self.inside.firsts.items =
+    written c.clear_until.new.firsts c.self.inside.firsts.items c.self.inside.firsts.len long all ∙ mapped in
+    let kept : IsKept (record { asks = told c.self.inside.asks; svids = filter (lasts c.args.now) c.self.inside.svids.items }) (map (cleared c.args.now) c.self.inside.firsts.items) = record {
+      cached = swept_cached c.args.now (told c.self.inside.asks) c.self.inside.svids.items c.self.invariant.cached;
+      filed = filed_swept c.args.now 64 c.self.inside.svids.items c.self.inside.firsts.items (told c.self.inside.asks) c.self.invariant.filed;
+    } in
+    subst (λ l. IsKept (record { asks = told c.self.inside.asks; svids = l }) (take c.self.inside.firsts.len (c.clear_until.new.firsts ++ drop (length c.clear_until.new.firsts) c.self.inside.firsts.items))) (sym same)
+    (subst (λ f. IsKept (record { asks = told c.self.inside.asks; svids = filter (lasts c.args.now) c.self.inside.svids.items }) f) (sym firsts) kept)
 
 pub returns-clause-swept : goal.returns-clause-swept
 returns-clause-swept c =
@@ -17,5 +29,5 @@ returns-clause-swept c =
 
 pub overflow_cast-result : goal.overflow_cast-result
 overflow_cast-result c =
-    let few : length c.self.inside.svids.items ≤ length (told c.self.inside.asks) = few_svids (told c.self.inside.asks) c.self.inside.svids.items c.self.invariant.asks c.self.invariant.svids c.self.invariant.listed in
-    grind (arith, few, c.self.invariant.few, c.len-before.ensures)
+    let few : length c.self.inside.svids.items ≤ length (told c.self.inside.asks) = few_svids (told c.self.inside.asks) c.self.inside.svids.items c.self.invariant.cached.asks c.self.invariant.cached.svids c.self.invariant.cached.listed in
+    grind (arith, few, c.self.invariant.cached.few, c.len-before.ensures)

@@ -1,0 +1,34 @@
+-- When asks come due, a block of asks at a time (own rule).
+use Rattle.std.specs.Prelude.{◌≡◌, ℕ, ◌+◌, ◌/◌, ◌≤◌, min, false, List, [], ◌∷◌, take, drop, if◌then◌else◌, nat_le, unwrap_or, option_map}
+use Rattle.std.specs.Str.{bytes_eq}
+use Rattle.std.specs.List.{AllByRecursion}
+use Rattle.wl_entry.specs.declared.asks.Ask.{Ask}
+use Rattle.wl_entry.specs.declared.signing.Signed.{Signed}
+use Rattle.wl_entry.specs.declared.signing.Svid.{Svid}
+use Rattle.svid_cache.specs.Caches.{kept_for}
+
+-- The second at which half of its time is over: not_before and half of the lifetime, rounded up. What ends before it
+-- begins counts from its end on.
+abbrev pub half_second : Signed → ℕ
+half_second g = min g.not_after ((g.not_before + g.not_after + 1) / 2)
+
+-- the first second at which the ask is due: 0 where no SVID is kept for it
+unfoldable pub first_second : List Svid → Ask → ℕ
+first_second svids a = unwrap_or (option_map (λ s. half_second s.signed) (kept_for svids a)) 0
+
+-- the ask is not due before this second
+abbrev pub NotBefore : List Svid → ℕ → Ask → Type 0
+NotBefore svids first a = first ≤ first_second svids a
+
+-- nor is any ask but that of this entry
+abbrev pub OthersNotBefore : List ℕ → List Svid → ℕ → Ask → Type 0
+OthersNotBefore id svids first a = bytes_eq a.entry_id id ≡ false → NotBefore svids first a
+
+-- The asks stand in blocks of this size, but for the last, with a second for each block that fits each of its asks.
+unfoldable pub Filed : (ℕ → Ask → Type 0) → ℕ → List ℕ → List Ask → Type 0
+Filed Fits size [] asks = asks ≡ []
+Filed Fits size (first ∷ firsts) asks = AllByRecursion (Fits first) (take size asks) × Filed Fits size firsts (drop size asks)
+
+-- a second that has come counts as the first of all
+abbrev pub cleared : ℕ → ℕ → ℕ
+cleared now first = if nat_le first now then 0 else first

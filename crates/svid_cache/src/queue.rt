@@ -1,0 +1,200 @@
+//! When asks come due. For each block of asks there is a second before which none of them is due, so that a block is
+//! passed over by one comparison until one of its asks may be due.
+
+ghost use Rattle.std.specs.Prelude.{◌≡◌, ◌≤◌, ◌<◌, ◌++◌, ℕ, nat_le, take, drop, map, filter, length, IfOk, OnOk};
+ghost use Rattle.std.specs.List.{AllByRecursion};
+ghost use Rattle.wl_words.specs.Lists.{Rises};
+ghost use Rattle.wl_entry.specs.Fitness.{is_half_over};
+ghost use Rattle.wl_entry.specs.Keys.{ask_key, svid_key};
+ghost use Rattle.svid_cache.specs.Caches.{is_due};
+ghost use Rattle.svid_cache.specs.Queue.{half_second, first_second, NotBefore, OthersNotBefore, Filed, cleared};
+
+use crate::kept::{due_at, find_kept};
+use std::alloc::Global;
+use wl_entry::{Ask, Signed, Svid};
+use wl_keyed::find_by_key;
+use wl_octets::{Memory, Octets, Row, Shared};
+
+/// The first second at which half of its time is over.
+#[tactic(auto, using(crate::proofs::Filing::half_exact))]
+fn half_time(signed: &Signed) -> u64
+    ensures second { result ≡ half_second signed.now }
+    ensures exact { signed.now.not_before ≤ signed.now.not_after → (now : ℕ) → is_half_over now signed.now ≡ nat_le result now }
+{
+    let half = (signed.not_before as u128 + signed.not_after as u128 + 1) / 2;
+    half.min(signed.not_after as u128) as u64
+}
+
+/// The first second at which the ask is due.
+#[tactic(auto, unfolding(crate::specs::Queue::first_second))]
+fn due_time(svids: &[Shared<Svid>], ask: &Ask) -> u64
+    requires { Rises (map svid_key svids.now) }
+    ensures { result ≡ first_second svids.now ask.now }
+{
+    match find_kept(svids, ask) {
+        Some(svid) => half_time(&svid.part().signed),
+        None => 0,
+    }
+}
+
+/// A second before which none of the asks is due.
+#[tactic(auto, using(crate::proofs::Filing::bound_more))]
+fn block_time(asks: &[Ask], svids: &[Shared<Svid>]) -> u64
+    requires { Rises (map svid_key svids.now) }
+    ensures { AllByRecursion (NotBefore svids.now result) asks.now }
+{
+    let mut first = u64::MAX;
+    for ask in asks {
+        first = first.min(due_time(svids, ask));
+    }
+    first
+}
+
+/// The first block of asks, and the others.
+#[tactic(auto, using(std::proofs::lemmas::List::take_all, std::proofs::lemmas::List::drop_all))]
+fn split_block(asks: &[Ask], size: usize) -> (&[Ask], &[Ask])
+    ensures block { result.0.now ≡ take size asks.now }
+    ensures others { result.1.now ≡ drop size asks.now }
+{
+    if size < asks.len() {
+        asks.split_at(size)
+    } else {
+        (asks, &[])
+    }
+}
+
+/// A second for each block of asks.
+pub(crate) fn file_all(
+    alloc: Global,
+    size: usize,
+    asks: &[Ask],
+    svids: &[Shared<Svid>],
+) -> Result<Vec<u64>, Memory>
+    requires size { 0 < size }
+    requires rises { Rises (map svid_key svids.now) }
+    ensures { IfOk result (λ v. Filed (NotBefore svids.now) size v.items asks.now) }
+{
+    let mut firsts = Vec::with_capacity(alloc, asks.len() / size)?;
+    let mut rest = asks;
+    while !rest.is_empty() {
+        let (block, others) = split_block(rest, size);
+        firsts.push(block_time(block, svids))?;
+        rest = others;
+    }
+    Ok(firsts)
+}
+
+/// The block's second, or a new one where an ask of the block is that of this entry.
+#[tactic(auto, using(crate::proofs::Filing::others_all))]
+fn block_anew(first: u64, block: &[Ask], svids: &[Shared<Svid>], id: &Octets) -> u64
+    requires asks { Rises (map ask_key block.now) }
+    requires svids { Rises (map svid_key svids.now) }
+    requires others { AllByRecursion (OthersNotBefore id.now svids.now first) block.now }
+    ensures { AllByRecursion (NotBefore svids.now result) block.now }
+{
+    match find_by_key(block, id.as_slice()) {
+        Some(_) => block_time(block, svids),
+        None => first,
+    }
+}
+
+/// The blocks' seconds, with a new one for the block in which the ask of this entry stands.
+pub(crate) fn refile(
+    alloc: Global,
+    size: usize,
+    firsts: &[u64],
+    asks: &[Ask],
+    svids: &[Shared<Svid>],
+    id: &Octets,
+) -> Result<Vec<u64>, Memory>
+    requires asks { Rises (map ask_key asks.now) }
+    requires svids { Rises (map svid_key svids.now) }
+    requires others { Filed (OthersNotBefore id.now svids.now) size firsts.now asks.now }
+    ensures { IfOk result (λ v. Filed (NotBefore svids.now) size v.items asks.now) }
+{
+    let mut anew = Vec::with_capacity(alloc, firsts.len())?;
+    let mut rest = asks;
+    for first in firsts {
+        let (block, others) = split_block(rest, size);
+        anew.push(block_anew(*first, block, svids, id))?;
+        rest = others;
+    }
+    Ok(anew)
+}
+
+/// The second, or 0 where it has come.
+fn clear(first: u64, now: u64) -> u64
+    ensures { result ≡ cleared now first }
+{
+    if first <= now { 0 } else { first }
+}
+
+/// Lets each block count as due whose second has come. It takes no memory.
+pub(crate) fn clear_until(firsts: &mut [u64], now: u64)
+    ensures { firsts.new ≡ map (cleared now) firsts.old }
+{
+    for first in firsts.iter_mut() {
+        *first = clear(*first, now);
+    }
+}
+
+/// Adds those of the asks that are due.
+fn push_due(
+    alloc: Global,
+    due: &mut Vec<Ask>,
+    asks: &[Ask],
+    svids: &[Shared<Svid>],
+    now: u64,
+) -> Result<(), Memory>
+    requires { Rises (map svid_key svids.now) }
+    ensures { OnOk result (due.new.items ≡ due.old.items ++ filter (is_due now svids.now) asks.now) }
+{
+    for ask in asks {
+        if due_at(svids, ask, now) {
+            due.push(ask.copy(alloc)?)?;
+        }
+    }
+    Ok(())
+}
+
+/// Adds those asks of a block that are due. Nothing is looked for where its second has not come.
+fn push_block(
+    alloc: Global,
+    due: &mut Vec<Ask>,
+    first: u64,
+    block: &[Ask],
+    svids: &[Shared<Svid>],
+    now: u64,
+) -> Result<(), Memory>
+    requires rises { Rises (map svid_key svids.now) }
+    requires fits { AllByRecursion (NotBefore svids.now first) block.now }
+    ensures { OnOk result (due.new.items ≡ due.old.items ++ filter (is_due now svids.now) block.now) }
+{
+    if now < first {
+        return Ok(());
+    }
+    push_due(alloc, due, block, svids, now)
+}
+
+/// The asks that are due. A block whose second has not come is passed over.
+pub(crate) fn due_of(
+    alloc: Global,
+    size: usize,
+    firsts: &[u64],
+    asks: &[Ask],
+    svids: &[Shared<Svid>],
+    now: u64,
+) -> Result<Row<Ask>, Memory>
+    requires rises { Rises (map svid_key svids.now) }
+    requires filed { Filed (NotBefore svids.now) size firsts.now asks.now }
+    ensures { IfOk result (λ r. r ≡ filter (is_due now svids.now) asks.now) }
+{
+    let mut due = Vec::new(alloc);
+    let mut rest = asks;
+    for first in firsts {
+        let (block, others) = split_block(rest, size);
+        push_block(alloc, &mut due, *first, block, svids, now)?;
+        rest = others;
+    }
+    Ok(Row::from_vec(due))
+}
