@@ -1,4 +1,4 @@
-use Rattle.std.proofs.Common.{◌≡◌, ◌∙◌, ap}
+use Rattle.std.proofs.Common.{◌∙◌, ap}
 use Rattle.wl_match.specs.Indexes.{is_entitled, entitled_places}
 use Rattle.wl_match.proofs.Hits.{all_due}
 use Rattle.wl_match.proofs.Rising.{among, places_are}
