@@ -1,8 +1,8 @@
 -- The newest that passes, one item further.
-use Rattle.std.proofs.Common.{◌≡◌, ℕ, zero, suc, ◌+◌, ◌<◌, Bool, if◌then◌else◌, List, [], ◌∷◌, length, drop, slice_get, Option, Some, None, refl, sym, ap, ◌∙◌, arith}
+use Rattle.std.proofs.Common.{◌≡◌, ℕ, zero, suc, ◌+◌, ◌<◌, Bool, if◌then◌else◌, List, [], ◌∷◌, length, drop, slice_get, Option, Some, None, sym, ap, ◌∙◌, arith}
 use Rattle.std.proofs.lemmas.Option.{slice_get_within, get_or_from_slice_get}
 use Rattle.std.proofs.Math.Seq.{drop-cons}
-use Rattle.std.proofs.Common.{add-one, get_or}
+use Rattle.std.proofs.Common.{add-one}
 use Rattle.jwt_cache.specs.Keeps.{newest}
 
 pub newest_step : {A : Type 0} (test : A → Bool) (xs : List A) (i : ℕ) (k : A) (before whole : Option A) → slice_get xs i ≡ Some k → newest test before (drop i xs) ≡ whole

@@ -1,5 +1,5 @@
 -- Kept tokens, and the one that is found (own rules after the SPIRE agent).
-use Rattle.std.specs.Prelude.{ℕ, ◌-◌, ◌&&◌, Bool, not, if◌then◌else◌, List, [], ◌∷◌, ◌++◌, filter, length, drop, option_map, Option, Some, None}
+use Rattle.std.specs.Prelude.{ℕ, ◌-◌, ◌&&◌, Bool, not, if◌then◌else◌, List, [], ◌∷◌, filter, length, drop, option_map, Option, Some, None}
 use Rattle.std.specs.Str.{bytes_eq}
 use Rattle.std.specs.Cmp.Lexicographic.{pointwise}
 use Rattle.wl_selector.specs.Selectors.{sorted_texts}

@@ -1,6 +1,6 @@
 -- How the index is kept: each entry is filed under one of its selectors, the first, and a caller can only be entitled
 -- to what is filed under one of the caller's selectors, or under none.
-use Rattle.std.specs.Prelude.{◌≡◌, ℕ, ◌<◌, ◌^◌, ◌&&◌, Bool, true, false, List, [], ◌∷◌, map, filter, length, Option, Some, None, slice_get}
+use Rattle.std.specs.Prelude.{◌≡◌, ℕ, ◌<◌, ◌^◌, ◌&&◌, Bool, false, List, [], ◌∷◌, map, filter, length, Option, Some, None}
 use Rattle.std.specs.Str.{bytes_eq}
 use Rattle.wl_words.specs.Lists.{Rises}
 use Rattle.wl_keyed.specs.Keys.{item_at}

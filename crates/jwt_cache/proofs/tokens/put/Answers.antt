@@ -1,4 +1,4 @@
-use Rattle.std.proofs.Common.{◌≡◌, ◌∙◌, sym, ap}
+use Rattle.std.proofs.Common.{◌∙◌, sym}
 use Rattle.jwt_cache.proofs.Keeping.{put_some, put_none}
 use Rattle.jwt_cache.proofs.tokens.put.Goals as goal
 

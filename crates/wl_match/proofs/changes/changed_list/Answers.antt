@@ -1,4 +1,4 @@
-use Rattle.std.proofs.Common.{◌≡◌, length, ◌∙◌, ap, arith}
+use Rattle.std.proofs.Common.{◌≡◌, ◌∙◌, ap}
 use Rattle.std.specs.Map.{values_of}
 use Rattle.wl_match.specs.Changes.{changed_entries}
 use Rattle.wl_match.proofs.ById.{values_by_id, keys_by_id, changed_few}

@@ -1,4 +1,4 @@
-use Rattle.std.proofs.Common.{◌≡◌, ◌<◌, length, sym, option_map, None, arith}
+use Rattle.std.proofs.Common.{◌<◌, length, sym, option_map, None, arith}
 use Rattle.jwt_cache.specs.Keeps.{newest, is_of_use}
 use Rattle.jwt_cache.proofs.Newest.{newest_step, none_in}
 use Rattle.jwt_cache.proofs.rings.Ring.newest.Goals as goal

@@ -1,5 +1,5 @@
 -- what is left of the tokens gives what all of them give
-use Rattle.std.proofs.Common.{◌≡◌, ◌≤◌, length, drop, option_map, None}
+use Rattle.std.proofs.Common.{◌≡◌, drop, option_map, None}
 use Rattle.jwt_cache.specs.Keeps.{newest, is_of_use}
 use Rattle.jwt_cache.proofs.rings.Ring.newest.Given as goal
 

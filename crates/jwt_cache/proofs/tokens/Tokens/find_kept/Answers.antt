@@ -1,4 +1,4 @@
-use Rattle.std.proofs.Common.{◌≡◌, None, Some, ◌∙◌, ap}
+use Rattle.std.proofs.Common.{None, Some, ◌∙◌, ap}
 use Rattle.wl_selector.specs.Selectors.{sorted_texts}
 use Rattle.jwt_cache.proofs.Keeping.{find_none, find_some}
 use Rattle.jwt_cache.proofs.tokens.Tokens.find_kept.Goals as goal
