@@ -19,7 +19,11 @@ mod happening;
 mod laws;
 mod link;
 #[cfg(test)]
+mod request_tests;
+#[cfg(test)]
 mod row_tests;
+#[cfg(test)]
+mod samples;
 mod settings;
 mod state;
 mod streams;
