@@ -13,6 +13,8 @@ mod lists;
 mod manager;
 mod preparing;
 mod publishing;
+#[cfg(test)]
+mod tests;
 mod tickets;
 
 pub use manager::Manager;
