@@ -23,12 +23,9 @@ use Rattle.wl_keyed.specs.Keys.{item_at}
 use Rattle.wl_keyed.proofs.Chosen.{all_such}
 use Rattle.wl_keyed.proofs.Halving.{order, not_same, turned}
 use Rattle.svid_cache.specs.Caches.{kept_for, is_due, lasts, is_below, is_above, put}
-use Rattle.svid_cache.specs.Queue.{half_second, first_second, NotBefore, OthersNotBefore, Filed, cleared}
+use Rattle.svid_cache.specs.Queue.{half_second, first_second, NotBefore, OthersNotBefore, Filed, NoneBelow, NoneOver, cleared}
 
 -- ---- the first second
-
-pub half_exact : (g : Signed) (now : ℕ) → g.not_before ≤ g.not_after → is_half_over now g ≡ nat_le (half_second g) now
-half_exact g now order = grind (arith, nat_tests, order)
 
 -- what is half over has come to that second, whatever its times
 half_come : (g : Signed) (now : ℕ) → now < half_second g → is_half_over now g ≡ false
@@ -47,18 +44,40 @@ pub none_due : (now first : ℕ) (svids : List Svid) (asks : List Ask) → AllBy
 none_due now first svids [] all before = refl
 none_due now first svids (a ∷ more) all before = rw (not_due now first svids a all.0 before) (none_due now first svids more all.1 before)
 
+-- nor any ask before the least of the seconds
+pub none_filed : (now next size : ℕ) (svids : List Svid) (firsts : List ℕ) (asks : List Ask) → Filed (NotBefore svids) size firsts asks → NoneBelow next firsts → now < next → filter (is_due now svids) asks ≡ []
+unfolding Filed
+none_filed now next size svids [] asks filed all before = ap (filter (is_due now svids)) filed
+none_filed now next size svids (f ∷ fs) asks filed all before =
+    ap (filter (is_due now svids)) (sym (take-append-drop size asks))
+    ∙ (filter-append (is_due now svids) (take size asks) (drop size asks)
+    ∙ (λ i. none_due now f svids (take size asks) filed.0 (omega (arith, before, all.0)) i ++ none_filed now next size svids fs (drop size asks) filed.1 all.1 before i))
+
+-- nor is any SVID over before the first end
+over_go : (now until : ℕ) (s : Svid) → until ≤ s.signed.not_after → now < until → lasts now s ≡ true
+over_go now until s from before = grind (arith, nat_tests, from, before)
+
+pub none_over : (now until : ℕ) (svids : List Svid) → NoneOver until svids → now < until → filter (lasts now) svids ≡ svids
+none_over now until [] all before = refl
+none_over now until (s ∷ more) all before = rw (over_go now until s all.0 before) (ap (λ l. s ∷ l) (none_over now until more all.1 before))
+
+pub no_ends : (until : ℕ) (svids : List Svid) → svids ≡ [] → NoneOver until svids
+no_ends until svids empty = subst (NoneOver until) (sym empty) tt
+
+pub no_seconds : (least : ℕ) (firsts : List ℕ) → firsts ≡ [] → NoneBelow least firsts
+no_seconds least firsts empty = subst (NoneBelow least) (sym empty) tt
+
 -- ---- a block's second
 
 all_push : {X : Type 0} (P : X → Type 0) (xs : List X) (x : X) → AllByRecursion P xs → P x → AllByRecursion P (xs ++ x ∷ [])
 all_push P [] x all here = (here, tt)
 all_push P (y ∷ ys) x all here = (all.0, all_push P ys x all.1 here)
 
--- the least of the seconds so far and of one more ask
-pub bound_more : (svids : List Svid) (asks : List Ask) (a : Ask) (i first : ℕ) → i < length asks → a ≡ get_or asks i a → AllByRecursion (NotBefore svids first) (take i asks) → AllByRecursion (NotBefore svids (min first (first_second svids a))) (take (i + 1) asks)
-bound_more svids asks a i first below at all =
-    let more : take (i + 1) asks ≡ take i asks ++ a ∷ [] = take_more asks i a below ∙ ap (λ b. take i asks ++ b ∷ []) (sym at) in
-    subst (AllByRecursion (NotBefore svids (min first (first_second svids a)))) (sym more)
-    (all_push (NotBefore svids (min first (first_second svids a))) (take i asks) a (all_such (NotBefore svids first) (NotBefore svids (min first (first_second svids a))) (take i asks) (λ x from. omega (arith, from)) all) (omega arith))
+-- the least of the seconds so far and of one more
+pub least_more : (firsts : List ℕ) (i least : ℕ) → i < length firsts → NoneBelow least (take i firsts) → NoneBelow (min least (get_or firsts i 0)) (take (i + 1) firsts)
+least_more firsts i least below all =
+    subst (NoneBelow (min least (get_or firsts i 0))) (sym (take_more firsts i 0 below))
+    (all_push (λ f. min least (get_or firsts i 0) ≤ f) (take i firsts) (get_or firsts i 0) (all_such (λ f. least ≤ f) (λ f. min least (get_or firsts i 0) ≤ f) (take i firsts) (λ f from. omega (arith, from)) all) (omega arith))
 
 -- ---- parts of what rises
 

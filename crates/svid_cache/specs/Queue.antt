@@ -32,3 +32,11 @@ Filed Fits size (first ∷ firsts) asks = AllByRecursion (Fits first) (take size
 -- a second that has come counts as the first of all
 abbrev pub cleared : ℕ → ℕ → ℕ
 cleared now first = if nat_le first now then 0 else first
+
+-- none of the seconds is below this one
+abbrev pub NoneBelow : ℕ → List ℕ → Type 0
+NoneBelow least firsts = AllByRecursion (λ f. least ≤ f) firsts
+
+-- none of the SVIDs is over before this second
+abbrev pub NoneOver : ℕ → List Svid → Type 0
+NoneOver until svids = AllByRecursion (λ s. until ≤ s.signed.not_after) svids

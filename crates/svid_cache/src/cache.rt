@@ -9,7 +9,7 @@ ghost use Rattle.svid_cache.specs.Caches.{is_listed, due_asks, synced, swept, in
 use crate::asks::lists;
 use crate::install::Installed;
 use crate::kept::{find_kept, judge_end, share_all, share_listed, share_with};
-use crate::queue::{clear_until, due_of, file_all, refile};
+use crate::queue::{clear_until, due_of, file_all, first_end, least, refile};
 use std::alloc::Global;
 use std::marker::Model;
 use wl_entry::{Ask, Svid};
@@ -27,6 +27,10 @@ pub struct Cache {
     svids: Vec<Shared<Svid>>,
     /// A second for each block of asks, before which none of them is due.
     firsts: Vec<u64>,
+    /// None of the asks is due before this second.
+    next: u64,
+    /// None of the SVIDs is over before this second.
+    until: u64,
 }
 
 impl Model for Cache {
@@ -37,7 +41,7 @@ impl Model for Cache {
 
     ghost view = { λ c. record { asks = told c.asks; svids = c.svids.items } };
 
-    ghost invariant = { λ c. IsKept (record { asks = told c.asks; svids = c.svids.items }) c.firsts.items };
+    ghost invariant = { λ c. IsKept (record { asks = told c.asks; svids = c.svids.items }) c.firsts.items c.next c.until };
 }
 
 impl Cache {
@@ -49,6 +53,8 @@ impl Cache {
             asks: None,
             svids: Vec::new(alloc),
             firsts: Vec::new(alloc),
+            next: u64::MAX,
+            until: u64::MAX,
         }
     }
 
@@ -64,6 +70,8 @@ impl Cache {
             asks,
             svids: share_all(alloc, self.svids.as_slice())?,
             firsts: Vec::from_slice(alloc, self.firsts.as_slice())?,
+            next: self.next,
+            until: self.until,
         })
     }
 
@@ -103,6 +111,8 @@ impl Cache {
         let svids = share_listed(alloc, self.svids.as_slice(), asks.as_slice())?;
         let firsts = file_all(alloc, BLOCK, asks.as_slice(), svids.as_slice())?;
         self.asks = Some(Shared::new(alloc, asks)?);
+        self.next = least(firsts.as_slice());
+        self.until = first_end(svids.as_slice());
         self.svids = svids;
         self.firsts = firsts;
         Ok(())
@@ -113,9 +123,14 @@ impl Cache {
         ensures swept { self.new ≡ swept now self.old }
         ensures count { result + length self.new.svids ≡ length self.old.svids }
     {
+        if now < self.until {
+            return 0;
+        }
         let before = self.svids.len();
         self.svids.retain(|svid| now < svid.part().signed.not_after);
         clear_until(self.firsts.as_mut_slice(), now);
+        self.next = least(self.firsts.as_slice());
+        self.until = first_end(self.svids.as_slice());
         (before - self.svids.len()) as u32
     }
 
@@ -123,6 +138,9 @@ impl Cache {
     pub fn due(&self, alloc: Global, now: u64) -> Result<Row<Ask>, Memory>
         ensures { IfOk result (λ r. r ≡ due_asks now self.now) }
     {
+        if now < self.next {
+            return Ok(Row::empty(alloc));
+        }
         due_of(
             alloc,
             BLOCK,
@@ -157,7 +175,7 @@ impl Cache {
     {
         let id = svid.ask.entry_id.copy(alloc)?;
         let svids = share_with(alloc, self.svids.as_slice(), svid)?;
-        self.firsts = refile(
+        let firsts = refile(
             alloc,
             BLOCK,
             self.firsts.as_slice(),
@@ -165,6 +183,9 @@ impl Cache {
             svids.as_slice(),
             &id,
         )?;
+        self.next = least(firsts.as_slice());
+        self.until = first_end(svids.as_slice());
+        self.firsts = firsts;
         self.svids = svids;
         Ok(())
     }

@@ -7,7 +7,7 @@ ghost use Rattle.wl_words.specs.Lists.{Rises};
 ghost use Rattle.wl_entry.specs.Fitness.{is_half_over};
 ghost use Rattle.wl_entry.specs.Keys.{ask_key, svid_key};
 ghost use Rattle.svid_cache.specs.Caches.{is_due};
-ghost use Rattle.svid_cache.specs.Queue.{half_second, first_second, NotBefore, OthersNotBefore, Filed, cleared};
+ghost use Rattle.svid_cache.specs.Queue.{half_second, first_second, NotBefore, OthersNotBefore, Filed, NoneBelow, NoneOver, cleared};
 
 use crate::kept::{due_at, find_kept};
 use std::alloc::Global;
@@ -16,7 +16,6 @@ use wl_keyed::find_by_key;
 use wl_octets::{Memory, Octets, Row, Shared};
 
 /// The first second at which half of its time is over.
-#[tactic(auto, using(crate::proofs::Filing::half_exact))]
 fn half_time(signed: &Signed) -> u64
     ensures second { result ≡ half_second signed.now }
     ensures exact { signed.now.not_before ≤ signed.now.not_after → (now : ℕ) → is_half_over now signed.now ≡ nat_le result now }
@@ -38,7 +37,6 @@ fn due_time(svids: &[Shared<Svid>], ask: &Ask) -> u64
 }
 
 /// A second before which none of the asks is due.
-#[tactic(auto, using(crate::proofs::Filing::bound_more))]
 fn block_time(asks: &[Ask], svids: &[Shared<Svid>]) -> u64
     requires { Rises (map svid_key svids.now) }
     ensures { AllByRecursion (NotBefore svids.now result) asks.now }
@@ -136,6 +134,28 @@ pub(crate) fn clear_until(firsts: &mut [u64], now: u64)
     for first in firsts.iter_mut() {
         *first = clear(*first, now);
     }
+}
+
+/// The least of the seconds.
+pub(crate) fn least(firsts: &[u64]) -> u64
+    ensures { NoneBelow result firsts.now }
+{
+    let mut least = u64::MAX;
+    for first in firsts {
+        least = least.min(*first);
+    }
+    least
+}
+
+/// The first second at which one of the SVIDs is over.
+pub(crate) fn first_end(svids: &[Shared<Svid>]) -> u64
+    ensures { NoneOver result svids.now }
+{
+    let mut end = u64::MAX;
+    for svid in svids {
+        end = end.min(svid.part().signed.not_after);
+    }
+    end
 }
 
 /// Adds those of the asks that are due.

@@ -3,7 +3,7 @@ use Rattle.wl_words.specs.Lists.{Rises}
 use Rattle.wl_entry.specs.Keys.{svid_key}
 use Rattle.svid_cache.specs.Caches.{IsCached, is_listed, put}
 use Rattle.svid_cache.specs.Inside.{told}
-use Rattle.svid_cache.specs.Queue.{Filed, NotBefore}
+use Rattle.svid_cache.specs.Queue.{Filed, NotBefore, NoneBelow, NoneOver}
 use Rattle.svid_cache.proofs.Filing.{filed_put, others_at}
 use Rattle.svid_cache.proofs.Keeping.{put_cached}
 use Rattle.svid_cache.proofs.cache.Cache.keep.Goals as goal
@@ -28,8 +28,10 @@ invariant_of-self c =
     let svids : c.in_ok-svids.svids.items ≡ put c.args.svid c.self.inside.svids.items = c.in_ok-svids.ensures ∙ ap (put c.args.svid) c.as_slice.ensures.value in
     let listed : is_listed (told c.self.inside.asks) c.args.svid.ask ≡ true = subst (λ v. is_listed v.asks c.args.svid.ask ≡ true) (sym c.self.view_is) c.requires.listed in
     let asks : c.asks.result.now ≡ told c.self.inside.asks = c.asks.ensures.asks ∙ sym (λ i. (c.self.view_is i).asks) in
-    let filed : Filed (NotBefore c.in_ok-svids.svids.items) 64 c.in_ok-self-inside.field-0.items c.asks.result.now = subst (λ l. Filed (NotBefore l) 64 c.in_ok-self-inside.field-0.items c.asks.result.now) c.as_slice-3.ensures.value c.in_ok-self-inside.ensures in
+    let filed : Filed (NotBefore c.in_ok-svids.svids.items) 64 c.in_ok-firsts.firsts.items c.asks.result.now = subst (λ l. Filed (NotBefore l) 64 c.in_ok-firsts.firsts.items c.asks.result.now) c.as_slice-3.ensures.value c.in_ok-firsts.ensures in
     record {
       cached = subst (λ l. IsCached (record { asks = told c.self.inside.asks; svids = l })) (sym svids) (put_cached c.args.svid (told c.self.inside.asks) c.self.inside.svids.items c.self.invariant.cached listed c.requires.within);
-      filed = subst (λ a. Filed (NotBefore c.in_ok-svids.svids.items) 64 c.in_ok-self-inside.field-0.items a) asks filed;
+      filed = subst (λ a. Filed (NotBefore c.in_ok-svids.svids.items) 64 c.in_ok-firsts.firsts.items a) asks filed;
+      none_below = subst (NoneBelow c.least-self-inside.result) c.as_slice-4.ensures.value c.least-self-inside.ensures;
+      none_over = subst (NoneOver c.first_end-self-inside.result) c.as_slice-5.ensures.value c.first_end-self-inside.ensures;
     }

@@ -1,6 +1,6 @@
 use Rattle.std.proofs.Common.{[], refl}
 use Rattle.svid_cache.specs.Queue.{NotBefore}
-use Rattle.svid_cache.proofs.Filing.{filed_none}
+use Rattle.svid_cache.proofs.Filing.{filed_none, no_seconds, no_ends}
 use Rattle.svid_cache.proofs.Keeping.{empty_cached}
 use Rattle.svid_cache.proofs.cache.Cache.start.Goals as goal
 
@@ -8,4 +8,6 @@ pub invariant_of-result : goal.invariant_of-result
 invariant_of-result c = record {
   cached = empty_cached c.new.result.items c.new.ensures.items;
   filed = filed_none (NotBefore c.new.result.items) 64 c.new-2.result.items [] c.new-2.ensures.items refl;
+  none_below = no_seconds 18446744073709551615 c.new-2.result.items c.new-2.ensures.items;
+  none_over = no_ends 18446744073709551615 c.new.result.items c.new.ensures.items;
 }
