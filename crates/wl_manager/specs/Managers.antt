@@ -68,8 +68,10 @@ AllTrusted signed strict svids = AllByRecursion (λ s. Trusted signed strict s.a
 abbrev pub cached_in : Publication → Cached
 cached_in p = record { asks = asks_of p.entries; svids = p.svids }
 
-pub record IsKept (signed : Ask → Signed → Type 0) (strict : Bool) (p : Publication) (c : Cached) : Type 0 where
+-- what every manager keeps beside its last publication; its index is of the published entries
+pub record IsKept (signed : Ask → Signed → Type 0) (strict : Bool) (p : Publication) (c : Cached) (index : List Entry) : Type 0 where
   pub cached : c ≡ cached_in p
+  pub indexed : index ≡ p.entries
   pub trusted : AllTrusted signed strict p.svids
 
 -- it was not kept

@@ -16,6 +16,7 @@ use crate::tickets::{Adopted, Change, Claim, Flight};
 use std::alloc::Global;
 use svid_cache::Cache;
 use wl_entry::{Ask, Bundle, Entry, Voucher};
+use wl_match::Index;
 use wl_octets::{Memory, Row, Shared};
 
 impl<V: Voucher> Manager<V> {
@@ -34,6 +35,13 @@ impl<V: Voucher> Manager<V> {
         Ok((entries, bundles))
     }
 
+    /// The index of the last publication's entries, shared.
+    fn index_share(&self) -> Result<Shared<Index>, Memory>
+        ensures { IfOk result (λ x. x ≡ self.now.store.entries) }
+    {
+        self.index.share()
+    }
+
     /// The manager with these SVIDs and tickets and a new publication.
     fn changed_svids(
         &self,
@@ -47,7 +55,8 @@ impl<V: Voucher> Manager<V> {
         ensures { IfOk result (λ m. m ≡ managed self.now.store.strict (publish (self.now.published.number + 1) self.now.published.domain (with_parts self.now.store.entries self.now.store.bundles cache.svids flying.items last self.now.store)) flying.items last) }
     {
         let stock = self.stock(alloc)?;
-        let next = self.changed(alloc, stock.0, stock.1, cache, flying, last)?;
+        let index = self.index_share()?;
+        let next = self.changed(alloc, stock.0, index, stock.1, cache, flying, last)?;
         Ok(next)
     }
 

@@ -11,6 +11,7 @@ use std::alloc::Global;
 use svid_cache::Cache;
 use wl_entry::{Ask, Bundle, Entry, Svid};
 use wl_keyed::find_by_key;
+use wl_match::Index;
 use wl_octets::{Memory, Row, Shared};
 
 /// The asks of these entries.
@@ -104,6 +105,16 @@ pub(crate) fn share_all<T: Drop>(
         shared.push(part.share()?)?;
     }
     Ok(Row::from_vec(shared))
+}
+
+/// The index of these entries, to be shared.
+pub(crate) fn index_of(alloc: Global, entries: &[Shared<Entry>]) -> Result<Shared<Index>, Memory>
+    requires rises { Rises (map entry_key entries.now) }
+    requires few { length entries.now ≤ 10000 }
+    ensures { IfOk result (λ x. x ≡ entries.now) }
+{
+    let index = Index::build(alloc, entries)?;
+    Ok(Shared::new(alloc, index)?)
 }
 
 /// A cache of the asks of these entries, without SVIDs.

@@ -1,14 +1,18 @@
 //! The manager.
 
-ghost use Rattle.std.specs.Prelude.{◌≡◌, ◌==◌, [], true, false, None, IfOk, IfErr, IsOkAnd};
-ghost use Rattle.std.specs.List.{list_any};
+ghost use Rattle.std.specs.Prelude.{◌≡◌, ◌<◌, ◌==◌, [], true, false, filter, length, None, IfOk, IfErr, IsOkAnd};
+ghost use Rattle.std.specs.List.{list_any, All};
+ghost use Rattle.std.specs.List.Sorted.{IsStrictlySortedBy};
+ghost use Rattle.std.specs.Ordering.{nat_cmp};
+ghost use Rattle.wl_entry.specs.Entitled.{is_entitled};
+ghost use Rattle.wl_match.specs.Indexes.{entitled_places, items_at};
 ghost use Rattle.wl_document.specs.Checks.{Faults};
 ghost use Rattle.wl_document.specs.Documents.{document_state};
 ghost use Rattle.wl_manager.specs.Stores.{flies};
 ghost use Rattle.wl_manager.specs.Managers.{started, spending, AllTrusted, IsStock};
 
 use crate::flights::{has_number, has_ticket, remove_flight};
-use crate::lists::{cache_of, share_bundles, share_entries};
+use crate::lists::{cache_of, index_of, share_bundles, share_entries};
 use crate::publishing::publication;
 use crate::tickets::{Flight, Ticket};
 use spiffe_id::TrustDomain;
@@ -17,7 +21,9 @@ use std::marker::{Model, PhantomData};
 use svid_cache::Cache;
 use wl_document::{AuthorityState, DocFault, read_state};
 use wl_entry::{Bundle, Entry, Voucher};
+use wl_match::Index;
 use wl_octets::{Memory, Row, Shared};
+use wl_selector::Selectors;
 use wl_snapshot::Snapshot;
 
 /// The store of the agent and its last publication. Times are Unix seconds.
@@ -25,6 +31,7 @@ use wl_snapshot::Snapshot;
 pub struct Manager<V: Voucher> {
     pub(crate) strict: bool,
     pub(crate) published: Shared<Snapshot>,
+    pub(crate) index: Shared<Index>,
     pub(crate) cache: Cache,
     pub(crate) flying: Vec<Flight>,
     pub(crate) last: u64,
@@ -38,7 +45,7 @@ impl<V: Voucher> Model for Manager<V> {
 
     ghost view = { λ m. managed m.strict m.published m.flying.items m.last };
 
-    ghost invariant = { λ m. IsKept V.signed m.strict m.published m.cache };
+    ghost invariant = { λ m. IsKept V.signed m.strict m.published m.cache m.index };
 }
 
 impl<V: Voucher> Manager<V> {
@@ -95,10 +102,12 @@ impl<V: Voucher> Manager<V> {
         let cache = cache_of(alloc, entries.as_slice())?;
         let entries = share_entries(alloc, &[], entries)?;
         let bundles = share_bundles(alloc, &[], bundles)?;
+        let index = index_of(alloc, entries.as_slice())?;
         let published = publication(alloc, 0, domain, entries, Row::empty(alloc), bundles)?;
         Ok(Manager {
             strict,
             published,
+            index,
             cache,
             flying: Vec::new(alloc),
             last: 0,
@@ -112,6 +121,26 @@ impl<V: Voucher> Manager<V> {
         ensures trusted { AllTrusted V.signed self.now.store.strict self.now.published.svids }
     {
         &self.published
+    }
+
+    /// The index of the entries of the last publication. It takes no memory.
+    pub fn index(&self) -> &Index
+        ensures { result.now ≡ self.now.published.entries }
+    {
+        self.index.part()
+    }
+
+    /// The places, rising, of exactly the entries of the last publication to which a caller with these selectors is
+    /// entitled.
+    pub fn entitled(&self, alloc: Global, selectors: &Selectors) -> Result<Row<u32>, Memory>
+        ensures value { IfOk result (λ places. places ≡ entitled_places selectors.now self.now.published.entries) }
+        ensures chosen { IfOk result (λ places. items_at self.now.published.entries places ≡ filter (is_entitled selectors.now) self.now.published.entries) }
+        ensures rising { IfOk result (IsStrictlySortedBy nat_cmp) }
+        ensures there { IfOk result (All (λ place. place < length self.now.published.entries)) }
+    {
+        let index = self.index();
+        let places = index.entitled(alloc, selectors)?;
+        Ok(places)
     }
 
     /// Whether a ticket of this number is in flight. It takes no memory.

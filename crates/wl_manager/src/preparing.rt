@@ -10,7 +10,7 @@ ghost use Rattle.wl_manager.specs.Managers.{keeping, change_to, synced_to, news,
 ghost use Rattle.wl_manager.specs.Stores.{asks_of, cached_of, synced_with, publish, shows_parts};
 
 use crate::flights::share_flights;
-use crate::lists::{cache_with, share_all, share_bundles, share_entries};
+use crate::lists::{cache_with, index_of, share_all, share_bundles, share_entries};
 use crate::manager::Manager;
 use crate::publishing::{publication, shows};
 use crate::tickets::{Adopted, Change, Flight};
@@ -20,6 +20,7 @@ use std::marker::PhantomData;
 use svid_cache::Cache;
 use wl_document::{AuthorityState, DocFault, read_state};
 use wl_entry::{Bundle, Entry, Svid, Voucher};
+use wl_match::Index;
 use wl_octets::{Memory, Row, Shared};
 use wl_snapshot::Snapshot;
 
@@ -73,6 +74,7 @@ impl<V: Voucher> Manager<V> {
         Ok(Manager {
             strict: self.strict,
             published: self.published.share()?,
+            index: self.index.share()?,
             cache,
             flying,
             last,
@@ -85,12 +87,14 @@ impl<V: Voucher> Manager<V> {
         &self,
         alloc: Global,
         entries: Row<Shared<Entry>>,
+        index: Shared<Index>,
         bundles: Row<Shared<Bundle>>,
         cache: Cache,
         flying: Vec<Flight>,
         last: u64,
     ) -> Result<Manager<V>, Memory>
         requires stock { IsStock entries bundles }
+        requires indexed { index ≡ entries }
         requires cached { cache.asks ≡ asks_of entries }
         requires trusted { AllTrusted V.signed self.now.store.strict cache.svids }
         ensures { IfOk result (λ m. m ≡ managed self.now.store.strict (publish (self.now.published.number + 1) self.now.published.domain (with_parts entries bundles cache.svids flying.items last self.now.store)) flying.items last) }
@@ -105,11 +109,25 @@ impl<V: Voucher> Manager<V> {
         Ok(Manager {
             strict: self.strict,
             published,
+            index,
             cache,
             flying,
             last,
             of: PhantomData,
         })
+    }
+
+    /// The index of these entries: that of the last publication, where they are its entries.
+    #[tactic(auto, using(crate::proofs::Sames::entries_are))]
+    fn index_for(&self, alloc: Global, entries: &[Shared<Entry>]) -> Result<Shared<Index>, Memory>
+        requires rises { Rises (map entry_key entries.now) }
+        requires few { length entries.now ≤ 10000 }
+        ensures { IfOk result (λ x. x ≡ entries.now) }
+    {
+        if self.published.part().entries.as_slice() == entries {
+            return self.index.share();
+        }
+        index_of(alloc, entries)
     }
 
     /// Whether the last publication shows these parts.
@@ -149,7 +167,8 @@ impl<V: Voucher> Manager<V> {
             let next = self.same(cache, flying, last)?;
             Ok((next, Change::Same))
         } else {
-            let next = self.changed(alloc, entries, bundles, cache, flying, last)?;
+            let index = self.index_for(alloc, entries.as_slice())?;
+            let next = self.changed(alloc, entries, index, bundles, cache, flying, last)?;
             Ok((next, Change::New))
         }
     }

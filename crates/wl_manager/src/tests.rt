@@ -1,4 +1,4 @@
-//! Documents, claims and tickets that come back, on the worked document.
+//! Documents, claims, tickets that come back and entitled callers, on the worked document.
 
 use crate::{Change, Claim, Manager, Ticket, let_go_all};
 use std::alloc::Global;
@@ -6,6 +6,7 @@ use std::test::Fail;
 use svid_cache::Installed;
 use wl_entry::{Free, Signed};
 use wl_octets::{Memory, Octets, Row};
+use wl_selector::{Selector, Selectors};
 
 /// The worked document without its SVID, and the same with another id for its entry.
 const DOC: &[u8] =
@@ -102,5 +103,26 @@ fn strict_store(rt: HostRuntime) -> Result<(), Fail> {
     let unfit = land(alloc, &mut manager, ticket, 200, 100)?;
     assert!(rt; unfit != Installed::Kept);
     assert_eq!(rt; manager.snapshot().part().number, 0);
+    Ok(())
+}
+
+/// At which places a caller with this selector is entitled to entries.
+fn places_of(alloc: Global, manager: &Manager<Free>, selector: &[u8]) -> Result<Row<u32>, Fail> {
+    let mut items = Vec::new(alloc);
+    items.push(Selector::parse(alloc, selector)?)?;
+    let selectors = Selectors::from_list(alloc, items, 64)?;
+    Ok(manager.entitled(alloc, &selectors)?)
+}
+
+#[test]
+fn manager_entitled(rt: HostRuntime) -> Result<(), Fail> {
+    let alloc = rt.alloc();
+    let manager = Manager::<Free>::start(alloc, DOC)?;
+    assert_eq!(rt; manager.index().entries().len(), 1);
+    let owned = places_of(alloc, &manager, b"unix:uid:1")?;
+    assert_eq!(rt; owned.len(), 1);
+    assert!(rt; owned.get(0) == Some(&0));
+    let foreign = places_of(alloc, &manager, b"unix:uid:2")?;
+    assert_eq!(rt; foreign.len(), 0);
     Ok(())
 }
