@@ -14,8 +14,9 @@ use Rattle.wl_selector.specs.Selectors.{has_text, has_texts}
 use Rattle.wl_entry.specs.declared.entries.Entry.{Entry}
 use Rattle.wl_entry.specs.Entitled.{is_entitled}
 use Rattle.wl_match.specs.declared.postings.Posting.{Posting}
-use Rattle.wl_match.specs.Postings.{first_text, ids_under, ids_at, has_id, is_hit}
+use Rattle.wl_match.specs.Postings.{first_text, ids_under, ids_at, is_hit}
 use Rattle.wl_match.proofs.Rising.{passes}
+use Rattle.wl_match.proofs.Standing.{has_id}
 use Rattle.wl_match.proofs.Filing.{ids_one, ids_under-append}
 
 -- ---- tests

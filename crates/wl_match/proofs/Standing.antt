@@ -1,73 +1,59 @@
--- Places in a list by ascending id.
-use Rattle.std.proofs.Common.{◌≡◌, ℕ, zero, suc, ◌+◌, ◌<◌, ◌≤◌, ◌==◌, true, List, [], ◌∷◌, map, length, get_or, slice_get, Option, Some, None, Ordering, Less, Equal, Greater, refl, sym, ap, ◌∙◌, subst, arith}
-use Rattle.std.specs.Ordering.{nat_cmp, is_eq}
-use Rattle.std.specs.Cmp.{both_ways}
-use Rattle.std.specs.Cmp.Lexicographic.{slice_cmp, nat_list_cmp_total, bytes_decides}
-use Rattle.std.proofs.Math.Logic.{⊎_elim}
-use Rattle.std.proofs.lemmas.Bool.{cases_lt, cases_order}
+-- Where an id stands in a list by ascending id.
+use Rattle.std.proofs.Common.{◌≡◌, ℕ, zero, suc, ◌==◌, Bool, true, false, if◌then◌else◌, List, [], ◌∷◌, map, slice_get, Option, Some, None, option_map, Less, Greater, refl, ◌∙◌, subst, arith}
+use Rattle.std.specs.Str.{bytes_eq}
+use Rattle.std.specs.List.{AllByRecursion}
+use Rattle.std.specs.List.Sorted.{IsStrictlySortedBy}
+use Rattle.std.specs.Cmp.Lexicographic.{bytes_decides}
 use Rattle.std.proofs.lemmas.Bool.Decides.{nat_tests}
-use Rattle.std.proofs.lemmas.Map.Keys.{Less-from_sorted}
-use Rattle.std.proofs.lemmas.Map.Text.{is_eq-slice_cmp}
 use Rattle.wl_words.specs.Lists.{Rises}
-use Rattle.wl_keyed.proofs.Found.{level_self}
+use Rattle.wl_keyed.specs.Keys.{place_at}
+use Rattle.wl_keyed.proofs.Halving.{order, not_same, turned}
 use Rattle.wl_entry.specs.Keys.{entry_key}
 use Rattle.wl_entry.specs.declared.entries.Entry.{Entry}
-use Rattle.wl_match.specs.Postings.{has_id}
 
-abbrev order : List ℕ → List ℕ → Ordering
-order = slice_cmp nat_cmp
+-- the entry at a place has this id
+abbrev pub has_id : List ℕ → Option Entry → Bool
+has_id id None = false
+has_id id (Some e) = bytes_eq e.id id
 
-at_key : (xs : List Entry) (i : ℕ) (e : Entry) → slice_get xs i ≡ Some e → (i < length (map entry_key xs)) × (get_or (map entry_key xs) i [] ≡ e.id)
-at_key [] i e h = cc
-at_key (x ∷ xs) zero e h = let same : x ≡ e = cc in (omega arith, ap entry_key same)
-at_key (x ∷ xs) (suc i) e h = let r = at_key xs i e h in (omega (arith, r.0), r.1)
+none_before : (o : Option ℕ) → option_map suc o ≡ None → o ≡ None
+none_before None h = refl
+none_before (Some p) h = cc
 
--- the ids at two places are in order
-two : (xs : List Entry) → Rises (map entry_key xs) → (i j : ℕ) (d e : Entry) → slice_get xs i ≡ Some d → slice_get xs j ≡ Some e → i < j → order d.id e.id ≡ Less
-two xs rises i j d e hd he lt =
-    let a = at_key xs i d hd in
-    let b = at_key xs j e he in
-    rw (← a.1, ← b.1) (Less-from_sorted order (map entry_key xs) i j [] rises lt b.0)
+nowhere_go : (b : Bool) (id : List ℕ) (x : Entry) (xs : List Entry) (o : Option ℕ) → bytes_eq x.id id ≡ b → (if b then Some 0 else option_map suc o) ≡ None
+    → (o ≡ None → (q : ℕ) → has_id id (slice_get xs q) ≡ false) → (q : ℕ) → has_id id (slice_get (x ∷ xs) q) ≡ false
+nowhere_go true id x xs o test h rest q = cc
+nowhere_go false id x xs o test h rest zero = test
+nowhere_go false id x xs o test h rest (suc q) = rest (none_before o h) q
 
-has : (id : List ℕ) (o : Option Entry) → has_id id o ≡ true → (d : Entry) × (o ≡ Some d) × (d.id ≡ id)
-has id None h = cc
-has id (Some d) h = (d, refl, (bytes_decides d.id id).0 h)
+-- an id that has no place stands nowhere
+pub nowhere : (id : List ℕ) (xs : List Entry) → place_at entry_key xs id ≡ None → (q : ℕ) → has_id id (slice_get xs q) ≡ false
+unfolding place_at
+nowhere id [] h q = refl
+nowhere id (x ∷ xs) h q = nowhere_go (bytes_eq x.id id) id x xs (place_at entry_key xs id) refl h (nowhere id xs) q
 
-not_less : (k : List ℕ) → order k k ≡ Less → ⊥
-not_less k h = cc (level_self k)
+-- an id below all of them stands nowhere
+below_all : (id : List ℕ) (xs : List Entry) → AllByRecursion (λ k. order id k ≡ Less) (map entry_key xs) → (q : ℕ) → has_id id (slice_get xs q) ≡ false
+below_all id [] all q = refl
+below_all id (x ∷ xs) all zero = not_same x.id id Greater (turned id x.id all.0) refl
+below_all id (x ∷ xs) all (suc q) = below_all id xs all.1 q
 
-not_greater : (k : List ℕ) → order k k ≡ Greater → ⊥
-not_greater k h = cc (level_self k)
+later_go : (id : List ℕ) (x : Entry) (xs : List Entry) (o : Option ℕ) (p : ℕ) → bytes_eq x.id id ≡ false → option_map suc o ≡ Some p
+    → ((r : ℕ) → o ≡ Some r → (q : ℕ) → has_id id (slice_get xs q) ≡ (r == q)) → (q : ℕ) → has_id id (slice_get (x ∷ xs) q) ≡ (p == q)
+later_go id x xs None p test h rest q = cc
+later_go id x xs (Some r) p test h rest zero = let is : suc r ≡ p = cc in test ∙ grind (arith, nat_tests, is)
+later_go id x xs (Some r) p test h rest (suc q) = let is : suc r ≡ p = cc in rest r refl q ∙ grind (arith, nat_tests, is)
 
-module _ (xs : List Entry) (rises : Rises (map entry_key xs)) (id : List ℕ) (m : ℕ) (e : Entry) (at : slice_get xs m ≡ Some e) where
-  -- an id that is above the one at a place stands behind it
-  pub above : order e.id id ≡ Less → (q : ℕ) → has_id id (slice_get xs q) ≡ true → m + 1 ≤ q
-  above less q h =
-      let d = has id (slice_get xs q) h in
-      ⊎_elim (λ l. let lt : q < m = l in absurd (not_less id (rw d.2 at (nat_list_cmp_total.trans (d.0).id e.id id (two xs rises q m d.0 e d.1 at lt) less))))
-      (λ r. ⊎_elim (λ l. omega (arith, l)) (λ le. let same : q ≡ m = omega (arith, r, le) in
-      let one : d.0 ≡ e = cc in absurd (not_less id (subst (λ (k : List ℕ). order k id ≡ Less) (sym (ap entry_key one) ∙ d.2) less))) (cases_lt m q))
-      (cases_lt q m)
+there_go : (b : Bool) (id : List ℕ) (x : Entry) (xs : List Entry) (o : Option ℕ) (p : ℕ) → bytes_eq x.id id ≡ b → AllByRecursion (λ k. order x.id k ≡ Less) (map entry_key xs) → (if b then Some 0 else option_map suc o) ≡ Some p
+    → ((r : ℕ) → o ≡ Some r → (q : ℕ) → has_id id (slice_get xs q) ≡ (r == q)) → (q : ℕ) → has_id id (slice_get (x ∷ xs) q) ≡ (p == q)
+there_go true id x xs o p test all h rest zero = let is : 0 ≡ p = cc in test ∙ grind (arith, nat_tests, is)
+there_go true id x xs o p test all h rest (suc q) =
+    let is : 0 ≡ p = cc in
+    below_all id xs (subst (λ (i : List ℕ). AllByRecursion (λ k. order i k ≡ Less) (map entry_key xs)) ((bytes_decides x.id id).0 test) all) q ∙ grind (arith, nat_tests, is)
+there_go false id x xs o p test all h rest q = later_go id x xs o p test h rest q
 
-  -- an id that is below the one at a place stands before it
-  pub below : order e.id id ≡ Greater → (q : ℕ) → has_id id (slice_get xs q) ≡ true → q < m
-  below greater q h =
-      let d = has id (slice_get xs q) h in
-      ⊎_elim (λ l. l)
-      (λ r. ⊎_elim (λ lt. let less = two xs rises m q e d.0 at d.1 lt in let less' = rw d.2 at less in absurd (cc (less', greater)))
-      (λ le. let same : q ≡ m = omega (arith, r, le) in let one : d.0 ≡ e = cc in absurd (not_greater id (subst (λ (k : List ℕ). order k id ≡ Greater) (sym (ap entry_key one) ∙ d.2) greater))) (cases_lt m q))
-      (cases_lt q m)
-
-  same_id : order e.id id ≡ Equal → e.id ≡ id
-  same_id equal = (bytes_decides e.id id).0 (sym (is_eq-slice_cmp e.id id) ∙ ap is_eq equal)
-
-  -- an id that is the one at a place stands nowhere else
-  pub there : order e.id id ≡ Equal → (q : ℕ) → has_id id (slice_get xs q) ≡ (m == q)
-  there equal q = both_ways (has_id id (slice_get xs q)) (m == q)
-      (λ h. let d = has id (slice_get xs q) h in
-      let same = same_id equal in
-      ⊎_elim (λ s. grind (arith, nat_tests, s)) (λ o. ⊎_elim
-      (λ lt. let less = two xs rises m q e d.0 at d.1 lt in absurd (not_less id (rw (same, d.2) at less)))
-      (λ lt. let less = two xs rises q m d.0 e d.1 at lt in absurd (not_less id (rw (d.2, same) at less))) o) (cases_order m q))
-      (λ s. let is : m ≡ q = grind (arith, nat_tests, s) in
-      let there : slice_get xs q ≡ Some e = cc in rw there ((bytes_decides e.id id).1 (same_id equal)))
+-- an id stands at its place and nowhere else
+pub only_there : (id : List ℕ) (xs : List Entry) → Rises (map entry_key xs) → (p : ℕ) → place_at entry_key xs id ≡ Some p → (q : ℕ) → has_id id (slice_get xs q) ≡ (p == q)
+unfolding place_at IsStrictlySortedBy
+only_there id [] rises p h q = cc
+only_there id (x ∷ xs) rises p h q = there_go (bytes_eq x.id id) id x xs (place_at entry_key xs id) p refl rises.0 h (only_there id xs rises.1) q

@@ -41,11 +41,6 @@ pub record IsIndex (entries : List Entry) (postings : List Posting) : Type 0 whe
   pub keys : Rises (map posting_key postings)
   pub filed : (selector : List ℕ) → ids_at postings selector ≡ ids_under selector entries
 
--- the entry at a place has this id
-abbrev pub has_id : List ℕ → Option Entry → Bool
-has_id id None = false
-has_id id (Some e) = bytes_eq e.id id
-
 -- the entry at a place is one of these ids', and the caller is entitled to it
 abbrev pub is_hit : List (List ℕ) → List (List ℕ) → Option Entry → Bool
 is_hit selectors ids None = false

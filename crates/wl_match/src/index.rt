@@ -9,6 +9,7 @@ ghost use Rattle.wl_entry.specs.Keys.{entry_key};
 ghost use Rattle.wl_entry.specs.Entitled.{is_entitled};
 ghost use Rattle.wl_match.specs.Indexes.{entitled_places, items_at};
 ghost use Rattle.wl_match.specs.Changes.{changed_entries};
+ghost use Rattle.wl_match.specs.Postings.{posting_key};
 
 use crate::changes::{Change, changed_list};
 use crate::places::entitled_in;
@@ -49,6 +50,21 @@ fn share_all(alloc: Global, entries: &[Shared<Entry>]) -> Result<Vec<Shared<Entr
     Ok(shares)
 }
 
+/// The index of these entries, sharing those of these postings that did not change.
+fn indexed(
+    alloc: Global,
+    entries: Vec<Shared<Entry>>,
+    old: &[Shared<Posting>],
+) -> Result<Index, Memory>
+    requires rises { Rises (map entry_key entries.items) }
+    requires few { length entries.items < 2 ^ 32 }
+    requires keys { Rises (map posting_key old.now) }
+    ensures { IfOk result (λ index. index ≡ entries.items) }
+{
+    let postings = post(alloc, entries.as_slice(), old)?;
+    Ok(Index { entries, postings })
+}
+
 impl Index {
     /// The index of entries by ascending id.
     pub fn build(alloc: Global, entries: &[Shared<Entry>]) -> Result<Index, Memory>
@@ -56,9 +72,18 @@ impl Index {
         requires few { length entries.now < 2 ^ 32 }
         ensures { IfOk result (λ index. index ≡ entries.now) }
     {
-        let postings = post(alloc, entries, &[])?;
-        let entries = share_all(alloc, entries)?;
-        Ok(Index { entries, postings })
+        let index = indexed(alloc, share_all(alloc, entries)?, &[])?;
+        Ok(index)
+    }
+
+    /// The index of other entries, by ascending id. It shares the postings that did not change.
+    pub fn synced(&self, alloc: Global, entries: &[Shared<Entry>]) -> Result<Index, Memory>
+        requires rises { Rises (map entry_key entries.now) }
+        requires few { length entries.now < 2 ^ 32 }
+        ensures { IfOk result (λ index. index ≡ entries.now) }
+    {
+        let index = indexed(alloc, share_all(alloc, entries)?, self.postings.as_slice())?;
+        Ok(index)
     }
 
     /// The entries, by ascending id.
@@ -88,8 +113,8 @@ impl Index {
         ensures { IfOk result (λ index. index ≡ changed_entries changes.now self.now) }
     {
         let entries = changed_list(alloc, self.entries.as_slice(), changes)?;
-        let postings = post(alloc, entries.as_slice(), self.postings.as_slice())?;
-        Ok(Index { entries, postings })
+        let index = indexed(alloc, entries, self.postings.as_slice())?;
+        Ok(index)
     }
 
     /// Changes the entries, in turn. On want of memory the index is as it was.

@@ -1,6 +1,6 @@
 //! Places of entries in a list by ascending id.
 
-ghost use Rattle.std.specs.Prelude.{◌||◌, ◌∷◌, [], take, ◌^◌, OnOk, IfOk, ◌≡◌, ◌==◌, ◌<◌, ℕ, false, map, length, slice_get, IfNone, IfSome};
+ghost use Rattle.std.specs.Prelude.{◌||◌, ◌∷◌, [], ◌^◌, OnOk, IfOk, ◌≡◌, ◌<◌, ℕ, map, length, slice_get};
 ghost use Rattle.std.specs.BTreeSet.{contains};
 ghost use Rattle.std.specs.Ordering.{nat_cmp};
 ghost use Rattle.std.specs.List.{flat_map};
@@ -8,35 +8,15 @@ ghost use Rattle.std.specs.List.Sorted.{IsStrictlySortedBy};
 ghost use Rattle.wl_words.specs.Lists.{Rises};
 ghost use Rattle.wl_entry.specs.Keys.{entry_key};
 ghost use Rattle.wl_match.specs.Indexes.{entitled_places};
-ghost use Rattle.wl_match.specs.Postings.{has_id, is_hit, ids_at, posting_key, IsIndex};
+ghost use Rattle.wl_match.specs.Postings.{is_hit, ids_at, posting_key, IsIndex};
 
 use crate::postings::{Posting, ids_at};
 use std::alloc::Global;
-use std::cmp::Ordering;
 use std::collections::BTreeSet;
 use wl_entry::Entry;
-use wl_keyed::Keyed;
+use wl_keyed::place_by_key;
 use wl_octets::{Memory, Octets, Row, Shared};
 use wl_selector::Selectors;
-
-/// The place of the entry of this id.
-pub fn place_of(entries: &[Shared<Entry>], id: &[u8]) -> Option<usize>
-    requires { Rises (map entry_key entries.now) }
-    ensures none { IfNone result ((q : ℕ) → has_id id.now (slice_get entries.now q) ≡ false) }
-    ensures some { IfSome result (λ p. (p < length entries.now) × ((q : ℕ) → has_id id.now (slice_get entries.now q) ≡ (p == q))) }
-{
-    let mut low = 0;
-    let mut high = entries.len();
-    'halves: while low < high {
-        let middle = low + (high - low) / 2;
-        match entries[middle].key().cmp(&id) {
-            Ordering::Less => low = middle + 1,
-            Ordering::Equal => return Some(middle),
-            Ordering::Greater => high = middle,
-        }
-    }
-    None
-}
 
 /// Adds the place of the entry of this id, where the caller is entitled to it.
 fn gather_one(
@@ -49,7 +29,7 @@ fn gather_one(
     requires few { length entries.now < 2 ^ 32 }
     ensures { OnOk result ((q : ℕ) → contains nat_cmp places.new q ≡ (contains nat_cmp places.old q || is_hit selectors.now (id.now ∷ []) (slice_get entries.now q))) }
 {
-    let Some(place) = place_of(entries, id) else {
+    let Some(place) = place_by_key(entries, id) else {
         return Ok(());
     };
     if entries[place].part().selectors.is_subset(selectors) {

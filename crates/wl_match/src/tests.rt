@@ -129,3 +129,20 @@ fn an_entry_is_replaced(rt: HostRuntime) -> Result<(), Fail> {
     assert!(rt; entitles(alloc, &index, &callers, &[3])?);
     Ok(())
 }
+
+/// The index after a sync that leaves this entry alone.
+fn synced_to(alloc: Global, index: &Index, entry: Shared<Entry>) -> Result<Index, Memory> {
+    index.synced(alloc, &[entry])
+}
+
+#[test]
+fn a_sync_takes_other_entries(rt: HostRuntime) -> Result<(), Fail> {
+    let alloc = rt.alloc();
+    let index = four(alloc)?;
+    let (a, b) = (b"k:a".as_slice(), b"k:b".as_slice());
+    let after = synced_to(alloc, &index, entry(alloc, b"e2", &[a])?)?;
+    assert!(rt; entitles(alloc, &after, &[a], &[0])?);
+    assert!(rt; entitles(alloc, &after, &[b], &[])?);
+    assert!(rt; entitles(alloc, &index, &[a], &[0, 3])?);
+    Ok(())
+}

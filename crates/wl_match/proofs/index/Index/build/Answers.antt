@@ -1,6 +1,6 @@
 use Rattle.std.specs.List.Sorted.{IsStrictlySortedBy}
 use Rattle.wl_match.proofs.index.Index.build.Goals as goal
 
-pub post-requires : goal.post-requires
+pub indexed-requires-clause-keys : goal.indexed-requires-clause-keys
 unfolding IsStrictlySortedBy
-post-requires c = tt
+indexed-requires-clause-keys c = tt
