@@ -23,7 +23,7 @@ use Rattle.wl_keyed.specs.Keys.{item_at}
 use Rattle.wl_keyed.proofs.Chosen.{all_such}
 use Rattle.wl_keyed.proofs.Halving.{order, not_same, turned}
 use Rattle.svid_cache.specs.Caches.{kept_for, is_due, lasts, is_below, is_above, put}
-use Rattle.svid_cache.specs.Queue.{half_second, first_second, NotBefore, OthersNotBefore, Filed, NoneBelow, NoneOver, cleared}
+use Rattle.svid_cache.specs.Queue.{half_second, first_second, NotBefore, OthersNotBefore, Filed, NoneBelow, cleared}
 
 -- ---- the first second
 
@@ -52,17 +52,6 @@ none_filed now next size svids (f ∷ fs) asks filed all before =
     ap (filter (is_due now svids)) (sym (take-append-drop size asks))
     ∙ (filter-append (is_due now svids) (take size asks) (drop size asks)
     ∙ (λ i. none_due now f svids (take size asks) filed.0 (omega (arith, before, all.0)) i ++ none_filed now next size svids fs (drop size asks) filed.1 all.1 before i))
-
--- nor is any SVID over before the first end
-over_go : (now until : ℕ) (s : Svid) → until ≤ s.signed.not_after → now < until → lasts now s ≡ true
-over_go now until s from before = grind (arith, nat_tests, from, before)
-
-pub none_over : (now until : ℕ) (svids : List Svid) → NoneOver until svids → now < until → filter (lasts now) svids ≡ svids
-none_over now until [] all before = refl
-none_over now until (s ∷ more) all before = rw (over_go now until s all.0 before) (ap (λ l. s ∷ l) (none_over now until more all.1 before))
-
-pub no_ends : (until : ℕ) (svids : List Svid) → svids ≡ [] → NoneOver until svids
-no_ends until svids empty = subst (NoneOver until) (sym empty) tt
 
 pub no_seconds : (least : ℕ) (firsts : List ℕ) → firsts ≡ [] → NoneBelow least firsts
 no_seconds least firsts empty = subst (NoneBelow least) (sym empty) tt

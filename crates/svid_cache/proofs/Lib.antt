@@ -1,3 +1,4 @@
 pub mod Filing
 pub mod Finding
 pub mod Keeping
+pub mod Ending

@@ -1,5 +1,5 @@
 -- Asks and the SVIDs that are kept for them (own rules after the SPIRE agent).
-use Rattle.std.specs.Prelude.{◌≡◌, ℕ, ◌<◌, ◌^◌, ◌∷◌, ◌++◌, Bool, true, nat_lt, nat_le, if◌then◌else◌, List, map, filter, find, length, Option, Some, None, unwrap_or, option_map}
+use Rattle.std.specs.Prelude.{◌≡◌, ℕ, ◌<◌, ◌^◌, ◌∷◌, ◌++◌, Bool, true, not, nat_lt, nat_le, if◌then◌else◌, List, map, filter, find, length, Option, Some, None, unwrap_or, option_map}
 use Rattle.std.specs.List.{list_any, AllByRecursion}
 use Rattle.std.specs.Ordering.{nat_cmp, is_lt, is_gt}
 use Rattle.std.specs.Cmp.Lexicographic.{slice_cmp}
@@ -52,6 +52,10 @@ synced asks c = record { asks = asks; svids = filter (λ s. is_listed asks s.ask
 -- the SVID is not over
 abbrev pub lasts : ℕ → Svid → Bool
 lasts now s = nat_lt now s.signed.not_after
+
+-- one of the SVIDs is over
+unfoldable pub has_ended : ℕ → Cached → Bool
+has_ended now c = list_any (λ s. not (lasts now s)) c.svids
 
 -- the SVIDs stay that are not over
 abbrev pub swept : ℕ → Cached → Cached

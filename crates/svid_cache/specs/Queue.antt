@@ -1,7 +1,7 @@
 -- When asks come due, a block of asks at a time (own rule).
-use Rattle.std.specs.Prelude.{◌≡◌, ℕ, ◌+◌, ◌/◌, ◌≤◌, min, false, List, [], ◌∷◌, take, drop, if◌then◌else◌, nat_le, unwrap_or, option_map}
+use Rattle.std.specs.Prelude.{◌≡◌, ℕ, ◌+◌, ◌/◌, ◌≤◌, min, false, List, [], ◌∷◌, map, take, drop, if◌then◌else◌, nat_le, Option, unwrap_or, option_map}
 use Rattle.std.specs.Str.{bytes_eq}
-use Rattle.std.specs.List.{AllByRecursion}
+use Rattle.std.specs.List.{AllByRecursion, reduce}
 use Rattle.wl_entry.specs.declared.asks.Ask.{Ask}
 use Rattle.wl_entry.specs.declared.signing.Signed.{Signed}
 use Rattle.wl_entry.specs.declared.signing.Svid.{Svid}
@@ -37,6 +37,6 @@ cleared now first = if nat_le first now then 0 else first
 abbrev pub NoneBelow : ℕ → List ℕ → Type 0
 NoneBelow least firsts = AllByRecursion (λ f. least ≤ f) firsts
 
--- none of the SVIDs is over before this second
-abbrev pub NoneOver : ℕ → List Svid → Type 0
-NoneOver until svids = AllByRecursion (λ s. until ≤ s.signed.not_after) svids
+-- the first second at which one of the SVIDs is over
+abbrev pub first_end : List Svid → Option ℕ
+first_end svids = reduce min (map (λ s. s.signed.not_after) svids)

@@ -1,10 +1,10 @@
 //! The cache.
 
-ghost use Rattle.std.specs.Prelude.{◌≡◌, ◌+◌, ◌<◌, ◌^◌, true, [], length, map, min, IfOk, OnOk, OnErr};
+ghost use Rattle.std.specs.Prelude.{◌≡◌, ◌+◌, ◌<◌, ◌^◌, true, false, [], length, map, min, IfOk, OnOk, OnErr};
 ghost use Rattle.wl_words.specs.Lists.{Rises};
 ghost use Rattle.wl_entry.specs.Limits.{SignedWithin};
 ghost use Rattle.wl_entry.specs.Keys.{ask_key};
-ghost use Rattle.svid_cache.specs.Caches.{is_listed, due_asks, synced, swept, install, after, IsCached};
+ghost use Rattle.svid_cache.specs.Caches.{is_listed, due_asks, synced, has_ended, swept, install, after, IsCached};
 
 use crate::asks::lists;
 use crate::install::Installed;
@@ -29,8 +29,8 @@ pub struct Cache {
     firsts: Vec<u64>,
     /// None of the asks is due before this second.
     next: u64,
-    /// None of the SVIDs is over before this second.
-    until: u64,
+    /// The first second at which one of the SVIDs is over.
+    end: Option<u64>,
 }
 
 impl Model for Cache {
@@ -41,7 +41,7 @@ impl Model for Cache {
 
     ghost view = { λ c. record { asks = told c.asks; svids = c.svids.items } };
 
-    ghost invariant = { λ c. IsKept (record { asks = told c.asks; svids = c.svids.items }) c.firsts.items c.next c.until };
+    ghost invariant = { λ c. IsKept (record { asks = told c.asks; svids = c.svids.items }) c.firsts.items c.next c.end };
 }
 
 impl Cache {
@@ -54,7 +54,7 @@ impl Cache {
             svids: Vec::new(alloc),
             firsts: Vec::new(alloc),
             next: u64::MAX,
-            until: u64::MAX,
+            end: None,
         }
     }
 
@@ -71,7 +71,7 @@ impl Cache {
             svids: share_all(alloc, self.svids.as_slice())?,
             firsts: Vec::from_slice(alloc, self.firsts.as_slice())?,
             next: self.next,
-            until: self.until,
+            end: self.end,
         })
     }
 
@@ -112,10 +112,21 @@ impl Cache {
         let firsts = file_all(alloc, BLOCK, asks.as_slice(), svids.as_slice())?;
         self.asks = Some(Shared::new(alloc, asks)?);
         self.next = least(firsts.as_slice());
-        self.until = first_end(svids.as_slice());
+        self.end = first_end(svids.as_slice());
         self.svids = svids;
         self.firsts = firsts;
         Ok(())
+    }
+
+    /// Whether one of the SVIDs is over, so that a sweep lets go of it. It takes no memory.
+    pub fn has_ended(&self, now: u64) -> bool
+        ensures ended { result ≡ has_ended now self.now }
+        ensures kept { result ≡ false → swept now self.now ≡ self.now }
+    {
+        match self.end {
+            Some(end) => end <= now,
+            None => false,
+        }
     }
 
     /// Lets go of the SVIDs that are over, and answers how many these were. It takes no memory.
@@ -123,14 +134,14 @@ impl Cache {
         ensures swept { self.new ≡ swept now self.old }
         ensures count { result + length self.new.svids ≡ length self.old.svids }
     {
-        if now < self.until {
+        if !self.has_ended(now) {
             return 0;
         }
         let before = self.svids.len();
         self.svids.retain(|svid| now < svid.part().signed.not_after);
         clear_until(self.firsts.as_mut_slice(), now);
         self.next = least(self.firsts.as_slice());
-        self.until = first_end(self.svids.as_slice());
+        self.end = first_end(self.svids.as_slice());
         (before - self.svids.len()) as u32
     }
 
@@ -184,7 +195,7 @@ impl Cache {
             &id,
         )?;
         self.next = least(firsts.as_slice());
-        self.until = first_end(svids.as_slice());
+        self.end = first_end(svids.as_slice());
         self.firsts = firsts;
         self.svids = svids;
         Ok(())

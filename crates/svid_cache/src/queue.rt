@@ -7,7 +7,7 @@ ghost use Rattle.wl_words.specs.Lists.{Rises};
 ghost use Rattle.wl_entry.specs.Fitness.{is_half_over};
 ghost use Rattle.wl_entry.specs.Keys.{ask_key, svid_key};
 ghost use Rattle.svid_cache.specs.Caches.{is_due};
-ghost use Rattle.svid_cache.specs.Queue.{half_second, first_second, NotBefore, OthersNotBefore, Filed, NoneBelow, NoneOver, cleared};
+ghost use Rattle.svid_cache.specs.Queue.{half_second, first_second, NotBefore, OthersNotBefore, Filed, NoneBelow, first_end, cleared};
 
 use crate::kept::{due_at, find_kept};
 use std::alloc::Global;
@@ -148,14 +148,10 @@ pub(crate) fn least(firsts: &[u64]) -> u64
 }
 
 /// The first second at which one of the SVIDs is over.
-pub(crate) fn first_end(svids: &[Shared<Svid>]) -> u64
-    ensures { NoneOver result svids.now }
+pub(crate) fn first_end(svids: &[Shared<Svid>]) -> Option<u64>
+    ensures { result ≡ first_end svids.now }
 {
-    let mut end = u64::MAX;
-    for svid in svids {
-        end = end.min(svid.part().signed.not_after);
-    }
-    end
+    svids.iter().map(|svid| svid.part().signed.not_after).min()
 }
 
 /// Adds those of the asks that are due.

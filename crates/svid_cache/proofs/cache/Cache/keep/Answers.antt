@@ -3,7 +3,7 @@ use Rattle.wl_words.specs.Lists.{Rises}
 use Rattle.wl_entry.specs.Keys.{svid_key}
 use Rattle.svid_cache.specs.Caches.{IsCached, is_listed, put}
 use Rattle.svid_cache.specs.Inside.{told}
-use Rattle.svid_cache.specs.Queue.{Filed, NotBefore, NoneBelow, NoneOver}
+use Rattle.svid_cache.specs.Queue.{Filed, NotBefore, NoneBelow, first_end}
 use Rattle.svid_cache.proofs.Filing.{filed_put, others_at}
 use Rattle.svid_cache.proofs.Keeping.{put_cached}
 use Rattle.svid_cache.proofs.cache.Cache.keep.Goals as goal
@@ -33,5 +33,5 @@ invariant_of-self c =
       cached = subst (λ l. IsCached (record { asks = told c.self.inside.asks; svids = l })) (sym svids) (put_cached c.args.svid (told c.self.inside.asks) c.self.inside.svids.items c.self.invariant.cached listed c.requires.within);
       filed = subst (λ a. Filed (NotBefore c.in_ok-svids.svids.items) 64 c.in_ok-firsts.firsts.items a) asks filed;
       none_below = subst (NoneBelow c.least-self-inside.result) c.as_slice-4.ensures.value c.least-self-inside.ensures;
-      none_over = subst (NoneOver c.first_end-self-inside.result) c.as_slice-5.ensures.value c.first_end-self-inside.ensures;
+      ends = c.first_end-self-inside.ensures ∙ ap first_end c.as_slice-5.ensures.value;
     }

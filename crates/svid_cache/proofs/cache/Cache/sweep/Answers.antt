@@ -2,8 +2,8 @@ use Rattle.std.proofs.Common.{◌≡◌, ◌≤◌, ◌++◌, List, ℕ, length,
 use Rattle.std.proofs.lemmas.Fn.{filter_same}
 use Rattle.svid_cache.specs.Caches.{IsCached, lasts, swept}
 use Rattle.svid_cache.specs.Inside.{told}
-use Rattle.svid_cache.specs.Queue.{Filed, NotBefore, NoneBelow, NoneOver, cleared}
-use Rattle.svid_cache.proofs.Filing.{filed_swept, written, none_over}
+use Rattle.svid_cache.specs.Queue.{Filed, NotBefore, NoneBelow, first_end, cleared}
+use Rattle.svid_cache.proofs.Filing.{filed_swept, written}
 use Rattle.svid_cache.proofs.Keeping.{swept_cached, few_svids}
 use Rattle.svid_cache.proofs.cache.Cache.sweep.Goals as goal
 
@@ -20,7 +20,7 @@ invariant_of-self c =
       filed = subst (λ l. Filed (NotBefore l) 64 (take c.self.inside.firsts.len (c.clear_until.new.firsts ++ drop (length c.clear_until.new.firsts) c.self.inside.firsts.items)) (told c.self.inside.asks)) (sym same)
           (subst (λ f. Filed (NotBefore (filter (lasts c.args.now) c.self.inside.svids.items)) 64 f (told c.self.inside.asks)) (sym firsts) (filed_swept c.args.now 64 c.self.inside.svids.items c.self.inside.firsts.items (told c.self.inside.asks) c.self.invariant.filed));
       none_below = subst (NoneBelow c.least-self-inside.result) c.as_slice.ensures.value c.least-self-inside.ensures;
-      none_over = subst (NoneOver c.first_end-self-inside.result) c.as_slice-2.ensures.value c.first_end-self-inside.ensures;
+      ends = c.first_end-self-inside.ensures ∙ ap first_end c.as_slice-2.ensures.value;
     }
 
 pub returns-clause-swept : goal.returns-clause-swept
@@ -32,8 +32,3 @@ pub overflow_cast-result : goal.overflow_cast-result
 overflow_cast-result c =
     let few : length c.self.inside.svids.items ≤ length (told c.self.inside.asks) = few_svids (told c.self.inside.asks) c.self.inside.svids.items c.self.invariant.cached.asks c.self.invariant.cached.svids c.self.invariant.cached.listed in
     grind (arith, few, c.self.invariant.cached.few, c.len-before.ensures)
-
-pub returns-then-now-self-clause-swept : goal.returns-then-now-self-clause-swept
-returns-then-now-self-clause-swept c =
-    let none : filter (lasts c.args.now) c.self.inside.svids.items ≡ c.self.inside.svids.items = none_over c.args.now c.self.inside.until c.self.inside.svids.items c.self.invariant.none_over c.if-now-self.true in
-    sym c.self.view_is ∙ ((λ i. record { asks = told c.self.inside.asks; svids = sym none i }) ∙ ap (swept c.args.now) c.self.view_is)

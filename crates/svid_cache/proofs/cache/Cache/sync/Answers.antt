@@ -1,10 +1,10 @@
-use Rattle.std.proofs.Common.{◌≡◌, map, filter, sym, ◌∙◌, subst}
+use Rattle.std.proofs.Common.{◌≡◌, map, filter, sym, ◌∙◌, ap, subst}
 use Rattle.wl_words.specs.Lists.{Rises}
 use Rattle.wl_entry.specs.Keys.{svid_key}
 use Rattle.wl_keyed.proofs.Chosen.{rises_filter}
 use Rattle.svid_cache.specs.Caches.{IsCached, is_listed}
 use Rattle.svid_cache.specs.Inside.{told}
-use Rattle.svid_cache.specs.Queue.{Filed, NotBefore, NoneBelow, NoneOver}
+use Rattle.svid_cache.specs.Queue.{Filed, NotBefore, NoneBelow, first_end}
 use Rattle.svid_cache.proofs.Keeping.{synced_cached}
 use Rattle.svid_cache.proofs.cache.Cache.sync.Goals as goal
 
@@ -24,5 +24,5 @@ invariant_of-self c =
       cached = subst IsCached (sym (λ i. record { asks = c.in_ok-new.ensures.ok i; svids = svids i })) (synced_cached c.args.asks (told c.self.inside.asks) c.self.inside.svids.items c.self.invariant.cached c.requires.rises c.requires.few);
       filed = subst (λ a. Filed (NotBefore c.in_ok-svids.svids.items) 64 c.in_ok-firsts.firsts.items a) (sym c.in_ok-new.ensures.ok) filed;
       none_below = subst (NoneBelow c.least-self-inside.result) c.as_slice-5.ensures.value c.least-self-inside.ensures;
-      none_over = subst (NoneOver c.first_end-self-inside.result) c.as_slice-6.ensures.value c.first_end-self-inside.ensures;
+      ends = c.first_end-self-inside.ensures ∙ ap first_end c.as_slice-6.ensures.value;
     }
