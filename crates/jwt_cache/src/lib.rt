@@ -12,4 +12,5 @@ mod tests;
 mod tokens;
 
 pub use rings::Kept;
+pub use sorting::sorted;
 pub use tokens::Tokens;

@@ -1,4 +1,2 @@
-pub mod Asks
-pub mod Publications
-pub mod Sames
-pub mod Settling
+pub mod Forgetting
+pub mod Vouching

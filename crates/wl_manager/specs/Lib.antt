@@ -1,3 +1,2 @@
-pub mod Stores
-pub mod Flights
+pub mod Keeps
 pub mod Managers

@@ -1,104 +1,26 @@
--- A manager: what is kept, and the last publication.
-use Rattle.std.specs.Prelude.{◌≡◌, ℕ, ◌≤◌, Bool, true, false, if◌then◌else◌, List, map, length, Option, Some, None}
+-- A manager: its store, and the tokens that are kept.
+use Rattle.std.specs.Prelude.{◌≡◌, ℕ, Bool, List, []}
 use Rattle.std.specs.List.{AllByRecursion}
-use Rattle.wl_words.specs.Lists.{Rises}
-use Rattle.wl_entry.specs.Keys.{entry_key, bundle_key}
-use Rattle.wl_entry.specs.Limits.{EntryWithin, BundleWithin}
 use Rattle.wl_entry.specs.declared.asks.Ask.{Ask}
-use Rattle.wl_entry.specs.declared.entries.Entry.{Entry}
-use Rattle.wl_entry.specs.declared.bundles.Bundle.{Bundle}
-use Rattle.wl_entry.specs.declared.signing.Signed.{Signed}
-use Rattle.wl_entry.specs.declared.signing.Svid.{Svid}
-use Rattle.wl_x509.specs.Leaves.{NamesAsk}
+use Rattle.wl_entry.specs.declared.tokens.JwtToken.{JwtToken}
+use Rattle.jwt_cache.specs.declared.rings.Kept.{Kept}
+use Rattle.jwt_cache.specs.Rings.{kept_for}
 use Rattle.wl_document.specs.States.{State}
-use Rattle.wl_snapshot.specs.Snapshots.{Publication}
-use Rattle.std.specs.Cmp.Lexicographic.{pointwise}
-use Rattle.wl_entry.specs.Same.{same_svid}
-use Rattle.svid_cache.specs.declared.install.Installed.{Installed}
-use Rattle.svid_cache.specs.declared.install.Installed.TheVariants as installed
-use Rattle.svid_cache.specs.Caches.{Cached}
-use Rattle.wl_manager.specs.declared.tickets.Change.{Change}
-use Rattle.wl_manager.specs.declared.tickets.Change.TheVariants as change
-use Rattle.wl_manager.specs.declared.tickets.Flight.{Flight}
-use Rattle.wl_manager.specs.Stores.{Store, svids_after, first, synced_with, asks_of, publish, next, shows, spent}
+use Rattle.wl_store.specs.Steps.{Stored, started}
 
+-- what its store is, and the last tokens of each entry by the entry's id
 pub record Managed : Type 0 where
-  pub store : Store
-  pub published : Publication
+  pub stored : Stored
+  pub tokens : List (List ℕ × List Kept)
 
 -- a manager that begins with a document's state
-abbrev pub started : Bool → State → Managed
-started strict d = record { store = first strict d.entries d.bundles; published = publish 0 d.domain (first strict d.entries d.bundles) }
+abbrev pub begun : Bool → State → Managed
+begun strict d = record { stored = started strict d; tokens = [] }
 
--- this is kept now, and published where it differs from the last publication
-abbrev pub keeping : Store → Managed → Managed
-keeping s m = record { store = s; published = next m.published s }
+-- a token is vouched for the ask and the audiences for which it is kept
+abbrev pub Vouched : (Ask → List (List ℕ) → JwtToken → Type 0) → Kept → Type 0
+Vouched token k = token k.ask k.audience k.token
 
--- whether there is a new publication
-abbrev pub change_to : Store → Managed → Change
-change_to s m = if shows m.published s then change.Same else change.New
-
--- a document was read
-abbrev pub synced_to : State → Managed → Store
-synced_to d m = synced_with d.entries d.bundles m.store
-
--- a ticket is spent, and nothing else changes
-abbrev pub spending : ℕ → Managed → Managed
-spending n m = record { store = spent n m.store; published = m.published }
-
--- ---- what every manager keeps
-
--- what entries and bundles are published
-pub record IsStock (es : List Entry) (bs : List Bundle) : Type 0 where
-  pub entries : Rises (map entry_key es)
-  pub bundles : Rises (map bundle_key bs)
-  pub few_entries : length es ≤ 10000
-  pub few_bundles : length bs ≤ 1024
-  pub entries_within : AllByRecursion EntryWithin es
-  pub bundles_within : AllByRecursion BundleWithin bs
-
--- an identity is vouched for its ask, and in a strict store its leaf names the ask and has its times
-abbrev pub Trusted : (Ask → Signed → Type 0) → Bool → Ask → Signed → Type 0
-Trusted signed strict a g = signed a g × (strict ≡ true → NamesAsk a g)
-
-abbrev pub AllTrusted : (Ask → Signed → Type 0) → Bool → List Svid → Type 0
-AllTrusted signed strict svids = AllByRecursion (λ s. Trusted signed strict s.ask s.signed) svids
-
--- the cache has the asks of the published entries and the published SVIDs
-abbrev pub cached_in : Publication → Cached
-cached_in p = record { asks = asks_of p.entries; svids = p.svids }
-
--- what every manager keeps beside its last publication; its index is of the published entries
-pub record IsKept (signed : Ask → Signed → Type 0) (strict : Bool) (p : Publication) (c : Cached) (index : List Entry) : Type 0 where
-  pub cached : c ≡ cached_in p
-  pub indexed : index ≡ p.entries
-  pub trusted : AllTrusted signed strict p.svids
-
--- it was not kept
-abbrev pub is_refused : Installed → Bool
-is_refused installed.Kept = false
-is_refused _ = true
-
--- the cache after Install has answered: its asks stay, its SVIDs are those that Install leaves and are trusted; they
--- are others exactly where the SVID is kept
-pub record Lands (signed : Ask → Signed → Type 0) (s : Store) (v : Svid) (i : Installed) (c : Cached) : Type 0 where
-  pub asks : c.asks ≡ asks_of s.entries
-  pub svids : c.svids ≡ svids_after i v s.svids
-  pub trusted : AllTrusted signed s.strict c.svids
-  pub same : is_refused i ≡ true → c.svids ≡ s.svids
-  pub other : is_refused i ≡ false → pointwise same_svid s.svids c.svids ≡ false
-
--- ---- what the calls answer
-
--- the new publication, where there is one
-abbrev pub news : Change → Publication → Option Publication
-news change.Same p = None
-news change.New p = Some p
-
--- what is kept with these parts in place of the old ones
-abbrev pub with_parts : List Entry → List Bundle → List Svid → List Flight → ℕ → Store → Store
-with_parts entries bundles svids flying last s = record { strict = s.strict; entries = entries; bundles = bundles; svids = svids; flying = flying; last = last }
-
--- what the fields of a manager are
-abbrev pub managed : Bool → Publication → List Flight → ℕ → Managed
-managed strict p flying last = record { store = record { strict = strict; entries = p.entries; bundles = p.bundles; svids = p.svids; flying = flying; last = last }; published = p }
+-- so is each token that is kept
+abbrev pub AllVouched : (Ask → List (List ℕ) → JwtToken → Type 0) → List (List ℕ × List Kept) → Type 0
+AllVouched token rings = (id : List ℕ) → AllByRecursion (Vouched token) (kept_for rings id)

@@ -1,22 +1,17 @@
-//! The store of the agent: entries, bundles, kept SVIDs and tickets in flight, and the publications of them.
+//! The store of the agent with the tokens that are kept for its entries.
 //!
-//! A [`Manager`] takes one step with each event: a document is read, tickets are claimed, a ticket comes back with a
-//! signed identity or without. Each step is all or nothing: it is prepared first, which may want memory and changes
-//! nothing, and then adopted, which can't fail. There is a new publication exactly where entries, SVIDs or bundles
-//! differ from those of the last one, and parts that did not change are shared.
+//! A [`Manager`] takes one step with each event: a document is read, tickets are claimed, a ticket comes back, a token
+//! is kept. Each step is all or nothing. A step that may make a publication is prepared first, which may want memory
+//! and changes nothing, and then adopted, which can't fail. A document that changes or removes an entry's ask drops
+//! the tokens of that entry.
 #![tactic(auto)]
 
-mod claiming;
-mod flights;
-mod landing;
-mod lists;
+mod dropping;
+mod keeping;
 mod manager;
-mod preparing;
-mod publishing;
-#[cfg(test)]
-mod tests;
-mod tickets;
+mod stepping;
 
+pub use keeping::Keeping;
 pub use manager::Manager;
-pub use preparing::Prepared;
-pub use tickets::{Adopted, Change, Claim, Flight, Ticket, let_go_all};
+pub use stepping::Prepared;
+pub use wl_store::{Adopted, Change, Claim, Flight, Ticket, let_go_all};

@@ -1,6 +1,6 @@
 //! The manager.
 
-ghost use Rattle.std.specs.Prelude.{◌≡◌, ◌<◌, ◌==◌, [], true, false, filter, length, None, IfOk, IfErr, IsOkAnd};
+ghost use Rattle.std.specs.Prelude.{◌≡◌, ◌<◌, ◌==◌, true, false, filter, length, None, IfOk, IfErr, IsOkAnd};
 ghost use Rattle.std.specs.List.{list_any, All};
 ghost use Rattle.std.specs.List.Sorted.{IsStrictlySortedBy};
 ghost use Rattle.std.specs.Ordering.{nat_cmp};
@@ -8,158 +8,106 @@ ghost use Rattle.wl_entry.specs.Entitled.{is_entitled};
 ghost use Rattle.wl_match.specs.Indexes.{entitled_places, items_at};
 ghost use Rattle.wl_document.specs.Checks.{Faults};
 ghost use Rattle.wl_document.specs.Documents.{document_state};
-ghost use Rattle.wl_manager.specs.Stores.{flies};
-ghost use Rattle.wl_manager.specs.Managers.{started, spending, AllTrusted, IsStock};
+ghost use Rattle.wl_store.specs.Stores.{flies};
+ghost use Rattle.wl_store.specs.Steps.{spending, AllTrusted};
+ghost use Rattle.wl_manager.specs.Managers.{begun};
 
-use crate::flights::{has_number, has_ticket, remove_flight};
-use crate::lists::{cache_of, index_of, share_bundles, share_entries};
-use crate::publishing::publication;
-use crate::tickets::{Flight, Ticket};
-use spiffe_id::TrustDomain;
+use jwt_cache::Tokens;
 use std::alloc::Global;
-use std::marker::{Model, PhantomData};
-use svid_cache::Cache;
-use wl_document::{AuthorityState, DocFault, read_state};
-use wl_entry::{Bundle, Entry, Voucher};
+use std::marker::Model;
+use wl_document::DocFault;
+use wl_entry::Voucher;
 use wl_match::Index;
 use wl_octets::{Memory, Row, Shared};
 use wl_selector::Selectors;
 use wl_snapshot::Snapshot;
+use wl_store::{Store, Ticket};
 
-/// The store of the agent and its last publication. Times are Unix seconds.
+/// The store of the agent, its last publication, and the kept tokens. Times are Unix seconds.
 #[derive(Drop)]
 pub struct Manager<V: Voucher> {
-    pub(crate) strict: bool,
-    pub(crate) published: Shared<Snapshot>,
-    pub(crate) index: Shared<Index>,
-    pub(crate) cache: Cache,
-    pub(crate) flying: Vec<Flight>,
-    pub(crate) last: u64,
-    pub(crate) of: PhantomData<V>,
+    pub(crate) store: Store<V>,
+    pub(crate) tokens: Tokens,
 }
 
 impl<V: Voucher> Model for Manager<V> {
-    ghost use Rattle.wl_manager.specs.Managers.{Managed, IsKept, managed};
+    ghost use Rattle.wl_manager.specs.Managers.{Managed, AllVouched};
 
     ghost Value = { Managed };
 
-    ghost view = { λ m. managed m.strict m.published m.flying.items m.last };
+    ghost view = { λ m. record { stored = m.store; tokens = m.tokens } };
 
-    ghost invariant = { λ m. IsKept V.signed m.strict m.published m.cache m.index };
+    ghost invariant = { λ m. AllVouched V.token m.tokens };
 }
 
 impl<V: Voucher> Manager<V> {
-    /// A manager that begins with a document, in which no SVID is kept. Leaves are not judged in it. The first check of
-    /// the document that fails is the fault.
+    /// A manager that begins with a document, in which neither SVID nor token is kept. Leaves are not judged in it. The
+    /// first check of the document that fails is the fault.
     pub fn start(alloc: Global, document: &[u8]) -> Result<Manager<V>, DocFault>
-        ensures ok { IfOk result (λ m. IsOkAnd (document_state None document.now) (λ d. m ≡ started false d)) }
+        ensures ok { IfOk result (λ m. IsOkAnd (document_state None document.now) (λ d. m ≡ begun false d)) }
         ensures fault { IfErr result (λ e. Faults e (document_state None document.now)) }
     {
-        let state = read_state(alloc, document, None)?;
-        match Manager::begin(alloc, state, false) {
-            Ok(manager) => Ok(manager),
-            Err(Memory) => Err(DocFault::Memory),
-        }
+        let store = Store::start(alloc, document)?;
+        Ok(Manager {
+            store,
+            tokens: Tokens::start(alloc),
+        })
     }
 
     /// As `start`, and the store is strict for good: no SVID is kept whose leaf names another id than its ask's, or has
     /// other times.
     pub fn start_strict(alloc: Global, document: &[u8]) -> Result<Manager<V>, DocFault>
-        ensures ok { IfOk result (λ m. IsOkAnd (document_state None document.now) (λ d. m ≡ started true d)) }
+        ensures ok { IfOk result (λ m. IsOkAnd (document_state None document.now) (λ d. m ≡ begun true d)) }
         ensures fault { IfErr result (λ e. Faults e (document_state None document.now)) }
     {
-        let state = read_state(alloc, document, None)?;
-        match Manager::begin(alloc, state, true) {
-            Ok(manager) => Ok(manager),
-            Err(Memory) => Err(DocFault::Memory),
-        }
-    }
-
-    /// A manager of a document's state.
-    fn begin(alloc: Global, state: AuthorityState, strict: bool) -> Result<Manager<V>, Memory>
-        ensures { IfOk result (λ m. m ≡ started strict state) }
-    {
-        let AuthorityState {
-            domain,
-            bundles,
-            entries,
-            svids: _,
-        } = state;
-        Manager::with(alloc, strict, domain, entries, bundles)
-    }
-
-    /// A manager of these parts.
-    fn with(
-        alloc: Global,
-        strict: bool,
-        domain: TrustDomain,
-        entries: Row<Entry>,
-        bundles: Row<Bundle>,
-    ) -> Result<Manager<V>, Memory>
-        requires { IsStock entries bundles }
-        ensures { IfOk result (λ m. m ≡ started strict (record { domain = domain; bundles = bundles; entries = entries; svids = [] })) }
-    {
-        let cache = cache_of(alloc, entries.as_slice())?;
-        let entries = share_entries(alloc, &[], entries)?;
-        let bundles = share_bundles(alloc, &[], bundles)?;
-        let index = index_of(alloc, entries.as_slice())?;
-        let published = publication(alloc, 0, domain, entries, Row::empty(alloc), bundles)?;
+        let store = Store::start_strict(alloc, document)?;
         Ok(Manager {
-            strict,
-            published,
-            index,
-            cache,
-            flying: Vec::new(alloc),
-            last: 0,
-            of: PhantomData,
+            store,
+            tokens: Tokens::start(alloc),
         })
     }
 
     /// The last publication. It takes no memory.
     pub fn snapshot(&self) -> &Shared<Snapshot>
-        ensures value { result.now ≡ self.now.published }
-        ensures trusted { AllTrusted V.signed self.now.store.strict self.now.published.svids }
+        ensures value { result.now ≡ self.now.stored.published }
+        ensures trusted { AllTrusted V.signed self.now.stored.store.strict self.now.stored.published.svids }
     {
-        &self.published
+        self.store.snapshot()
     }
 
     /// The index of the entries of the last publication. It takes no memory.
     pub fn index(&self) -> &Index
-        ensures { result.now ≡ self.now.published.entries }
+        ensures { result.now ≡ self.now.stored.published.entries }
     {
-        self.index.part()
+        self.store.index()
     }
 
     /// The places, rising, of exactly the entries of the last publication to which a caller with these selectors is
     /// entitled.
     pub fn entitled(&self, alloc: Global, selectors: &Selectors) -> Result<Row<u32>, Memory>
-        ensures value { IfOk result (λ places. places ≡ entitled_places selectors.now self.now.published.entries) }
-        ensures chosen { IfOk result (λ places. items_at self.now.published.entries places ≡ filter (is_entitled selectors.now) self.now.published.entries) }
+        ensures value { IfOk result (λ places. places ≡ entitled_places selectors.now self.now.stored.published.entries) }
+        ensures chosen { IfOk result (λ places. items_at self.now.stored.published.entries places ≡ filter (is_entitled selectors.now) self.now.stored.published.entries) }
         ensures rising { IfOk result (IsStrictlySortedBy nat_cmp) }
-        ensures there { IfOk result (All (λ place. place < length self.now.published.entries)) }
+        ensures there { IfOk result (All (λ place. place < length self.now.stored.published.entries)) }
     {
-        let index = self.index();
-        let places = index.entitled(alloc, selectors)?;
+        let places = self.index().entitled(alloc, selectors)?;
         Ok(places)
     }
 
     /// Whether a ticket of this number is in flight. It takes no memory.
     pub fn in_flight(&self, number: u64) -> bool
-        ensures { result ≡ list_any (λ f. f.number == number) self.now.store.flying }
+        ensures { result ≡ list_any (λ f. f.number == number) self.now.stored.store.flying }
     {
-        has_number(self.flying.as_slice(), number)
+        self.store.in_flight(number)
     }
 
     /// Takes back a ticket without an identity: it is in flight no more. Nothing changes where it was not in flight.
     /// It takes no memory.
-    #[tactic(auto, unfolding(crate::specs::Stores::spent))]
     pub fn failed(&mut self, ticket: Ticket)
-        ensures left { flies ticket.number ticket.ask self.old.store.flying ≡ true → self.new ≡ spending ticket.number self.old }
-        ensures other { flies ticket.number ticket.ask self.old.store.flying ≡ false → self.new ≡ self.old }
+        ensures left { flies ticket.number ticket.ask self.old.stored.store.flying ≡ true → self.new.stored ≡ spending ticket.number self.old.stored }
+        ensures other { flies ticket.number ticket.ask self.old.stored.store.flying ≡ false → self.new.stored ≡ self.old.stored }
+        ensures tokens { self.new.tokens ≡ self.old.tokens }
     {
-        if has_ticket(self.flying.as_slice(), &ticket) {
-            remove_flight(&mut self.flying, ticket.number);
-        }
-        ticket.let_go();
+        self.store.failed(ticket);
     }
 }

@@ -1,0 +1,15 @@
+-- The asks of entries rise as the entries do.
+use Rattle.std.specs.Prelude.{◌≡◌, List, map}
+use Rattle.std.proofs.Common.{refl, sym, subst}
+use Rattle.wl_words.specs.Lists.{Rises}
+use Rattle.wl_keyed.proofs.Chosen.{rises_map}
+use Rattle.wl_entry.specs.Asks.{ask_of}
+use Rattle.wl_entry.specs.Keys.{entry_key}
+use Rattle.wl_entry.specs.declared.asks.Ask.{Ask}
+use Rattle.wl_entry.specs.declared.entries.Entry.{Entry}
+use Rattle.wl_entry.specs.Keys.{ask_key}
+use Rattle.wl_store.specs.Stores.{asks_of}
+
+pub asks_rise : (entries : List Entry) (asks : List Ask) → asks ≡ asks_of entries → Rises (map entry_key entries) → Rises (map ask_key asks)
+asks_rise entries asks are rises =
+    subst (λ l. Rises (map ask_key l)) (sym are) (subst Rises (sym (rises_map entry_key ask_key ask_of (λ e. refl) entries)) rises)

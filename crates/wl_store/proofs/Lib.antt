@@ -1,0 +1,5 @@
+pub mod Asks
+pub mod Grouping
+pub mod Publications
+pub mod Sames
+pub mod Settling

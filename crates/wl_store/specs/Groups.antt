@@ -1,0 +1,13 @@
+-- Tickets in flight, by entry.
+use Rattle.std.specs.Prelude.{ℕ, List, map, filter}
+use Rattle.std.specs.Str.{bytes_eq}
+use Rattle.wl_entry.specs.declared.asks.Ask.{Ask}
+use Rattle.wl_store.specs.declared.tickets.Flight.{Flight}
+
+-- what a ticket in flight was issued for
+abbrev pub flown : Flight → Ask
+flown f = f.ask
+
+-- the asks of an entry that have a ticket in flight
+unfoldable pub asks_under : List ℕ → List Flight → List Ask
+asks_under id flying = map flown (filter (λ f. bytes_eq f.ask.entry_id id) flying)

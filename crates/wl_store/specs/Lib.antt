@@ -1,0 +1,4 @@
+pub mod Stores
+pub mod Flights
+pub mod Steps
+pub mod Groups

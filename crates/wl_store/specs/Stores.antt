@@ -1,0 +1,143 @@
+-- What is kept, and what each event makes of it (own rules after the SPIRE agent).
+use Rattle.std.specs.Prelude.{ℕ, ◌+◌, ◌==◌, ◌&&◌, Bool, not, if◌then◌else◌, List, [], ◌∷◌, ◌++◌, map, filter, length, Option, Some, None, unwrap_or}
+use Rattle.std.specs.List.{list_any}
+use Rattle.std.specs.Cmp.Lexicographic.{pointwise}
+use Rattle.wl_entry.specs.Asks.{ask_of}
+use Rattle.wl_entry.specs.Same.{same_ask, same_entry, same_svid, same_bundle}
+use Rattle.wl_entry.specs.Fitness.{signed_unfit}
+use Rattle.wl_entry.specs.declared.asks.Ask.{Ask}
+use Rattle.wl_entry.specs.declared.entries.Entry.{Entry}
+use Rattle.wl_entry.specs.declared.bundles.Bundle.{Bundle}
+use Rattle.wl_entry.specs.declared.signing.Signed.{Signed}
+use Rattle.wl_entry.specs.declared.signing.Svid.{Svid}
+use Rattle.wl_entry.specs.declared.unfit.Unfit.{Unfit}
+use Rattle.wl_x509.specs.Leaves.{leaf_reason}
+use Rattle.wl_snapshot.specs.Snapshots.{Publication}
+use Rattle.svid_cache.specs.Caches.{Cached, synced, swept, due_asks, is_listed, kept_for, put, unless_older}
+use Rattle.svid_cache.specs.declared.install.Installed.{Installed}
+use Rattle.svid_cache.specs.declared.install.Installed.TheVariants as installed
+use Rattle.wl_store.specs.declared.tickets.Flight.{Flight}
+
+-- what is kept: whether leaves are judged, the entries, the bundles, the SVIDs, the tickets in flight and the number
+-- of the last one
+pub record Store : Type 0 where
+  pub strict : Bool
+  pub entries : List Entry
+  pub bundles : List Bundle
+  pub svids : List Svid
+  pub flying : List Flight
+  pub last : ℕ
+
+-- the asks of the entries
+abbrev pub asks_of : List Entry → List Ask
+asks_of entries = map ask_of entries
+
+-- the asks and the SVIDs
+abbrev pub cached_of : Store → Cached
+cached_of s = record { asks = asks_of s.entries; svids = s.svids }
+
+-- what is kept at first
+abbrev pub first : Bool → List Entry → List Bundle → Store
+first strict entries bundles = record { strict = strict; entries = entries; bundles = bundles; svids = []; flying = []; last = 0 }
+
+-- ---- a document was read
+
+-- its entries and bundles; the SVIDs stay whose ask is one of its entries'
+unfoldable pub synced_with : List Entry → List Bundle → Store → Store
+synced_with entries bundles s =
+    record { strict = s.strict; entries = entries; bundles = bundles; svids = (synced (asks_of entries) (cached_of s)).svids; flying = s.flying; last = s.last }
+
+-- ---- tickets are claimed
+
+-- an ask with a ticket in flight
+abbrev pub is_flying : List Flight → Ask → Bool
+is_flying flying a = list_any (λ f. same_ask f.ask a) flying
+
+-- the asks that are due once what is over was let go, without those in flight
+unfoldable pub claimed_asks : ℕ → Store → List Ask
+claimed_asks now s = filter (λ a. not (is_flying s.flying a)) (due_asks now (swept now (cached_of s)))
+
+-- one ticket each, numbered from n on
+abbrev pub numbered : ℕ → List Ask → List Flight
+numbered n [] = []
+numbered n (a ∷ more) = record { number = n + 1; ask = a } ∷ numbered (n + 1) more
+
+unfoldable pub claimed : ℕ → Store → Store
+claimed now s =
+    record {
+      strict = s.strict;
+      entries = s.entries;
+      bundles = s.bundles;
+      svids = (swept now (cached_of s)).svids;
+      flying = s.flying ++ numbered s.last (claimed_asks now s);
+      last = s.last + length (claimed_asks now s);
+    }
+
+-- ---- a ticket comes back
+
+-- a ticket of this number and ask is in flight
+abbrev pub flies : ℕ → Ask → List Flight → Bool
+flies n a flying = list_any (λ f. (f.number == n) && same_ask f.ask a) flying
+
+-- the tickets without the first of this number
+abbrev pub without : ℕ → List Flight → List Flight
+without n [] = []
+without n (f ∷ fs) = if f.number == n then fs else f ∷ without n fs
+
+-- it is spent
+unfoldable pub spent : ℕ → Store → Store
+spent n s = record { strict = s.strict; entries = s.entries; bundles = s.bundles; svids = s.svids; flying = without n s.flying; last = s.last }
+
+-- a leaf is judged in a strict store alone
+abbrev pub leaf_judged : Bool → Ask → Signed → Option Unfit
+leaf_judged strict a g = if strict then leaf_reason a g else None
+
+abbrev pub as_unfit : Option Unfit → Option Installed → Option Installed
+as_unfit (Some u) rest = Some (installed.Unfit u)
+as_unfit None rest = rest
+
+-- the first reason against a signed identity that does not hang on the kept one: no entry has the ask, its times and
+-- lengths, its leaf
+unfoldable pub refused : ℕ → Ask → Signed → Store → Option Installed
+refused now a g s =
+    if is_listed (asks_of s.entries) a then as_unfit (signed_unfit now g) (as_unfit (leaf_judged s.strict a g) None)
+    else Some installed.NoSuchAsk
+
+-- Install: that reason, or that the kept one ends no earlier, or else it is kept
+unfoldable pub install : ℕ → Ask → Signed → Store → Installed
+install now a g s = unwrap_or (refused now a g s) (unless_older g (kept_for s.svids a))
+
+-- the SVIDs after that
+abbrev pub svids_after : Installed → Svid → List Svid → List Svid
+svids_after installed.Kept v svids = put v svids
+svids_after _ v svids = svids
+
+-- it comes back with a signed identity
+unfoldable pub landed : ℕ → ℕ → Ask → Signed → Store → Store
+landed now n a g s =
+    record {
+      strict = s.strict;
+      entries = s.entries;
+      bundles = s.bundles;
+      svids = svids_after (install now a g s) (record { ask = a; signed = g }) s.svids;
+      flying = without n s.flying;
+      last = s.last;
+    }
+
+-- ---- what is published
+
+-- a publication shows these parts
+abbrev pub shows_parts : Publication → List Entry → List Svid → List Bundle → Bool
+shows_parts p entries svids bundles = pointwise same_entry p.entries entries && (pointwise same_svid p.svids svids && pointwise same_bundle p.bundles bundles)
+
+-- a publication shows what is kept
+unfoldable pub shows : Publication → Store → Bool
+shows p s = shows_parts p s.entries s.svids s.bundles
+
+-- the publication of this number
+abbrev pub publish : ℕ → List ℕ → Store → Publication
+publish number domain s = record { number = number; domain = domain; entries = s.entries; svids = s.svids; bundles = s.bundles }
+
+-- the last publication, where p was the last one before
+abbrev pub next : Publication → Store → Publication
+next p s = if shows p s then p else publish (p.number + 1) p.domain s

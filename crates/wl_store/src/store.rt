@@ -1,0 +1,189 @@
+//! The store.
+
+ghost use Rattle.std.specs.Prelude.{◌≡◌, ◌<◌, ◌==◌, [], true, false, filter, length, None, IfOk, IfErr, IsOkAnd};
+ghost use Rattle.std.specs.List.{list_any, All};
+ghost use Rattle.std.specs.List.Sorted.{IsStrictlySortedBy};
+ghost use Rattle.std.specs.Ordering.{nat_cmp};
+ghost use Rattle.wl_entry.specs.Entitled.{is_entitled};
+ghost use Rattle.wl_match.specs.Indexes.{entitled_places, items_at};
+ghost use Rattle.wl_document.specs.Checks.{Faults};
+ghost use Rattle.wl_document.specs.Documents.{document_state};
+ghost use Rattle.svid_cache.specs.Caches.{is_listed};
+ghost use Rattle.wl_store.specs.Stores.{asks_of, cached_of, flies};
+ghost use Rattle.wl_store.specs.Steps.{started, spending, AllTrusted, IsStock};
+
+use crate::flights::{has_number, has_ticket, remove_flight};
+use crate::lists::{cache_of, index_of, share_bundles, share_entries};
+use crate::publishing::publication;
+use crate::tickets::{Flight, Ticket};
+use spiffe_id::TrustDomain;
+use std::alloc::Global;
+use std::marker::{Model, PhantomData};
+use svid_cache::Cache;
+use wl_document::{AuthorityState, DocFault, read_state};
+use wl_entry::{Ask, Bundle, Entry, Voucher};
+use wl_match::Index;
+use wl_octets::{Memory, Row, Shared};
+use wl_selector::Selectors;
+use wl_snapshot::Snapshot;
+
+/// The store of the agent and its last publication. Times are Unix seconds.
+#[derive(Drop)]
+pub struct Store<V: Voucher> {
+    pub(crate) strict: bool,
+    pub(crate) published: Shared<Snapshot>,
+    pub(crate) index: Shared<Index>,
+    pub(crate) cache: Shared<Cache>,
+    pub(crate) flying: Vec<Flight>,
+    pub(crate) last: u64,
+    pub(crate) of: PhantomData<V>,
+}
+
+impl<V: Voucher> Model for Store<V> {
+    ghost use Rattle.wl_store.specs.Steps.{Stored, IsKept, stored};
+
+    ghost Value = { Stored };
+
+    ghost view = { λ m. stored m.strict m.published m.flying.items m.last };
+
+    ghost invariant = { λ m. IsKept V.signed m.strict m.published m.cache m.index };
+}
+
+impl<V: Voucher> Store<V> {
+    /// A store that begins with a document, in which no SVID is kept. Leaves are not judged in it. The first check of
+    /// the document that fails is the fault.
+    pub fn start(alloc: Global, document: &[u8]) -> Result<Store<V>, DocFault>
+        ensures ok { IfOk result (λ m. IsOkAnd (document_state None document.now) (λ d. m ≡ started false d)) }
+        ensures fault { IfErr result (λ e. Faults e (document_state None document.now)) }
+    {
+        let state = read_state(alloc, document, None)?;
+        match Store::begin(alloc, state, false) {
+            Ok(store) => Ok(store),
+            Err(Memory) => Err(DocFault::Memory),
+        }
+    }
+
+    /// As `start`, and the store is strict for good: no SVID is kept whose leaf names another id than its ask's, or has
+    /// other times.
+    pub fn start_strict(alloc: Global, document: &[u8]) -> Result<Store<V>, DocFault>
+        ensures ok { IfOk result (λ m. IsOkAnd (document_state None document.now) (λ d. m ≡ started true d)) }
+        ensures fault { IfErr result (λ e. Faults e (document_state None document.now)) }
+    {
+        let state = read_state(alloc, document, None)?;
+        match Store::begin(alloc, state, true) {
+            Ok(store) => Ok(store),
+            Err(Memory) => Err(DocFault::Memory),
+        }
+    }
+
+    /// A store of a document's state.
+    fn begin(alloc: Global, state: AuthorityState, strict: bool) -> Result<Store<V>, Memory>
+        ensures { IfOk result (λ m. m ≡ started strict state) }
+    {
+        let AuthorityState {
+            domain,
+            bundles,
+            entries,
+            svids: _,
+        } = state;
+        Store::with(alloc, strict, domain, entries, bundles)
+    }
+
+    /// A store of these parts.
+    #[tactic(auto, using(crate::proofs::Publications::none_rises))]
+    fn with(
+        alloc: Global,
+        strict: bool,
+        domain: TrustDomain,
+        entries: Row<Entry>,
+        bundles: Row<Bundle>,
+    ) -> Result<Store<V>, Memory>
+        requires { IsStock entries bundles }
+        ensures { IfOk result (λ m. m ≡ started strict (record { domain = domain; bundles = bundles; entries = entries; svids = [] })) }
+    {
+        let cache = cache_of(alloc, entries.as_slice())?;
+        let entries = share_entries(alloc, &[], entries)?;
+        let bundles = share_bundles(alloc, &[], bundles)?;
+        let index = index_of(alloc, entries.as_slice())?;
+        let published = publication(alloc, 0, domain, entries, Row::empty(alloc), bundles)?;
+        Ok(Store {
+            strict,
+            published,
+            index,
+            cache,
+            flying: Vec::new(alloc),
+            last: 0,
+            of: PhantomData,
+        })
+    }
+
+    /// What is kept for the asks.
+    pub(crate) fn kept(&self) -> &Cache
+        ensures value { result.now ≡ cached_of self.now.store }
+        ensures trusted { AllTrusted V.signed self.now.store.strict self.now.store.svids }
+    {
+        self.cache.part()
+    }
+
+    /// The last publication. It takes no memory.
+    pub fn snapshot(&self) -> &Shared<Snapshot>
+        ensures value { result.now ≡ self.now.published }
+        ensures trusted { AllTrusted V.signed self.now.store.strict self.now.published.svids }
+    {
+        &self.published
+    }
+
+    /// The index of the entries of the last publication. It takes no memory.
+    pub fn index(&self) -> &Index
+        ensures { result.now ≡ self.now.published.entries }
+    {
+        self.index.part()
+    }
+
+    /// The places, rising, of exactly the entries of the last publication to which a caller with these selectors is
+    /// entitled.
+    pub fn entitled(&self, alloc: Global, selectors: &Selectors) -> Result<Row<u32>, Memory>
+        ensures value { IfOk result (λ places. places ≡ entitled_places selectors.now self.now.published.entries) }
+        ensures chosen { IfOk result (λ places. items_at self.now.published.entries places ≡ filter (is_entitled selectors.now) self.now.published.entries) }
+        ensures rising { IfOk result (IsStrictlySortedBy nat_cmp) }
+        ensures there { IfOk result (All (λ place. place < length self.now.published.entries)) }
+    {
+        let index = self.index();
+        let places = index.entitled(alloc, selectors)?;
+        Ok(places)
+    }
+
+    /// Whether a ticket of this number is in flight. It takes no memory.
+    pub fn in_flight(&self, number: u64) -> bool
+        ensures { result ≡ list_any (λ f. f.number == number) self.now.store.flying }
+    {
+        has_number(self.flying.as_slice(), number)
+    }
+
+    /// The asks of the entries, by ascending entry id. It takes no memory.
+    pub fn asks(&self) -> &[Ask]
+        ensures { result.now ≡ asks_of self.now.store.entries }
+    {
+        self.kept().asks()
+    }
+
+    /// Whether an entry has this ask. It takes no memory.
+    pub fn lists(&self, ask: &Ask) -> bool
+        ensures { result ≡ is_listed (asks_of self.now.store.entries) ask.now }
+    {
+        self.kept().lists(ask)
+    }
+
+    /// Takes back a ticket without an identity: it is in flight no more. Nothing changes where it was not in flight.
+    /// It takes no memory.
+    #[tactic(auto, unfolding(crate::specs::Stores::spent))]
+    pub fn failed(&mut self, ticket: Ticket)
+        ensures left { flies ticket.number ticket.ask self.old.store.flying ≡ true → self.new ≡ spending ticket.number self.old }
+        ensures other { flies ticket.number ticket.ask self.old.store.flying ≡ false → self.new ≡ self.old }
+    {
+        if has_ticket(self.flying.as_slice(), &ticket) {
+            remove_flight(&mut self.flying, ticket.number);
+        }
+        ticket.let_go();
+    }
+}
