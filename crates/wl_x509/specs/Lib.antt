@@ -2,3 +2,4 @@ pub mod Values
 pub mod Times
 pub mod Leaves
 pub mod Tallies
+pub mod Encodings

@@ -4,6 +4,7 @@
 //! key usage are not judged. [`leaf_unfit`] tells whether a signed identity names the ask for which it was signed.
 #![tactic(auto)]
 
+mod laws;
 mod leaves;
 mod names;
 mod parts;
@@ -13,5 +14,6 @@ mod tests;
 mod times;
 mod values;
 
+pub use laws::values_are_encodings;
 pub use leaves::{Leaf, read_leaf};
 pub use reasons::leaf_unfit;
