@@ -1,9 +1,8 @@
 -- What is read at a place is an encoding, and each encoding is read.
-use Rattle.std.proofs.Common.{◌≡◌, ℕ, suc, ◌+◌, ◌-◌, min, ◌*◌, ◌/◌, ◌%◌, ◌<◌, ◌≤◌, ◌==◌, nat_lt, nat_le, if◌then◌else◌, List, [], ◌∷◌, ◌++◌, length, take, drop, slice_index, Result, Ok, Err, refl, sym, ap, ◌∙◌, arith, inl, inr, append_assoc, length-append}
+use Rattle.std.proofs.Common.{◌≡◌, ℕ, suc, ◌+◌, ◌-◌, min, ◌*◌, ◌/◌, ◌%◌, ◌<◌, ◌≤◌, List, [], ◌∷◌, ◌++◌, length, take, drop, slice_index, Ok, Err, refl, sym, ap, ◌∙◌, arith, inl, inr, append_assoc, length-append}
 use Rattle.std.proofs.lemmas.Bool.{cases_lt, cases_eq, lt-ltb, le-ltb, le-leb, lt-leb, eq-eqb, ne_eqb}
 use Rattle.std.proofs.lemmas.List.{drop_more, drop-drop, drop-take, take-take, take_at, drop_at, length-take, length-drop, get_or-take, get_or-drop}
-use Rattle.std.proofs.Math.Seq.{take-append-add, take-add}
-use Rattle.wl_entry.specs.declared.unfit.CertFault.{CertFault}
+use Rattle.std.proofs.Math.Seq.{take-append-add}
 use Rattle.wl_entry.specs.declared.unfit.CertFault.TheVariants.{Truncated, Length}
 use Rattle.wl_x509.specs.declared.values.Span.{Span}
 use Rattle.wl_x509.specs.Values.{content, content_at, long_at, longer_at, value_at}
@@ -129,19 +128,19 @@ encoded bytes at end value fits bound e =
 
 -- ---- each encoding is read
 
-byte_of : (bytes said : List ℕ) (at end i : ℕ) → between bytes at end ≡ said → i < length said → slice_index bytes (at + i) ≡ slice_index said i
+pub byte_of : (bytes said : List ℕ) (at end i : ℕ) → between bytes at end ≡ said → i < length said → slice_index bytes (at + i) ≡ slice_index said i
 byte_of bytes said at end i is lt =
     let size : length said ≡ min (end - at) (length (drop at bytes)) = ap length (sym is) ∙ length-take (end - at) (drop at bytes) in
     let inside : i < end - at = omega arith in
     sym (get_or-drop at bytes i 0) ∙ sym (get_or-take (end - at) (drop at bytes) i 0 inside) ∙ ap (λ (l : List ℕ). slice_index l i) is
 
 -- the bytes between two places, but for the first of them
-behind_first : (bytes : List ℕ) (at end size : ℕ) → at + size ≤ end → between bytes (at + size) end ≡ drop size (between bytes at end)
+pub behind_first : (bytes : List ℕ) (at end size : ℕ) → at + size ≤ end → between bytes (at + size) end ≡ drop size (between bytes at end)
 behind_first bytes at end size le =
     let left : end - at ≡ size + (end - (at + size)) = omega arith in
     rw (left, drop-take size (end - (at + size)) (drop at bytes), drop-drop size at bytes) refl
 
-room_for : (bytes said : List ℕ) (at end : ℕ) → between bytes at end ≡ said → 0 < length said → at + length said ≤ end
+pub room_for : (bytes said : List ℕ) (at end : ℕ) → between bytes at end ≡ said → 0 < length said → at + length said ≤ end
 room_for bytes said at end is lt =
     let size : length said ≡ min (end - at) (length (drop at bytes)) = ap length (sym is) ∙ length-take (end - at) (drop at bytes) in
     omega arith

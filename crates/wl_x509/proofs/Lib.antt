@@ -1,3 +1,5 @@
 pub mod Tallies
 pub mod Found
 pub mod Encodings
+pub mod Spelled
+pub mod Again

@@ -3,3 +3,4 @@ pub mod Times
 pub mod Leaves
 pub mod Tallies
 pub mod Encodings
+pub mod Certificates

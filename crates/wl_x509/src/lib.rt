@@ -14,6 +14,6 @@ mod tests;
 mod times;
 mod values;
 
-pub use laws::values_are_encodings;
+pub use laws::{leaves_are_certificates, values_are_encodings};
 pub use leaves::{Leaf, read_leaf};
 pub use reasons::leaf_unfit;
