@@ -8,8 +8,9 @@ use Rattle.wl_x509.specs.declared.leaves.Leaf.{Leaf}
 use Rattle.wl_x509.specs.Values.{content, value_at, part_at, option_at}
 use Rattle.wl_x509.specs.Leaves.{then_end, time_at, validity_at, names_in, names_from, alternative_names, uris_of, extension_at, extensions_in, extensions_from, extension_list, extensions_part, issuing_at, subject_at, body_at, frame_of, signature_at, one_uri, leaf_of}
 use Rattle.wl_x509.specs.Encodings.{encoding, between}
-use Rattle.wl_x509.specs.Certificates.{optional, CertTime, utc_time, generalized_time, encoded_time, seconds_of, GeneralName, encoded_name, uris_among, Extension, subject_alt_name, subject_names, other_extension, parts_of_extension, extension_content, encoded_extension, uris_of_extension, encoded_extensions, uris_of_extensions, Certificate, body_content, certificate_content, IsLeafOf}
+use Rattle.wl_x509.specs.Certificates.{optional, TimeForm, utc, generalized, CertTime, time_text, time_tag, encoded_time, IsTimeOf, GeneralName, encoded_name, uris_among, Extension, subject_alt_name, subject_names, other_extension, parts_of_extension, extension_content, encoded_extension, uris_of_extension, encoded_extensions, uris_of_extensions, Certificate, body_content, certificate_content, IsLeafOf}
 use Rattle.wl_x509.proofs.Encodings.{byte_of, behind_first, room_for, encoding_read}
+use Rattle.wl_x509.proofs.Digits.{short_again, long_again}
 
 -- ---- places
 
@@ -82,7 +83,8 @@ record OptionAgain (bytes : List ℕ) (tag at end : ℕ) (rest : List ℕ) : Typ
   read : option_at tag bytes at end ≡ Ok next
   behind : between bytes next end ≡ rest
 
-option_again : (bytes rest : List ℕ) (tag at end : ℕ) (said : Option (List ℕ)) → end ≤ length bytes → begins tag rest ≡ false → between bytes at end ≡ optional tag said ++ rest → OptionAgain bytes tag at end rest
+option_again : (bytes rest : List ℕ) (tag at end : ℕ) (said : Option (List ℕ)) → end ≤ length bytes → begins tag rest ≡ false
+    → between bytes at end ≡ optional tag said ++ rest → OptionAgain bytes tag at end rest
 unfolding option_at
 option_again bytes rest tag at end (Some said) bound other text =
     let v = value_again bytes said rest tag at end text in
@@ -105,12 +107,13 @@ record NamesAgain (k : ℕ) (bytes : List ℕ) (at end : ℕ) (names : List Gene
   read : names_in k bytes at end ≡ Ok uris
   are : map (content bytes) uris ≡ uris_among names
 
-uri_or_not : (b : Bool) (bytes : List ℕ) (name : Span) (later : List Span) (said : List ℕ) (uris : List (List ℕ)) → content bytes name ≡ said → map (content bytes) later ≡ uris
-    → map (content bytes) (if b then name ∷ later else later) ≡ (if b then said ∷ uris else uris)
+uri_or_not : (b : Bool) (bytes : List ℕ) (name : Span) (later : List Span) (said : List ℕ) (uris : List (List ℕ)) → content bytes name ≡ said
+    → map (content bytes) later ≡ uris → map (content bytes) (if b then name ∷ later else later) ≡ (if b then said ∷ uris else uris)
 uri_or_not true bytes name later said uris is are = rw (is, are) refl
 uri_or_not false bytes name later said uris is are = are
 
-names_again : (k : ℕ) (bytes : List ℕ) (at end : ℕ) (names : List GeneralName) → end ≤ length bytes → end ≤ at + k → between bytes at end ≡ flat_map encoded_name names → NamesAgain k bytes at end names
+names_again : (k : ℕ) (bytes : List ℕ) (at end : ℕ) (names : List GeneralName) → end ≤ length bytes → end ≤ at + k
+    → between bytes at end ≡ flat_map encoded_name names → NamesAgain k bytes at end names
 names_again zero bytes at end [] bound le text = record { uris = []; read = refl; are = refl }
 names_again (suc k) bytes at end [] bound le text = record { uris = []; read = rw (le-leb end at (none_left bytes at end bound text)) refl; are = refl }
 names_again zero bytes at end (name ∷ names) bound le text =
@@ -130,7 +133,8 @@ record AlternativesAgain (bytes : List ℕ) (value : Span) (names : List General
   read : alternative_names bytes value ≡ Ok uris
   are : map (content bytes) uris ≡ uris_among names
 
-alternatives_again : (bytes : List ℕ) (value : Span) (names : List GeneralName) → value.next ≤ length bytes → content bytes value ≡ encoding 0x30 (flat_map encoded_name names) → AlternativesAgain bytes value names
+alternatives_again : (bytes : List ℕ) (value : Span) (names : List GeneralName) → value.next ≤ length bytes
+    → content bytes value ≡ encoding 0x30 (flat_map encoded_name names) → AlternativesAgain bytes value names
 unfolding alternative_names names_from
 alternatives_again bytes value names bound text =
     let v = value_again bytes (flat_map encoded_name names) [] 0x30 value.start value.next (text ∙ sym (append-nil (encoding 0x30 (flat_map encoded_name names)))) in
@@ -158,7 +162,8 @@ record PartsAgain (bytes : List ℕ) (at end : ℕ) (id value : List ℕ) : Type
   within : says.next ≤ end
   read : (uris : List Span) → uris_of bytes which says ≡ Ok uris → extension_at bytes at end ≡ Ok uris
 
-parts_again : (bytes : List ℕ) (at end : ℕ) (id value : List ℕ) (critical : Option (List ℕ)) → end ≤ length bytes → between bytes at end ≡ parts_of_extension id critical value → PartsAgain bytes at end id value
+parts_again : (bytes : List ℕ) (at end : ℕ) (id value : List ℕ) (critical : Option (List ℕ)) → end ≤ length bytes
+    → between bytes at end ≡ parts_of_extension id critical value → PartsAgain bytes at end id value
 unfolding extension_at
 parts_again bytes at end id value critical bound text =
     let split : parts_of_extension id critical value ≡ encoding 0x06 id ++ (optional 0x01 critical ++ (encoding 0x04 value ++ [])) = simp (append_assoc, append-nil) in
@@ -175,7 +180,8 @@ parts_again bytes at end id value critical bound text =
       read = λ uris e. rw (part_again bytes id (optional 0x01 critical ++ (encoding 0x04 value ++ [])) 0x06 at end first, second.read, part_again bytes value [] 0x04 second.next end third, e) (finished third.value.next end uris past);
     }
 
-extension_again : (bytes : List ℕ) (at end : ℕ) (extension : Extension) → end ≤ length bytes → between bytes at end ≡ extension_content extension → ExtensionAgain bytes at end extension
+extension_again : (bytes : List ℕ) (at end : ℕ) (extension : Extension) → end ≤ length bytes → between bytes at end ≡ extension_content extension
+    → ExtensionAgain bytes at end extension
 unfolding uris_of
 extension_again bytes at end (subject_names critical names) bound text =
     let parts = parts_again bytes at end subject_alt_name (encoding 0x30 (flat_map encoded_name names)) critical bound text in
@@ -190,7 +196,8 @@ record ExtensionsAgain (k : ℕ) (bytes : List ℕ) (at end : ℕ) (extensions :
   read : extensions_in k bytes at end ≡ Ok uris
   are : map (content bytes) uris ≡ flat_map uris_of_extension extensions
 
-extensions_again : (k : ℕ) (bytes : List ℕ) (at end : ℕ) (extensions : List Extension) → end ≤ length bytes → end ≤ at + k → between bytes at end ≡ flat_map encoded_extension extensions → ExtensionsAgain k bytes at end extensions
+extensions_again : (k : ℕ) (bytes : List ℕ) (at end : ℕ) (extensions : List Extension) → end ≤ length bytes → end ≤ at + k
+    → between bytes at end ≡ flat_map encoded_extension extensions → ExtensionsAgain k bytes at end extensions
 extensions_again zero bytes at end [] bound le text = record { uris = []; read = refl; are = refl }
 extensions_again (suc k) bytes at end [] bound le text = record { uris = []; read = rw (le-leb end at (none_left bytes at end bound text)) refl; are = refl }
 extensions_again zero bytes at end (extension ∷ extensions) bound le text =
@@ -211,7 +218,8 @@ record ListAgain (bytes : List ℕ) (at end : ℕ) (extensions : List Extension)
   read : extension_list bytes at end ≡ Ok uris
   are : map (content bytes) uris ≡ flat_map uris_of_extension extensions
 
-list_again : (bytes : List ℕ) (at end : ℕ) (extensions : List Extension) → end ≤ length bytes → between bytes at end ≡ encoding 0x30 (flat_map encoded_extension extensions) → ListAgain bytes at end extensions
+list_again : (bytes : List ℕ) (at end : ℕ) (extensions : List Extension) → end ≤ length bytes
+    → between bytes at end ≡ encoding 0x30 (flat_map encoded_extension extensions) → ListAgain bytes at end extensions
 unfolding extension_list extensions_from
 list_again bytes at end extensions bound text =
     let v = value_again bytes (flat_map encoded_extension extensions) [] 0x30 at end (text ∙ sym (append-nil (encoding 0x30 (flat_map encoded_extension extensions)))) in
@@ -228,7 +236,8 @@ record AllAgain (bytes : List ℕ) (at end : ℕ) (extensions : Option (List Ext
   read : extensions_part bytes at end ≡ Ok uris
   are : map (content bytes) uris ≡ uris_of_extensions extensions
 
-all_again : (bytes : List ℕ) (at end : ℕ) (extensions : Option (List Extension)) → end ≤ length bytes → between bytes at end ≡ encoded_extensions extensions → AllAgain bytes at end extensions
+all_again : (bytes : List ℕ) (at end : ℕ) (extensions : Option (List Extension)) → end ≤ length bytes
+    → between bytes at end ≡ encoded_extensions extensions → AllAgain bytes at end extensions
 unfolding extensions_part
 all_again bytes at end None bound text = record { uris = []; read = rw (le-leb end at (none_left bytes at end bound text)) refl; are = refl }
 all_again bytes at end (Some extensions) bound text =
@@ -248,17 +257,23 @@ record TimeAgain (bytes : List ℕ) (at end seconds : ℕ) (rest : List ℕ) : T
   read : time_at bytes at end ≡ Ok (seconds, next)
   behind : between bytes next end ≡ rest
 
-time_again : (bytes rest : List ℕ) (at end seconds : ℕ) (time : CertTime) → seconds_of time ≡ Some seconds → between bytes at end ≡ encoded_time time ++ rest → TimeAgain bytes at end seconds rest
+time_so : (bytes rest : List ℕ) (at end seconds : ℕ) (time : CertTime) (form : TimeForm) → time.form ≡ form → IsTimeOf time seconds
+    → between bytes at end ≡ encoding (time_tag form) (time_text time) ++ rest → TimeAgain bytes at end seconds rest
 unfolding time_at
-time_again bytes rest at end seconds (utc_time said) is text =
-    let v = value_again bytes said rest 0x17 at end text in
-    record { next = v.value.next; read = rw (lt-leb end at v.inside, v.tag_is, v.read, v.content_is, is) refl; behind = v.behind }
-time_again bytes rest at end seconds (generalized_time said) is text =
-    let v = value_again bytes said rest 0x18 at end text in
-    record { next = v.value.next; read = rw (lt-leb end at v.inside, v.tag_is, v.read, v.content_is, is) refl; behind = v.behind }
+time_so bytes rest at end seconds time utc form is text =
+    let v = value_again bytes (time_text time) rest 0x17 at end text in
+    record { next = v.value.next; read = rw (lt-leb end at v.inside, v.tag_is, v.read, v.content_is, short_again time seconds form is) refl; behind = v.behind }
+time_so bytes rest at end seconds time generalized form is text =
+    let v = value_again bytes (time_text time) rest 0x18 at end text in
+    record { next = v.value.next; read = rw (lt-leb end at v.inside, v.tag_is, v.read, v.content_is, long_again time seconds form is) refl; behind = v.behind }
 
-validity_again : (bytes : List ℕ) (at end before after : ℕ) (not_before not_after : CertTime) → end ≤ length bytes → seconds_of not_before ≡ Some before → seconds_of not_after ≡ Some after
-    → between bytes at end ≡ encoded_time not_before ++ encoded_time not_after → validity_at bytes at end ≡ Ok (before, after)
+time_again : (bytes rest : List ℕ) (at end seconds : ℕ) (time : CertTime) → IsTimeOf time seconds → between bytes at end ≡ encoded_time time ++ rest
+    → TimeAgain bytes at end seconds rest
+time_again bytes rest at end seconds time is text = time_so bytes rest at end seconds time time.form refl is text
+
+validity_again : (bytes : List ℕ) (at end before after : ℕ) (not_before not_after : CertTime) → end ≤ length bytes → IsTimeOf not_before before
+    → IsTimeOf not_after after → between bytes at end ≡ encoded_time not_before ++ encoded_time not_after
+    → validity_at bytes at end ≡ Ok (before, after)
 unfolding validity_at
 validity_again bytes at end before after not_before not_after bound from until text =
     let first = time_again bytes (encoded_time not_after) at end before not_before from text in
@@ -273,9 +288,15 @@ record IssuingAgain (bytes : List ℕ) (at end : ℕ) (rest : List ℕ) : Type 0
   read : issuing_at bytes at end ≡ Ok next
   behind : between bytes next end ≡ rest
 
-issuing_again : (bytes rest : List ℕ) (at end : ℕ) (version : Option (List ℕ)) (serial_number algorithm issuer : List ℕ) → end ≤ length bytes
-    → between bytes at end ≡ optional 0xa0 version ++ (encoding 0x02 serial_number ++ (encoding 0x30 algorithm ++ (encoding 0x30 issuer ++ rest))) → IssuingAgain bytes at end rest
+issuing_so : (bytes : List ℕ) (at end first : ℕ) (serial algorithm issuer : Span) → option_at 0xa0 bytes at end ≡ Ok first
+    → part_at 0x02 bytes first end ≡ Ok serial → part_at 0x30 bytes serial.next end ≡ Ok algorithm → part_at 0x30 bytes algorithm.next end ≡ Ok issuer
+    → issuing_at bytes at end ≡ Ok issuer.next
 unfolding issuing_at
+issuing_so bytes at end first serial algorithm issuer one two three four = rw (one, two, three, four) refl
+
+issuing_again : (bytes rest : List ℕ) (at end : ℕ) (version : Option (List ℕ)) (serial_number algorithm issuer : List ℕ) → end ≤ length bytes
+    → between bytes at end ≡ optional 0xa0 version ++ (encoding 0x02 serial_number ++ (encoding 0x30 algorithm ++ (encoding 0x30 issuer ++ rest)))
+    → IssuingAgain bytes at end rest
 issuing_again bytes rest at end version serial_number algorithm issuer bound text =
     let three = encoding 0x30 issuer ++ rest in
     let two = encoding 0x30 algorithm ++ three in
@@ -285,7 +306,10 @@ issuing_again bytes rest at end version serial_number algorithm issuer bound tex
     let fourth = value_again bytes issuer rest 0x30 third.value.next end third.behind in
     record {
       next = fourth.value.next;
-      read = rw (first.read, part_again bytes serial_number two 0x02 first.next end second, part_again bytes algorithm three 0x30 second.value.next end third, part_again bytes issuer rest 0x30 third.value.next end fourth) refl;
+      read = issuing_so bytes at end first.next second.value third.value fourth.value first.read
+          (part_again bytes serial_number two 0x02 first.next end second)
+          (part_again bytes algorithm three 0x30 second.value.next end third)
+          (part_again bytes issuer rest 0x30 third.value.next end fourth);
       behind = fourth.behind;
     }
 
@@ -294,12 +318,15 @@ record SubjectAgain (bytes : List ℕ) (at end : ℕ) (rest : List ℕ) : Type 0
   read : subject_at bytes at end ≡ Ok next
   behind : between bytes next end ≡ rest
 
-begins_behind : (tag other : ℕ) (said : Option (List ℕ)) (rest : List ℕ) → (other == tag) ≡ false → begins tag rest ≡ false → begins tag (optional other said ++ rest) ≡ false
+begins_behind : (tag other : ℕ) (said : Option (List ℕ)) (rest : List ℕ) → (other == tag) ≡ false → begins tag rest ≡ false
+    → begins tag (optional other said ++ rest) ≡ false
 begins_behind tag other None rest not_other not_rest = not_rest
 begins_behind tag other (Some said) rest not_other not_rest = begins_with tag other said rest ∙ not_other
 
-subject_again : (bytes rest : List ℕ) (at end : ℕ) (subject public_key : List ℕ) (issuer_id subject_id : Option (List ℕ)) → end ≤ length bytes → begins 0x81 rest ≡ false → begins 0x82 rest ≡ false
-    → between bytes at end ≡ encoding 0x30 subject ++ (encoding 0x30 public_key ++ (optional 0x81 issuer_id ++ (optional 0x82 subject_id ++ rest))) → SubjectAgain bytes at end rest
+subject_again : (bytes rest : List ℕ) (at end : ℕ) (subject public_key : List ℕ) (issuer_id subject_id : Option (List ℕ)) → end ≤ length bytes
+    → begins 0x81 rest ≡ false → begins 0x82 rest ≡ false
+    → between bytes at end ≡ encoding 0x30 subject ++ (encoding 0x30 public_key ++ (optional 0x81 issuer_id ++ (optional 0x82 subject_id ++ rest)))
+    → SubjectAgain bytes at end rest
 unfolding subject_at
 subject_again bytes rest at end subject public_key issuer_id subject_id bound no_issuer_id no_subject_id text =
     let three = optional 0x82 subject_id ++ rest in
@@ -315,7 +342,8 @@ subject_again bytes rest at end subject public_key issuer_id subject_id bound no
       behind = fourth.behind;
     }
 
-signature_again : (bytes : List ℕ) (at end : ℕ) (algorithm signature : List ℕ) → end ≤ length bytes → between bytes at end ≡ encoding 0x30 algorithm ++ encoding 0x03 signature → signature_at bytes at end ≡ Ok end
+signature_again : (bytes : List ℕ) (at end : ℕ) (algorithm signature : List ℕ) → end ≤ length bytes
+    → between bytes at end ≡ encoding 0x30 algorithm ++ encoding 0x03 signature → signature_at bytes at end ≡ Ok end
 unfolding signature_at
 signature_again bytes at end algorithm signature bound text =
     let split : encoding 0x30 algorithm ++ encoding 0x03 signature ≡ encoding 0x30 algorithm ++ (encoding 0x03 signature ++ []) = simp append-nil in
@@ -336,13 +364,15 @@ record BodyAgain (bytes : List ℕ) (body : Span) (whole before after : ℕ) (ex
   read : body_at bytes body whole ≡ Ok (record { before = before; after = after; at = at; body = body.next; whole = whole })
   behind : between bytes at body.next ≡ encoded_extensions extensions
 
-body_so : (bytes : List ℕ) (body validity : Span) (whole next at before after : ℕ) → issuing_at bytes body.start body.next ≡ Ok next → part_at 0x30 bytes next body.next ≡ Ok validity → validity_at bytes validity.start validity.next ≡ Ok (before, after)
-    → subject_at bytes validity.next body.next ≡ Ok at → body_at bytes body whole ≡ Ok (record { before = before; after = after; at = at; body = body.next; whole = whole })
+body_so : (bytes : List ℕ) (body validity : Span) (whole next at before after : ℕ) → issuing_at bytes body.start body.next ≡ Ok next
+    → part_at 0x30 bytes next body.next ≡ Ok validity → validity_at bytes validity.start validity.next ≡ Ok (before, after)
+    → subject_at bytes validity.next body.next ≡ Ok at
+    → body_at bytes body whole ≡ Ok (record { before = before; after = after; at = at; body = body.next; whole = whole })
 unfolding body_at
 body_so bytes body validity whole next at before after issuing part dated subject = rw (issuing, part, dated, subject) refl
 
-body_again : (bytes : List ℕ) (body : Span) (whole before after : ℕ) (c : Certificate) → body.next ≤ length bytes → seconds_of c.not_before ≡ Some before → seconds_of c.not_after ≡ Some after
-    → content bytes body ≡ body_content c → BodyAgain bytes body whole before after c.extensions
+body_again : (bytes : List ℕ) (body : Span) (whole before after : ℕ) (c : Certificate) → body.next ≤ length bytes → IsTimeOf c.not_before before
+    → IsTimeOf c.not_after after → content bytes body ≡ body_content c → BodyAgain bytes body whole before after c.extensions
 body_again bytes body whole before after c bound from until text =
     let last = encoded_extensions c.extensions in
     let named = encoding 0x30 c.subject ++ (encoding 0x30 c.public_key ++ (optional 0x81 c.issuer_id ++ (optional 0x82 c.subject_id ++ last))) in
@@ -363,19 +393,32 @@ one_again bytes [] uri e = absurd (cc)
 one_again bytes (only ∷ []) uri e = let is : content bytes only ≡ uri = cc in ap Ok is
 one_again bytes (first ∷ second ∷ more) uri e = absurd (cc)
 
+one_of : (bytes : List ℕ) (uris : List Span) (said : List (List ℕ)) (uri : List ℕ) → map (content bytes) uris ≡ said → said ≡ uri ∷ [] → one_uri bytes uris ≡ Ok uri
+one_of bytes uris said uri are one = one_again bytes uris uri (are ∙ one)
+
 whole_chain : (chain : List ℕ) → between chain 0 (length chain) ≡ chain
 whole_chain chain = take_all (length chain - 0) chain (omega arith)
 
-pub certificate_again : (chain : List ℕ) (leaf : Leaf) → IsLeafOf chain leaf → leaf_of chain ≡ Ok leaf
+leaf_so : (chain : List ℕ) (whole body : Span) (at : ℕ) (uris : List Span) (leaf : Leaf) → part_at 0x30 chain 0 (length chain) ≡ Ok whole
+    → part_at 0x30 chain whole.start whole.next ≡ Ok body
+    → body_at chain body whole.next ≡ Ok (record { before = leaf.not_before; after = leaf.not_after; at = at; body = body.next; whole = whole.next })
+    → extensions_part chain at body.next ≡ Ok uris → signature_at chain body.next whole.next ≡ Ok whole.next → one_uri chain uris ≡ Ok leaf.uri
+    → leaf_of chain ≡ Ok leaf
 unfolding leaf_of frame_of
+leaf_so chain whole body at uris leaf whole_part body_part frame extensions signature uri = rw (whole_part, body_part, frame, extensions, signature, uri) refl
+
+pub certificate_again : (chain : List ℕ) (leaf : Leaf) → IsLeafOf chain leaf → leaf_of chain ≡ Ok leaf
 certificate_again chain leaf is =
     let c = is.certificate in
     let signed = encoding 0x30 c.signature_algorithm ++ encoding 0x03 c.signature in
     let whole = value_again chain (certificate_content c) is.rest 0x30 0 (length chain) (whole_chain chain ∙ is.spelled) in
     let split : certificate_content c ≡ encoding 0x30 (body_content c) ++ signed = simp append_assoc in
     let body = value_again chain (body_content c) signed 0x30 whole.value.start whole.value.next (whole.content_is ∙ split) in
-    let frame = body_again chain body.value whole.value.next leaf.not_before leaf.not_after c (omega (arith, whole.within, body.within)) is.not_before is.not_after body.content_is in
-    let all = all_again chain frame.at body.value.next c.extensions (omega (arith, whole.within, body.within)) frame.behind in
-    let signature = signature_again chain body.value.next whole.value.next c.signature_algorithm c.signature whole.within body.behind in
-    rw (part_again chain (certificate_content c) is.rest 0x30 0 (length chain) whole, part_again chain (body_content c) signed 0x30 whole.value.start whole.value.next body, frame.read, all.read, signature, one_again chain all.uris leaf.uri (all.are ∙ is.one_uri))
-    refl
+    let body_in : body.value.next ≤ length chain = omega (arith, whole.within, body.within) in
+    let frame = body_again chain body.value whole.value.next leaf.not_before leaf.not_after c body_in is.not_before is.not_after body.content_is in
+    let all = all_again chain frame.at body.value.next c.extensions body_in frame.behind in
+    leaf_so chain whole.value body.value frame.at all.uris leaf
+    (part_again chain (certificate_content c) is.rest 0x30 0 (length chain) whole)
+    (part_again chain (body_content c) signed 0x30 whole.value.start whole.value.next body) frame.read all.read
+    (signature_again chain body.value.next whole.value.next c.signature_algorithm c.signature whole.within body.behind)
+    (one_of chain all.uris (uris_of_extensions c.extensions) leaf.uri all.are is.one_uri)

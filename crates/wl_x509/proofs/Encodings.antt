@@ -10,24 +10,27 @@ use Rattle.wl_x509.specs.Encodings.{length_bytes, encoding, AreBytes, between, I
 
 -- ---- places
 
-two_more : (bytes : List ℕ) (at : ℕ) → at + 1 < length bytes → drop at bytes ≡ slice_index bytes at ∷ slice_index bytes (at + 1) ∷ drop (at + 2) bytes
+pub two_more : (bytes : List ℕ) (at : ℕ) → at + 1 < length bytes → drop at bytes ≡ slice_index bytes at ∷ slice_index bytes (at + 1) ∷ drop (at + 2) bytes
 two_more bytes at lt =
     let next : at + 1 + 1 ≡ at + 2 = omega arith in
     drop_more bytes at 0 (omega arith) ∙ ap (λ (l : List ℕ). slice_index bytes at ∷ l) (drop_more bytes (at + 1) 0 lt ∙ rw next refl)
 
-three_more : (bytes : List ℕ) (at : ℕ) → at + 2 < length bytes → drop at bytes ≡ slice_index bytes at ∷ slice_index bytes (at + 1) ∷ slice_index bytes (at + 2) ∷ drop (at + 3) bytes
+three_more : (bytes : List ℕ) (at : ℕ) → at + 2 < length bytes
+    → drop at bytes ≡ slice_index bytes at ∷ slice_index bytes (at + 1) ∷ slice_index bytes (at + 2) ∷ drop (at + 3) bytes
 three_more bytes at lt =
     let next : at + 2 + 1 ≡ at + 3 = omega arith in
     two_more bytes at (omega arith) ∙ ap (λ (l : List ℕ). slice_index bytes at ∷ slice_index bytes (at + 1) ∷ l) (drop_more bytes (at + 2) 0 lt ∙ rw next refl)
 
-four_more : (bytes : List ℕ) (at : ℕ) → at + 3 < length bytes → drop at bytes ≡ slice_index bytes at ∷ slice_index bytes (at + 1) ∷ slice_index bytes (at + 2) ∷ slice_index bytes (at + 3) ∷ drop (at + 4) bytes
+four_more : (bytes : List ℕ) (at : ℕ) → at + 3 < length bytes
+    → drop at bytes ≡ slice_index bytes at ∷ slice_index bytes (at + 1) ∷ slice_index bytes (at + 2) ∷ slice_index bytes (at + 3) ∷ drop (at + 4) bytes
 four_more bytes at lt =
     let next : at + 3 + 1 ≡ at + 4 = omega arith in
     three_more bytes at (omega arith) ∙ ap (λ (l : List ℕ). slice_index bytes at ∷ slice_index bytes (at + 1) ∷ slice_index bytes (at + 2) ∷ l) (drop_more bytes (at + 3) 0 lt ∙ rw next refl)
 
 -- ---- what is read is an encoding
 
-content_read : (at end start size : ℕ) (value : Span) → content_at at end start size ≡ Ok value → (start + size ≤ end) × (value ≡ record { start = start; next = start + size })
+content_read : (at end start size : ℕ) (value : Span) → content_at at end start size ≡ Ok value
+    → (start + size ≤ end) × (value ≡ record { start = start; next = start + size })
 unfolding content_at
 content_read at end start size value e =
     elim (cases_lt end (start + size)) [
@@ -39,7 +42,8 @@ size_of_content : (bytes : List ℕ) (start size : ℕ) → start + size ≤ len
 size_of_content bytes start size le = omega (arith, length-take size (drop start bytes), length-drop start bytes)
 
 -- a tag, the bytes of a length and so many bytes
-spelled_so : (bytes front : List ℕ) (tag at start size : ℕ) → drop at bytes ≡ tag ∷ front ++ drop start bytes → start ≡ at + suc (length front) → start + size ≤ length bytes → front ≡ length_bytes size
+spelled_so : (bytes front : List ℕ) (tag at start size : ℕ) → drop at bytes ≡ tag ∷ front ++ drop start bytes → start ≡ at + suc (length front)
+    → start + size ≤ length bytes → front ≡ length_bytes size
     → between bytes at (start + size) ≡ encoding tag (content bytes (record { start = start; next = start + size }))
 unfolding encoding
 spelled_so bytes front tag at start size parts place le is =
@@ -48,7 +52,8 @@ spelled_so bytes front tag at start size parts place le is =
     rw (whole, parts, inner, size_of_content bytes start size le, ← is) (ap (λ (l : List ℕ). tag ∷ l) (take-append-add front (drop start bytes) size))
 
 encoded_so : (bytes front : List ℕ) (at end start size : ℕ) (value : Span) → content_at at end start size ≡ Ok value → end ≤ length bytes
-    → drop at bytes ≡ slice_index bytes at ∷ front ++ drop start bytes → start ≡ at + suc (length front) → front ≡ length_bytes size → size < 65_536 → IsEncoded bytes at end value
+    → drop at bytes ≡ slice_index bytes at ∷ front ++ drop start bytes → start ≡ at + suc (length front) → front ≡ length_bytes size → size < 65_536
+    → IsEncoded bytes at end value
 encoded_so bytes front at end start size value e bound parts place is short =
     let read = content_read at end start size value e in
     let inner : start + size - start ≡ size = omega arith in
@@ -75,7 +80,8 @@ longer_form n high low is le lt =
     let rest : n % 256 ≡ low = omega arith in
     rw (le-ltb n 128 (omega arith), le-ltb n 256 (omega arith), quotient, rest) refl
 
-long_read : (bytes : List ℕ) (at end : ℕ) (value : Span) → AreBytes bytes → end ≤ length bytes → slice_index bytes (at + 1) ≡ 129 → long_at bytes at end ≡ Ok value → IsEncoded bytes at end value
+long_read : (bytes : List ℕ) (at end : ℕ) (value : Span) → AreBytes bytes → end ≤ length bytes → slice_index bytes (at + 1) ≡ 129
+    → long_at bytes at end ≡ Ok value → IsEncoded bytes at end value
 unfolding long_at
 long_read bytes at end value fits bound first e =
     elim (cases_lt (at + 2) end) [
@@ -90,7 +96,8 @@ long_read bytes at end value fits bound first e =
       ]
     ]
 
-longer_read : (bytes : List ℕ) (at end : ℕ) (value : Span) → AreBytes bytes → end ≤ length bytes → slice_index bytes (at + 1) ≡ 130 → longer_at bytes at end ≡ Ok value → IsEncoded bytes at end value
+longer_read : (bytes : List ℕ) (at end : ℕ) (value : Span) → AreBytes bytes → end ≤ length bytes → slice_index bytes (at + 1) ≡ 130
+    → longer_at bytes at end ≡ Ok value → IsEncoded bytes at end value
 unfolding longer_at
 longer_read bytes at end value fits bound first e =
     elim (cases_lt (at + 3) end) [
@@ -150,8 +157,8 @@ unfolding content_at
 content_fits at end start size le = rw (le-ltb end (start + size) le) refl
 
 -- a value with this front before its content, and a rest behind it
-read_so : (bytes front said rest : List ℕ) (at end tag : ℕ) → encoding tag said ≡ front ++ said → between bytes at end ≡ front ++ said ++ rest → 0 < length front
-    → value_at bytes at end ≡ content_at at end (at + length front) (length said) → IsRead bytes at end tag said
+read_so : (bytes front said rest : List ℕ) (at end tag : ℕ) → encoding tag said ≡ front ++ said → between bytes at end ≡ front ++ said ++ rest
+    → 0 < length front → value_at bytes at end ≡ content_at at end (at + length front) (length said) → IsRead bytes at end tag said
 read_so bytes front said rest at end tag whole parts some read =
     let start = at + length front in
     let size : length (front ++ said ++ rest) ≡ length front + length said + length rest = simp length-append in
@@ -166,7 +173,8 @@ read_so bytes front said rest at end tag whole parts some read =
       next = rw (whole, length-append front said) (omega arith);
     }
 
-short_again : (bytes said rest : List ℕ) (at end tag : ℕ) → length said < 128 → encoding tag said ≡ (tag ∷ length said ∷ []) ++ said → between bytes at end ≡ (tag ∷ length said ∷ []) ++ said ++ rest → IsRead bytes at end tag said
+short_again : (bytes said rest : List ℕ) (at end tag : ℕ) → length said < 128 → encoding tag said ≡ (tag ∷ length said ∷ []) ++ said
+    → between bytes at end ≡ (tag ∷ length said ∷ []) ++ said ++ rest → IsRead bytes at end tag said
 unfolding value_at
 short_again bytes said rest at end tag small whole parts =
     let n = length said in
@@ -175,8 +183,8 @@ short_again bytes said rest at end tag small whole parts =
     let inside : at + 1 < end = omega arith in
     read_so bytes (tag ∷ n ∷ []) said rest at end tag whole parts (omega arith) (rw (lt-leb end (at + 1) inside, first, lt-ltb n 128 small) refl)
 
-long_again : (bytes said rest : List ℕ) (at end tag : ℕ) → 128 ≤ length said → encoding tag said ≡ (tag ∷ 129 ∷ length said ∷ []) ++ said → between bytes at end ≡ (tag ∷ 129 ∷ length said ∷ []) ++ said ++ rest
-    → IsRead bytes at end tag said
+long_again : (bytes said rest : List ℕ) (at end tag : ℕ) → 128 ≤ length said → encoding tag said ≡ (tag ∷ 129 ∷ length said ∷ []) ++ said
+    → between bytes at end ≡ (tag ∷ 129 ∷ length said ∷ []) ++ said ++ rest → IsRead bytes at end tag said
 unfolding value_at long_at
 long_again bytes said rest at end tag large whole parts =
     let n = length said in
@@ -188,8 +196,9 @@ long_again bytes said rest at end tag large whole parts =
     let inside : at + 2 < end = omega arith in
     read_so bytes (tag ∷ 129 ∷ n ∷ []) said rest at end tag whole parts (omega arith) (rw (lt-leb end (at + 1) inside_first, first, lt-leb end (at + 2) inside, second, le-ltb n 128 large) refl)
 
-longer_again : (bytes said rest : List ℕ) (at end tag high low : ℕ) → length said ≡ 256 * high + low → 0 < high → encoding tag said ≡ (tag ∷ 130 ∷ high ∷ low ∷ []) ++ said
-    → between bytes at end ≡ (tag ∷ 130 ∷ high ∷ low ∷ []) ++ said ++ rest → IsRead bytes at end tag said
+longer_again : (bytes said rest : List ℕ) (at end tag high low : ℕ) → length said ≡ 256 * high + low → 0 < high
+    → encoding tag said ≡ (tag ∷ 130 ∷ high ∷ low ∷ []) ++ said → between bytes at end ≡ (tag ∷ 130 ∷ high ∷ low ∷ []) ++ said ++ rest
+    → IsRead bytes at end tag said
 unfolding value_at longer_at
 longer_again bytes said rest at end tag high low is some whole parts =
     let text = (tag ∷ 130 ∷ high ∷ low ∷ []) ++ said ++ rest in

@@ -65,7 +65,8 @@ leaf_ok chain frame found uri is one = leaf_found chain ∙ rw (← is) (rw one 
 pub leaf_err : (chain : List ℕ) (e : CertFault) → Err e ≡ found_in chain → Refuses e (leaf_of chain ≡ Err e)
 leaf_err chain e is = refuses e (leaf_found chain ∙ rw (← is) refl)
 
-pub leaf_uri_err : (chain : List ℕ) (frame : Frame) (found : Uris) (e : CertFault) → Ok (frame, found) ≡ found_in chain → Refuses e (chosen chain found ≡ Err e) → Refuses e (leaf_of chain ≡ Err e)
+pub leaf_uri_err : (chain : List ℕ) (frame : Frame) (found : Uris) (e : CertFault) → Ok (frame, found) ≡ found_in chain
+    → Refuses e (chosen chain found ≡ Err e) → Refuses e (leaf_of chain ≡ Err e)
 leaf_uri_err chain frame found e is = refuses_so e (λ (h : chosen chain found ≡ Err e). leaf_found chain ∙ rw (← is) (rw h refl))
 
 -- ---- what the answer says of the chain

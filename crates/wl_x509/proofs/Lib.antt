@@ -1,5 +1,6 @@
-pub mod Tallies
-pub mod Found
 pub mod Encodings
+pub mod Digits
 pub mod Spelled
 pub mod Again
+pub mod Tallies
+pub mod Found

@@ -15,8 +15,9 @@ use Rattle.wl_x509.specs.Values.{◌>>=◌, content, value_at, part_at, option_a
 use Rattle.wl_x509.specs.Times.{short_time, long_time}
 use Rattle.wl_x509.specs.Leaves.{then_end, told_time, time_at, validity_at, names_in, names_from, alternative_names, uris_of, extension_at, extensions_in, extensions_from, extension_list, extensions_part, issuing_at, subject_at, body_at, frame_of, signature_at, one_uri, leaf_of}
 use Rattle.wl_x509.specs.Encodings.{encoding, AreBytes, between}
-use Rattle.wl_x509.specs.Certificates.{optional, CertTime, utc_time, generalized_time, encoded_time, seconds_of, GeneralName, encoded_name, uris_among, Extension, subject_alt_name, subject_names, other_extension, parts_of_extension, extension_content, encoded_extension, uris_of_extension, encoded_extensions, uris_of_extensions, Certificate, body_content, certificate_content, encoded_certificate, IsLeafOf}
+use Rattle.wl_x509.specs.Certificates.{optional, TimeForm, utc, generalized, CertTime, time_text, time_tag, encoded_time, IsTimeOf, GeneralName, encoded_name, uris_among, Extension, subject_alt_name, subject_names, other_extension, parts_of_extension, extension_content, encoded_extension, uris_of_extension, encoded_extensions, uris_of_extensions, Certificate, body_content, certificate_content, encoded_certificate, IsLeafOf}
 use Rattle.wl_x509.proofs.Encodings.{encoded}
+use Rattle.wl_x509.proofs.Digits.{IsTimeText, short_found, long_found}
 
 -- ---- steps
 
@@ -65,7 +66,8 @@ pub record IsPart (bytes : List ℕ) (tag at end : ℕ) (value : Span) : Type 0 
   pub within : value.next ≤ end
   pub text : IsText bytes at value.next (encoding tag (content bytes value))
 
-value_found : (bytes : List ℕ) (tag at end : ℕ) (value : Span) → AreBytes bytes → end ≤ length bytes → slice_index bytes at ≡ tag → value_at bytes at end ≡ Ok value → IsPart bytes tag at end value
+value_found : (bytes : List ℕ) (tag at end : ℕ) (value : Span) → AreBytes bytes → end ≤ length bytes → slice_index bytes at ≡ tag
+    → value_at bytes at end ≡ Ok value → IsPart bytes tag at end value
 value_found bytes tag at end value fits bound is e =
     let v = encoded bytes at end value fits bound e in
     record { below = omega (arith, v.below, v.order); order = v.order; within = v.within; text = record { order = omega (arith, v.below, v.order); is = rw (← is) v.spelled } }
@@ -92,12 +94,14 @@ option_none bytes tag at end next order e =
     let same : at ≡ next = cc in
     record { said = None; within = omega arith; text = no_text bytes at next same }
 
-option_some : (bytes : List ℕ) (tag at end next : ℕ) (value : Span) → IsPart bytes tag at end value → ◌≡◌ {A = Result ℕ CertFault} (Ok value.next) (Ok next) → IsOption bytes tag at end next
+option_some : (bytes : List ℕ) (tag at end next : ℕ) (value : Span) → IsPart bytes tag at end value
+    → ◌≡◌ {A = Result ℕ CertFault} (Ok value.next) (Ok next) → IsOption bytes tag at end next
 option_some bytes tag at end next value part e =
     let same : value.next ≡ next = cc in
     record { said = Some (content bytes value); within = omega (arith, part.within); text = rw (← same) part.text }
 
-option_found : (bytes : List ℕ) (tag at end next : ℕ) → AreBytes bytes → end ≤ length bytes → at ≤ end → option_at tag bytes at end ≡ Ok next → IsOption bytes tag at end next
+option_found : (bytes : List ℕ) (tag at end next : ℕ) → AreBytes bytes → end ≤ length bytes → at ≤ end → option_at tag bytes at end ≡ Ok next
+    → IsOption bytes tag at end next
 unfolding option_at
 option_found bytes tag at end next fits bound order e =
     elim (cases_lt at end) [
@@ -126,7 +130,8 @@ uri_or_not : (b : Bool) (bytes : List ℕ) (name : Span) (later : List Span) (na
 uri_or_not true bytes name later names are = ap (λ (l : List (List ℕ)). content bytes name ∷ l) are
 uri_or_not false bytes name later names are = are
 
-names_more : (bytes : List ℕ) (tag at end : ℕ) (name : Span) (uris later : List Span) → IsPart bytes tag at end name → AreNames bytes name.next end later → (if tag == 0x86 then name ∷ later else later) ≡ uris → AreNames bytes at end uris
+names_more : (bytes : List ℕ) (tag at end : ℕ) (name : Span) (uris later : List Span) → IsPart bytes tag at end name
+    → AreNames bytes name.next end later → (if tag == 0x86 then name ∷ later else later) ≡ uris → AreNames bytes at end uris
 names_more bytes tag at end name uris later part more is =
     record {
       names = record { tag = tag; content = content bytes name } ∷ more.names;
@@ -134,7 +139,8 @@ names_more bytes tag at end name uris later part more is =
       are = rw (← is) (uri_or_not (tag == 0x86) bytes name later more.names more.are);
     }
 
-names_found : (k : ℕ) (bytes : List ℕ) (at end : ℕ) (uris : List Span) → AreBytes bytes → end ≤ length bytes → at ≤ end → end ≤ at + k → names_in k bytes at end ≡ Ok uris → AreNames bytes at end uris
+names_found : (k : ℕ) (bytes : List ℕ) (at end : ℕ) (uris : List Span) → AreBytes bytes → end ≤ length bytes → at ≤ end → end ≤ at + k
+    → names_in k bytes at end ≡ Ok uris → AreNames bytes at end uris
 names_found zero bytes at end uris fits bound order le e = names_none bytes at end uris (omega arith) e
 names_found (suc k) bytes at end uris fits bound order le e =
     elim (cases_lt at end) [
@@ -153,10 +159,12 @@ record AreAlternatives (bytes : List ℕ) (value : Span) (uris : List Span) : Ty
   text : content bytes value ≡ encoding 0x30 (flat_map encoded_name names)
   are : map (content bytes) uris ≡ uris_among names
 
-part_of : (bytes : List ℕ) (tag at end : ℕ) (value : Span) (text : List ℕ) → IsPart bytes tag at end value → content bytes value ≡ text → IsText bytes at value.next (encoding tag text)
+part_of : (bytes : List ℕ) (tag at end : ℕ) (value : Span) (text : List ℕ) → IsPart bytes tag at end value → content bytes value ≡ text
+    → IsText bytes at value.next (encoding tag text)
 part_of bytes tag at end value text part is = rw (← is) part.text
 
-alternatives_found : (bytes : List ℕ) (value : Span) (uris : List Span) → AreBytes bytes → value.next ≤ length bytes → alternative_names bytes value ≡ Ok uris → AreAlternatives bytes value uris
+alternatives_found : (bytes : List ℕ) (value : Span) (uris : List Span) → AreBytes bytes → value.next ≤ length bytes
+    → alternative_names bytes value ≡ Ok uris → AreAlternatives bytes value uris
 unfolding alternative_names names_from
 alternatives_found bytes value uris fits bound e =
     bind_then (part_at 0x30 bytes value.start value.next) _ uris e (λ list read_list behind_list.
@@ -179,8 +187,10 @@ record IsExtension (bytes : List ℕ) (at end : ℕ) (uris : List Span) : Type 0
   are : map (content bytes) uris ≡ uris_of_extension extension
 
 -- of an extension that was read, its value says these URIs
-extension_so : (bytes : List ℕ) (at end : ℕ) (id value : Span) (critical : Option (List ℕ)) (uris : List Span) (b : Bool) → AreBytes bytes → value.next ≤ length bytes → bytes_eq (content bytes id) subject_alt_name ≡ b
-    → IsText bytes at end (parts_of_extension (content bytes id) critical (content bytes value)) → (if b then alternative_names bytes value else Ok []) ≡ Ok uris → IsExtension bytes at end uris
+extension_so : (bytes : List ℕ) (at end : ℕ) (id value : Span) (critical : Option (List ℕ)) (uris : List Span) (b : Bool) → AreBytes bytes
+    → value.next ≤ length bytes → bytes_eq (content bytes id) subject_alt_name ≡ b
+    → IsText bytes at end (parts_of_extension (content bytes id) critical (content bytes value))
+    → (if b then alternative_names bytes value else Ok []) ≡ Ok uris → IsExtension bytes at end uris
 extension_so bytes at end id value critical uris true fits bound is text e =
     let names = alternatives_found bytes value uris fits bound e in
     let same : content bytes id ≡ subject_alt_name = (bytes_decides (content bytes id) subject_alt_name).0 is in
@@ -193,7 +203,8 @@ extension_so bytes at end id value critical uris false fits bound is text e =
     let none : [] ≡ uris = ok_is e in
     record { extension = other_extension (content bytes id) critical (content bytes value) is; text = text; are = rw (← none) refl }
 
-extension_found : (bytes : List ℕ) (at end : ℕ) (uris : List Span) → AreBytes bytes → end ≤ length bytes → extension_at bytes at end ≡ Ok uris → IsExtension bytes at end uris
+extension_found : (bytes : List ℕ) (at end : ℕ) (uris : List Span) → AreBytes bytes → end ≤ length bytes → extension_at bytes at end ≡ Ok uris
+    → IsExtension bytes at end uris
 unfolding extension_at uris_of
 extension_found bytes at end uris fits bound e =
     bind_then (part_at 0x06 bytes at end) _ uris e (λ id read_id behind_id.
@@ -219,7 +230,8 @@ extensions_none bytes at end uris same e =
     let none : [] ≡ uris = ok_is e in
     record { extensions = []; text = no_text bytes at end same; are = rw (← none) refl }
 
-extensions_more : (bytes : List ℕ) (at end : ℕ) (value : Span) (uris first later : List Span) → IsPart bytes 0x30 at end value → IsExtension bytes value.start value.next first → AreExtensions bytes value.next end later → first ++ later ≡ uris
+extensions_more : (bytes : List ℕ) (at end : ℕ) (value : Span) (uris first later : List Span) → IsPart bytes 0x30 at end value
+    → IsExtension bytes value.start value.next first → AreExtensions bytes value.next end later → first ++ later ≡ uris
     → AreExtensions bytes at end uris
 extensions_more bytes at end value uris first later part one more is =
     record {
@@ -228,7 +240,8 @@ extensions_more bytes at end value uris first later part one more is =
       are = rw (← is, map-append (content bytes) first later, one.are, more.are) refl;
     }
 
-extensions_found : (k : ℕ) (bytes : List ℕ) (at end : ℕ) (uris : List Span) → AreBytes bytes → end ≤ length bytes → at ≤ end → end ≤ at + k → extensions_in k bytes at end ≡ Ok uris → AreExtensions bytes at end uris
+extensions_found : (k : ℕ) (bytes : List ℕ) (at end : ℕ) (uris : List Span) → AreBytes bytes → end ≤ length bytes → at ≤ end → end ≤ at + k
+    → extensions_in k bytes at end ≡ Ok uris → AreExtensions bytes at end uris
 extensions_found zero bytes at end uris fits bound order le e = extensions_none bytes at end uris (omega arith) e
 extensions_found (suc k) bytes at end uris fits bound order le e =
     elim (cases_lt at end) [
@@ -268,7 +281,8 @@ record HasExtensions (bytes : List ℕ) (at end : ℕ) (uris : List Span) : Type
   text : IsText bytes at end (encoded_extensions extensions)
   are : map (content bytes) uris ≡ uris_of_extensions extensions
 
-extensions_part_found : (bytes : List ℕ) (at end : ℕ) (uris : List Span) → AreBytes bytes → end ≤ length bytes → at ≤ end → extensions_part bytes at end ≡ Ok uris → HasExtensions bytes at end uris
+extensions_part_found : (bytes : List ℕ) (at end : ℕ) (uris : List Span) → AreBytes bytes → end ≤ length bytes → at ≤ end
+    → extensions_part bytes at end ≡ Ok uris → HasExtensions bytes at end uris
 unfolding extensions_part
 extensions_part_found bytes at end uris fits bound order e =
     elim (cases_lt at end) [
@@ -299,7 +313,7 @@ record IsTime (bytes : List ℕ) (at end : ℕ) (t : ℕ × ℕ) : Type 0 where
   time : CertTime
   within : t.1 ≤ end
   text : IsText bytes at t.1 (encoded_time time)
-  seconds : seconds_of time ≡ Some t.0
+  at_seconds : IsTimeOf time t.0
 
 told : (at next : ℕ) (o : Option ℕ) (t : ℕ × ℕ) → told_time at next o ≡ Ok t → (next ≡ t.1) × (o ≡ Some t.0)
 told at next (Some seconds) t e =
@@ -307,14 +321,14 @@ told at next (Some seconds) t e =
     (ap (λ (p : ℕ × ℕ). p.1) is, ap (λ (p : ℕ × ℕ). Some p.0) is)
 told at next None t e = absurd (cc)
 
-time_so : (bytes : List ℕ) (tag at end : ℕ) (t : ℕ × ℕ) (time : CertTime) (value : Span) → IsPart bytes tag at end value → encoding tag (content bytes value) ≡ encoded_time time → told_time at value.next (seconds_of time) ≡ Ok t → IsTime bytes at end t
-time_so bytes tag at end t time value part is e =
-    let told = told at value.next (seconds_of time) t e in
+time_so : (bytes : List ℕ) (form : TimeForm) (at end : ℕ) (t : ℕ × ℕ) (value : Span) → IsPart bytes (time_tag form) at end value → value.next ≡ t.1
+    → IsTimeText form (content bytes value) t.0 → IsTime bytes at end t
+time_so bytes form at end t value part same is =
     record {
-      time = time;
-      within = omega (arith, part.within, told.0);
-      text = moved bytes at value.next t.1 (encoded_time time) told.0 (record { order = part.text.order; is = part.text.is ∙ is });
-      seconds = told.1;
+      time = is.time;
+      within = omega (arith, part.within);
+      text = moved bytes at value.next t.1 (encoded_time is.time) same (part_of bytes (time_tag is.time.form) at end value (time_text is.time) (rw is.form_is part) is.spelled);
+      at_seconds = is.at_seconds;
     }
 
 time_found : (bytes : List ℕ) (at end : ℕ) (t : ℕ × ℕ) → AreBytes bytes → end ≤ length bytes → time_at bytes at end ≡ Ok t → IsTime bytes at end t
@@ -324,12 +338,14 @@ time_found bytes at end t fits bound e =
     elim (cases_lt at end) [
       | inr past ↦ absurd (let wrong : Err (fault.Truncated end) ≡ Ok t = (rw (le-leb end at past) at e) in cc)
       | inl inside ↦ elim (cases_eq tag 0x17) [
-        | inl is ↦ bind_then (value_at bytes at end) (λ (v : Span). told_time at v.next (short_time (content bytes v))) t (rw (lt-leb end at inside, eq-eqb tag 0x17 is) at e)
-            (λ value read behind. time_so bytes 0x17 at end t (utc_time (content bytes value)) value (value_found bytes 0x17 at end value fits bound is read) refl behind)
-        | inr not_short ↦ elim (cases_eq tag 0x18) [
-          | inl is ↦ bind_then (value_at bytes at end) (λ (v : Span). told_time at v.next (long_time (content bytes v))) t (rw (lt-leb end at inside, ne_eqb tag 0x17 not_short, eq-eqb tag 0x18 is) at e)
-              (λ value read behind. time_so bytes 0x18 at end t (generalized_time (content bytes value)) value (value_found bytes 0x18 at end value fits bound is read) refl behind)
-          | inr not_long ↦ absurd (let wrong : Err (fault.Tag at) ≡ Ok t = (rw (lt-leb end at inside, ne_eqb tag 0x17 not_short, ne_eqb tag 0x18 not_long) at e) in cc)
+        | inl is ↦ bind_then (value_at bytes at end) (λ (v : Span). told_time at v.next (short_time (content bytes v))) t (rw (lt-leb end at inside, eq-eqb tag 0x17 is) at e) (λ value read behind.
+            let says = told at value.next (short_time (content bytes value)) t behind in
+            time_so bytes utc at end t value (value_found bytes 0x17 at end value fits bound is read) says.0 (short_found (content bytes value) t.0 says.1))
+        | inr not_utc ↦ elim (cases_eq tag 0x18) [
+          | inl is ↦ bind_then (value_at bytes at end) (λ (v : Span). told_time at v.next (long_time (content bytes v))) t (rw (lt-leb end at inside, ne_eqb tag 0x17 not_utc, eq-eqb tag 0x18 is) at e) (λ value read behind.
+              let says = told at value.next (long_time (content bytes value)) t behind in
+              time_so bytes generalized at end t value (value_found bytes 0x18 at end value fits bound is read) says.0 (long_found (content bytes value) t.0 says.1))
+          | inr not_time ↦ absurd (let wrong : Err (fault.Tag at) ≡ Ok t = (rw (lt-leb end at inside, ne_eqb tag 0x17 not_utc, ne_eqb tag 0x18 not_time) at e) in cc)
         ]
       ]
     ]
@@ -338,8 +354,8 @@ record AreTimes (bytes : List ℕ) (at end : ℕ) (times : ℕ × ℕ) : Type 0 
   not_before : CertTime
   not_after : CertTime
   text : IsText bytes at end (encoded_time not_before ++ encoded_time not_after)
-  before : seconds_of not_before ≡ Some times.0
-  after : seconds_of not_after ≡ Some times.1
+  before : IsTimeOf not_before times.0
+  after : IsTimeOf not_after times.1
 
 validity_found : (bytes : List ℕ) (at end : ℕ) (times : ℕ × ℕ) → AreBytes bytes → end ≤ length bytes → validity_at bytes at end ≡ Ok times → AreTimes bytes at end times
 unfolding validity_at
@@ -354,8 +370,8 @@ validity_found bytes at end times fits bound e =
       not_before = before.time;
       not_after = after.time;
       text = moved bytes at second.1 end (encoded_time before.time ++ encoded_time after.time) (omega (arith, last.0, after.within)) text;
-      before = before.seconds ∙ ap (λ (p : ℕ × ℕ). Some p.0) last.1;
-      after = after.seconds ∙ ap (λ (p : ℕ × ℕ). Some p.1) last.1;
+      before = subst (IsTimeOf before.time) (ap (λ (p : ℕ × ℕ). p.0) last.1) before.at_seconds;
+      after = subst (IsTimeOf after.time) (ap (λ (p : ℕ × ℕ). p.1) last.1) after.at_seconds;
     }))
 
 -- ---- the certificate
@@ -445,12 +461,14 @@ record IsFront (bytes : List ℕ) (body : Span) (whole : ℕ) (frame : Frame) : 
   body_is : frame.body ≡ body.next
   whole_is : frame.whole ≡ whole
 
-front_so : (bytes : List ℕ) (body validity : Span) (whole next at : ℕ) (times : ℕ × ℕ) (frame : Frame) → IsIssuing bytes body.start body.next next → IsPart bytes 0x30 next body.next validity → AreTimes bytes validity.start validity.next times
-    → IsSubject bytes validity.next body.next at → record { before = times.0; after = times.1; at = at; body = body.next; whole = whole } ≡ frame → IsFront bytes body whole frame
+front_so : (bytes : List ℕ) (body validity : Span) (whole next at : ℕ) (times : ℕ × ℕ) (frame : Frame) → IsIssuing bytes body.start body.next next
+    → IsPart bytes 0x30 next body.next validity → AreTimes bytes validity.start validity.next times → IsSubject bytes validity.next body.next at
+    → record { before = times.0; after = times.1; at = at; body = body.next; whole = whole } ≡ frame → IsFront bytes body whole frame
 front_so bytes body validity whole next at times frame issuing part are subject is =
     subst (IsFront bytes body whole) is (record { issuing = (next, issuing); times = (validity, part, are); subject = subject; body_is = refl; whole_is = refl })
 
-front_found : (bytes : List ℕ) (body : Span) (whole : ℕ) (frame : Frame) → AreBytes bytes → body.start ≤ body.next → body.next ≤ length bytes → body_at bytes body whole ≡ Ok frame → IsFront bytes body whole frame
+front_found : (bytes : List ℕ) (body : Span) (whole : ℕ) (frame : Frame) → AreBytes bytes → body.start ≤ body.next → body.next ≤ length bytes
+    → body_at bytes body whole ≡ Ok frame → IsFront bytes body whole frame
 unfolding body_at
 front_found bytes body whole frame fits order bound e =
     bind_then (issuing_at bytes body.start body.next) _ frame e (λ next read_issuing behind_issuing.
@@ -469,7 +487,8 @@ one_found bytes (only ∷ []) uri e = ap (λ (u : List ℕ). u ∷ []) (ok_is e)
 one_found bytes (first ∷ second ∷ more) uri e = absurd (cc)
 
 -- the certificate that was read
-certificate_so : (chain : List ℕ) (whole body : Span) (frame : Frame) (uris : List Span) → IsFront chain body whole.next frame → HasExtensions chain frame.at body.next uris → IsSignature chain body.next whole.next → Certificate
+certificate_so : (chain : List ℕ) (whole body : Span) (frame : Frame) (uris : List Span) → IsFront chain body whole.next frame
+    → HasExtensions chain frame.at body.next uris → IsSignature chain body.next whole.next → Certificate
 certificate_so chain whole body frame uris front all signed =
     let issuing = front.issuing.1 in
     let times = front.times.2 in
@@ -490,8 +509,10 @@ certificate_so chain whole body frame uris front all signed =
       signature = signed.signature;
     }
 
-leaf_so : (chain : List ℕ) (whole body : Span) (frame : Frame) (uris : List Span) (uri : List ℕ) → IsPart chain 0x30 0 (length chain) whole → IsPart chain 0x30 whole.start whole.next body → IsFront chain body whole.next frame
-    → HasExtensions chain frame.at body.next uris → IsSignature chain body.next whole.next → one_uri chain uris ≡ Ok uri → IsLeafOf chain (record { uri = uri; not_before = frame.before; not_after = frame.after })
+leaf_so : (chain : List ℕ) (whole body : Span) (frame : Frame) (uris : List Span) (uri : List ℕ) → IsPart chain 0x30 0 (length chain) whole
+    → IsPart chain 0x30 whole.start whole.next body → IsFront chain body whole.next frame → HasExtensions chain frame.at body.next uris
+    → IsSignature chain body.next whole.next → one_uri chain uris ≡ Ok uri
+    → IsLeafOf chain (record { uri = uri; not_before = frame.before; not_after = frame.after })
 unfolding certificate_so
 leaf_so chain whole body frame uris uri whole_part body_part front all signed one =
     let certificate = certificate_so chain whole body frame uris front all signed in

@@ -1,10 +1,11 @@
 -- Certificates and their DER encodings (RFC 5280, section 4.1), apart from how they are read. A part that says nothing of
--- a leaf stands here by its content, whatever that is.
-use Rattle.std.specs.Prelude.{◌≡◌, ℕ, ◌==◌, false, if◌then◌else◌, List, [], ◌∷◌, ◌++◌, Option, Some, None}
+-- a leaf stands here by its content, whatever that is. Tags: 01 BOOLEAN, 02 INTEGER, 03 BIT STRING, 04 OCTET STRING,
+-- 06 OBJECT IDENTIFIER, 17 UTCTime, 18 GeneralizedTime, 30 SEQUENCE; the others are of the certificate's own parts.
+use Rattle.std.specs.Prelude.{◌≡◌, ℕ, ◌+◌, ◌/◌, ◌%◌, ◌<◌, ◌≤◌, ◌==◌, false, if◌then◌else◌, List, [], ◌∷◌, ◌++◌, Option, Some, None}
 use Rattle.std.specs.List.{flat_map}
 use Rattle.std.specs.Str.{bytes_eq}
 use Rattle.wl_x509.specs.declared.leaves.Leaf.{Leaf}
-use Rattle.wl_x509.specs.Times.{short_time, long_time}
+use Rattle.wl_x509.specs.Times.{unix_seconds}
 use Rattle.wl_x509.specs.Encodings.{encoding}
 
 -- a part that may be left out
@@ -14,17 +15,51 @@ optional tag (Some content) = encoding tag content
 
 -- ---- times (4.1.2.5)
 
-pub data CertTime : Type 0 where
-  utc_time : (text : List ℕ) → CertTime
-  generalized_time : (text : List ℕ) → CertTime
+pub data TimeForm : Type 0 where
+  utc : TimeForm
+  generalized : TimeForm
+
+-- a date and a time of day (UTC), and the form in which they are written
+pub record CertTime : Type 0 where
+  pub form : TimeForm
+  pub year : ℕ
+  pub month : ℕ
+  pub day : ℕ
+  pub hour : ℕ
+  pub minute : ℕ
+  pub second : ℕ
+
+abbrev pub two_digits : ℕ → List ℕ
+two_digits n = (48 + n / 10) ∷ (48 + n % 10) ∷ []
+
+-- a UTCTime has the last two digits of the year, a GeneralizedTime all four
+abbrev pub year_digits : TimeForm → ℕ → List ℕ
+year_digits utc year = two_digits (year % 100)
+year_digits generalized year = two_digits (year / 100) ++ two_digits (year % 100)
+
+-- so the years of a UTCTime are these
+abbrev pub IsYearOf : TimeForm → ℕ → Type 0
+IsYearOf utc year = (1950 ≤ year) × (year < 2050)
+IsYearOf generalized year = year < 10_000
+
+-- `MMDDHHMMSSZ`
+abbrev pub text_behind_year : CertTime → List ℕ
+text_behind_year t = two_digits t.month ++ two_digits t.day ++ two_digits t.hour ++ two_digits t.minute ++ two_digits t.second ++ 90 ∷ []
+
+abbrev pub time_text : CertTime → List ℕ
+time_text t = year_digits t.form t.year ++ text_behind_year t
+
+abbrev pub time_tag : TimeForm → ℕ
+time_tag utc = 0x17
+time_tag generalized = 0x18
 
 abbrev pub encoded_time : CertTime → List ℕ
-encoded_time (utc_time text) = encoding 0x17 text
-encoded_time (generalized_time text) = encoding 0x18 text
+encoded_time t = encoding (time_tag t.form) (time_text t)
 
-abbrev pub seconds_of : CertTime → Option ℕ
-seconds_of (utc_time text) = short_time text
-seconds_of (generalized_time text) = long_time text
+-- it is real, and from 1970 on it is at these Unix seconds
+pub record IsTimeOf (time : CertTime) (seconds : ℕ) : Type 0 where
+  pub year : IsYearOf time.form time.year
+  pub real : unix_seconds time.year time.month time.day time.hour time.minute time.second ≡ Some seconds
 
 -- ---- names of the subject (4.2.1.6)
 
@@ -122,8 +157,8 @@ pub record IsLeafOf (chain : List ℕ) (leaf : Leaf) : Type 0 where
   pub rest : List ℕ
   pub spelled : chain ≡ encoded_certificate certificate ++ rest
   pub one_uri : uris_of_extensions certificate.extensions ≡ leaf.uri ∷ []
-  pub not_before : seconds_of certificate.not_before ≡ Some leaf.not_before
-  pub not_after : seconds_of certificate.not_after ≡ Some leaf.not_after
+  pub not_before : IsTimeOf certificate.not_before leaf.not_before
+  pub not_after : IsTimeOf certificate.not_after leaf.not_after
 
 abbrev pub IsOnlyLeafOf : List ℕ → Leaf → Type 0
 IsOnlyLeafOf chain leaf = (other : Leaf) → IsLeafOf chain other → other ≡ leaf

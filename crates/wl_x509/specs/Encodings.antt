@@ -1,5 +1,5 @@
--- Encodings of DER (ITU-T X.690, sections 8.1 and 10.1) as lists of bytes, apart from how they are read; and what it is
--- that `Values` reads them.
+-- Encodings of DER (ITU-T X.690, sections 8.1 and 10.1) as lists of bytes, apart from how they are read; and what it means
+-- that `Values` reads these and nothing else.
 use Rattle.std.specs.Prelude.{◌≡◌, ℕ, ◌+◌, ◌-◌, ◌/◌, ◌%◌, ◌<◌, ◌≤◌, nat_lt, if◌then◌else◌, List, [], ◌∷◌, ◌++◌, length, take, drop, slice_index, Ok}
 use Rattle.wl_x509.specs.declared.values.Span.{Span}
 use Rattle.wl_x509.specs.Values.{content, value_at}
@@ -26,7 +26,7 @@ between bytes at end = take (end - at) (drop at bytes)
 
 -- ---- what is read is an encoding
 
--- from a place on, and no further than to an end, there is the encoding of the content of a value
+-- from a place to the end of a value that was read stands the encoding of its content, with the tag that stands there
 pub record IsEncoded (bytes : List ℕ) (at end : ℕ) (value : Span) : Type 0 where
   pub below : at < value.start
   pub order : value.start ≤ value.next
@@ -34,17 +34,17 @@ pub record IsEncoded (bytes : List ℕ) (at end : ℕ) (value : Span) : Type 0 w
   pub short : length (content bytes value) < 65_536
   pub spelled : between bytes at value.next ≡ encoding (slice_index bytes at) (content bytes value)
 
-abbrev pub ReadValuesAreEncoded : Type 0
-ReadValuesAreEncoded = (bytes : List ℕ) (at end : ℕ) (value : Span) → AreBytes bytes → end ≤ length bytes → value_at bytes at end ≡ Ok value → IsEncoded bytes at end value
+abbrev pub ReadsEncodings : Type 0
+ReadsEncodings = (bytes : List ℕ) (at end : ℕ) (value : Span) → AreBytes bytes → end ≤ length bytes → value_at bytes at end ≡ Ok value → IsEncoded bytes at end value
 
 -- ---- each encoding is read
 
--- the value of this tag and content that begins at a place is read, and no more
+-- at a place the encoding of this content is read, and no more
 pub record IsRead (bytes : List ℕ) (at end tag : ℕ) (said : List ℕ) : Type 0 where
   pub value : Span
   pub read : value_at bytes at end ≡ Ok value
   pub content_is : content bytes value ≡ said
   pub next : value.next ≡ at + length (encoding tag said)
 
-abbrev pub EncodedValuesAreRead : Type 0
-EncodedValuesAreRead = (bytes : List ℕ) (at end tag : ℕ) (said rest : List ℕ) → between bytes at end ≡ encoding tag said ++ rest → IsRead bytes at end tag said
+abbrev pub ReadsEachEncoding : Type 0
+ReadsEachEncoding = (bytes : List ℕ) (at end tag : ℕ) (said rest : List ℕ) → between bytes at end ≡ encoding tag said ++ rest → IsRead bytes at end tag said

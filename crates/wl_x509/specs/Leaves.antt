@@ -1,6 +1,6 @@
 -- The leaf of a chain: the parts of its first certificate (RFC 5280, section 4.1), read from the first byte on. What is
 -- read is a value, or the fault at the first byte where the reading goes wrong. Signatures, constraints and key usage
--- are not judged, and what follows the certificate isn't looked at.
+-- are not judged, and what follows the certificate isn't looked at. `Certificates` has the form of what is read.
 use Rattle.std.specs.Prelude.{◌≡◌, ℕ, zero, suc, ◌+◌, ◌-◌, ◌==◌, ◌&&◌, not, nat_lt, nat_le, if◌then◌else◌, List, [], ◌∷◌, ◌++◌, length, slice_index, Option, Some, None, Result, Ok, Err}
 use Rattle.std.specs.Str.{bytes_eq}
 use Rattle.wl_entry.specs.declared.unfit.CertFault.{CertFault}
@@ -167,12 +167,12 @@ leaf_of chain =
 -- ---- what was read, and what a fault says
 
 -- what is read is the leaf of the chain
-abbrev pub ReadLeavesAreLeaves : Type 0
-ReadLeavesAreLeaves = (chain : List ℕ) (leaf : Leaf) → AreBytes chain → leaf_of chain ≡ Ok leaf → IsLeafOf chain leaf
+abbrev pub ReadsLeaves : Type 0
+ReadsLeaves = (chain : List ℕ) (leaf : Leaf) → AreBytes chain → leaf_of chain ≡ Ok leaf → IsLeafOf chain leaf
 
 -- and each leaf of a chain is read
-abbrev pub LeavesAreRead : Type 0
-LeavesAreRead = (chain : List ℕ) (leaf : Leaf) → IsLeafOf chain leaf → leaf_of chain ≡ Ok leaf
+abbrev pub ReadsEachLeaf : Type 0
+ReadsEachLeaf = (chain : List ℕ) (leaf : Leaf) → IsLeafOf chain leaf → leaf_of chain ≡ Ok leaf
 
 -- a fault is owed what its cause says, unless it is want of memory
 abbrev pub Refuses : CertFault → Type 0 → Type 0

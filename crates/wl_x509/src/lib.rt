@@ -9,6 +9,7 @@ mod leaves;
 mod names;
 mod parts;
 mod reasons;
+mod tags;
 #[cfg(test)]
 mod tests;
 mod times;
