@@ -1,12 +1,5 @@
 -- From what the code keeps of a certificate to its leaf.
-use Rattle.std.proofs.Common.{◌≡◌, ℕ, ◌==◌, ◌&&◌, Bool, true, false, not, if◌then◌else◌, List, Some, None, Result, Ok, Err, refl, sym, ap, ◌∙◌, arith}
-use Rattle.std.specs.Str.{bytes_eq}
-use Rattle.std.specs.Cmp.Lexicographic.{bytes_decides}
-use Rattle.std.proofs.lemmas.Bool.Decides.{nat_tests}
-use Rattle.wl_entry.specs.declared.asks.Ask.{Ask}
-use Rattle.wl_entry.specs.declared.signing.Signed.{Signed}
-use Rattle.wl_entry.specs.declared.unfit.Unfit.{Unfit}
-use Rattle.wl_entry.specs.declared.unfit.Unfit.TheVariants as unfit
+use Rattle.std.proofs.Common.{◌≡◌, ℕ, List, Result, Ok, Err, refl, sym, ap, ◌∙◌}
 use Rattle.wl_entry.specs.declared.unfit.CertFault.{CertFault}
 use Rattle.wl_entry.specs.declared.unfit.CertFault.TheVariants.{Truncated, Tag, Length, Time, Extra, NoUri, ManyUris, Memory}
 use Rattle.wl_x509.specs.declared.values.Span.{Span}
@@ -14,9 +7,11 @@ use Rattle.wl_x509.specs.declared.names.Uris.{Uris}
 use Rattle.wl_x509.specs.declared.parts.Frame.{Frame}
 use Rattle.wl_x509.specs.declared.leaves.Leaf.{Leaf}
 use Rattle.wl_x509.specs.Values.{◌>>=◌}
-use Rattle.wl_x509.specs.Leaves.{frame_of, extensions_part, signature_at, one_uri, leaf_of, leaf_against, leaf_reason, Tells, NamesAsk}
+use Rattle.wl_x509.specs.Leaves.{frame_of, extensions_part, signature_at, one_uri, leaf_of, Refuses}
 use Rattle.wl_x509.specs.Tallies.{no_uris, tallied, chosen, found_in}
+use Rattle.wl_x509.specs.Certificates.{IsOnlyLeafOf, HasNoLeaf}
 use Rattle.wl_x509.proofs.Tallies.{chosen_is}
+use Rattle.wl_x509.proofs.Again.{certificate_again}
 
 -- the leaf of a frame and of the URIs that were met
 abbrev pub leaf_by : List ℕ → Frame × Uris → Result Leaf CertFault
@@ -39,27 +34,27 @@ pub leaf_found : (chain : List ℕ) → leaf_of chain ≡ (found_in chain >>= le
 unfolding leaf_of found_in
 leaf_found chain = behind_frame chain (frame_of chain)
 
--- a fault that the reading gives is told
-pub told : {A : Type 0} (e : CertFault) (r : Result A CertFault) → r ≡ Err e → Tells e r
-told Memory r h = tt
-told (Truncated at) r h = h
-told (Tag at) r h = h
-told (Length at) r h = h
-told (Time at) r h = h
-told (Extra at) r h = h
-told NoUri r h = h
-told (ManyUris n) r h = h
+-- a fault is owed what holds
+pub refuses : {due : Type 0} (e : CertFault) → due → Refuses e due
+refuses Memory h = tt
+refuses (Truncated at) h = h
+refuses (Tag at) h = h
+refuses (Length at) h = h
+refuses (Time at) h = h
+refuses (Extra at) h = h
+refuses NoUri h = h
+refuses (ManyUris n) h = h
 
--- and so is one of a step after which nothing can go wrong
-pub told_then : {A B : Type 0} (e : CertFault) (r : Result A CertFault) (g : A → B) → Tells e r → Tells e (r >>= λ x. Ok (g x))
-told_then Memory r g h = tt
-told_then (Truncated at) r g h = rw h refl
-told_then (Tag at) r g h = rw h refl
-told_then (Length at) r g h = rw h refl
-told_then (Time at) r g h = rw h refl
-told_then (Extra at) r g h = rw h refl
-told_then NoUri r g h = rw h refl
-told_then (ManyUris n) r g h = rw h refl
+-- and what follows from what it is owed
+pub refuses_so : {due more : Type 0} (e : CertFault) → (due → more) → Refuses e due → Refuses e more
+refuses_so Memory so h = tt
+refuses_so (Truncated at) so h = so h
+refuses_so (Tag at) so h = so h
+refuses_so (Length at) so h = so h
+refuses_so (Time at) so h = so h
+refuses_so (Extra at) so h = so h
+refuses_so NoUri so h = so h
+refuses_so (ManyUris n) so h = so h
 
 -- ---- at the exits of `read_leaf`
 
@@ -67,42 +62,20 @@ pub leaf_ok : (chain : List ℕ) (frame : Frame) (found : Uris) (uri : List ℕ)
     → leaf_of chain ≡ Ok (record { uri = uri; not_before = frame.before; not_after = frame.after })
 leaf_ok chain frame found uri is one = leaf_found chain ∙ rw (← is) (rw one refl)
 
-pub leaf_err : (chain : List ℕ) (e : CertFault) → Err e ≡ found_in chain → Tells e (leaf_of chain)
-leaf_err chain e is = told e (leaf_of chain) (leaf_found chain ∙ rw (← is) refl)
+pub leaf_err : (chain : List ℕ) (e : CertFault) → Err e ≡ found_in chain → Refuses e (leaf_of chain ≡ Err e)
+leaf_err chain e is = refuses e (leaf_found chain ∙ rw (← is) refl)
 
-pub leaf_uri_err : (chain : List ℕ) (frame : Frame) (found : Uris) (e : CertFault) → Ok (frame, found) ≡ found_in chain → Tells e (chosen chain found) → Tells e (leaf_of chain)
-leaf_uri_err chain frame found e is h = rw (leaf_found chain) (rw (← is) (told_then e (chosen chain found) (λ (uri : List ℕ). record { uri = uri; not_before = frame.before; not_after = frame.after }) h))
+pub leaf_uri_err : (chain : List ℕ) (frame : Frame) (found : Uris) (e : CertFault) → Ok (frame, found) ≡ found_in chain
+    → Refuses e (chosen chain found ≡ Err e) → Refuses e (leaf_of chain ≡ Err e)
+leaf_uri_err chain frame found e is = refuses_so e (λ (h : chosen chain found ≡ Err e). leaf_found chain ∙ rw (← is) (rw h refl))
 
--- ---- where there is no reason
+-- ---- what the answer says of the chain
 
-same_bytes : (a b : List ℕ) → bytes_eq a b ≡ true → a ≡ b
-same_bytes a b h = (bytes_decides a b).0 h
+no_leaf : (chain : List ℕ) (e : CertFault) → leaf_of chain ≡ Err e → HasNoLeaf chain
+no_leaf chain e h leaf is = let wrong : Err e ≡ Ok leaf = sym h ∙ certificate_again chain leaf is in cc
 
--- two tests of which neither gives a reason
-apart : (t u : Bool) (x y : Unfit) → (if not t then Some x else (if not u then Some y else None)) ≡ None → (t ≡ true) × (u ≡ true)
-apart true true x y h = (refl, refl)
-apart true false x y h = cc
-apart false u x y h = cc
+pub refuses_leaf : (chain : List ℕ) (e : CertFault) → Refuses e (leaf_of chain ≡ Err e) → Refuses e (HasNoLeaf chain)
+refuses_leaf chain e = refuses_so e (no_leaf chain e)
 
-both : (t u : Bool) → (t && u) ≡ true → (t ≡ true) × (u ≡ true)
-both true true h = (refl, refl)
-both true false h = cc
-both false u h = cc
-
-named_by : (ask : Ask) (signed : Signed) (r : Result Leaf CertFault) → leaf_of signed.chain ≡ r → leaf_against ask signed r ≡ None → NamesAsk ask signed
-named_by ask signed (Err e) is h = cc
-named_by ask signed (Ok leaf) is h =
-    let tests = apart (bytes_eq leaf.uri ask.spiffe_id) ((leaf.not_before == signed.not_before) && (leaf.not_after == signed.not_after)) (unfit.OtherId ask.spiffe_id leaf.uri) (unfit.OtherTimes leaf.not_before leaf.not_after) h in
-    let times = both (leaf.not_before == signed.not_before) (leaf.not_after == signed.not_after) tests.1 in
-    let uri : leaf.uri ≡ ask.spiffe_id = same_bytes leaf.uri ask.spiffe_id tests.0 in
-    let before : leaf.not_before ≡ signed.not_before = grind (arith, nat_tests, times.0) in
-    let after : leaf.not_after ≡ signed.not_after = grind (arith, nat_tests, times.1) in
-    record {
-      leaf = is ∙ ap Ok (ap (λ (u : List ℕ). record leaf { uri = u }) uri
-          ∙ ap (λ (n : ℕ). record { uri = ask.spiffe_id; not_before = n; not_after = leaf.not_after }) before
-          ∙ ap (λ (n : ℕ). record { uri = ask.spiffe_id; not_before = signed.not_before; not_after = n }) after);
-    }
-
-pub names_ask : (ask : Ask) (signed : Signed) → leaf_reason ask signed ≡ None → NamesAsk ask signed
-unfolding leaf_reason
-names_ask ask signed h = named_by ask signed (leaf_of signed.chain) refl h
+pub only_leaf : (chain : List ℕ) (leaf : Leaf) → leaf_of chain ≡ Ok leaf → IsOnlyLeafOf chain leaf
+only_leaf chain leaf h other is = let same : Ok other ≡ Ok leaf = sym (certificate_again chain other is) ∙ h in cc

@@ -1,6 +1,6 @@
 -- The leaf of a chain: the parts of its first certificate (RFC 5280, section 4.1), read from the first byte on. What is
 -- read is a value, or the fault at the first byte where the reading goes wrong. Signatures, constraints and key usage
--- are not judged, and what follows the certificate isn't looked at.
+-- are not judged, and what follows the certificate isn't looked at. `Certificates` has the form of what is read.
 use Rattle.std.specs.Prelude.{◌≡◌, ℕ, zero, suc, ◌+◌, ◌-◌, ◌==◌, ◌&&◌, not, nat_lt, nat_le, if◌then◌else◌, List, [], ◌∷◌, ◌++◌, length, slice_index, Option, Some, None, Result, Ok, Err}
 use Rattle.std.specs.Str.{bytes_eq}
 use Rattle.wl_entry.specs.declared.unfit.CertFault.{CertFault}
@@ -14,6 +14,8 @@ use Rattle.wl_x509.specs.declared.leaves.Leaf.{Leaf}
 use Rattle.wl_x509.specs.declared.parts.Frame.{Frame}
 use Rattle.wl_x509.specs.Values.{◌>>=◌, content, value_at, part_at, option_at}
 use Rattle.wl_x509.specs.Times.{short_time, long_time}
+use Rattle.wl_x509.specs.Encodings.{AreBytes}
+use Rattle.wl_x509.specs.Certificates.{subject_alt_name, IsLeafOf}
 
 -- nothing may follow up to the end
 abbrev pub then_end : {A : Type 0} → ℕ → ℕ → A → Result A CertFault
@@ -63,10 +65,6 @@ alternative_names bytes value =
     then_end names.next value.next uris
 
 -- ---- extensions (4.2)
-
--- the extension that has the names of the subject
-abbrev pub subject_alt_name : List ℕ
-subject_alt_name = 0x55 ∷ 0x1d ∷ 0x11 ∷ []
 
 -- the URIs of an extension's value: of another extension none, whatever it is
 unfoldable pub uris_of : List ℕ → Span → Span → Result (List Span) CertFault
@@ -166,16 +164,26 @@ leaf_of chain =
     one_uri chain uris >>= λ uri.
     Ok (record { uri = uri; not_before = frame.before; not_after = frame.after })
 
--- a fault tells what the reading gives; want of memory tells nothing
-abbrev pub Tells : {A : Type 0} → CertFault → Result A CertFault → Type 0
-Tells Memory read = Unit {0}
-Tells (Truncated at) read = read ≡ Err (Truncated at)
-Tells (Tag at) read = read ≡ Err (Tag at)
-Tells (Length at) read = read ≡ Err (Length at)
-Tells (Time at) read = read ≡ Err (Time at)
-Tells (Extra at) read = read ≡ Err (Extra at)
-Tells NoUri read = read ≡ Err NoUri
-Tells (ManyUris n) read = read ≡ Err (ManyUris n)
+-- ---- what was read, and what a fault says
+
+-- what is read is the leaf of the chain
+abbrev pub ReadsLeaves : Type 0
+ReadsLeaves = (chain : List ℕ) (leaf : Leaf) → AreBytes chain → leaf_of chain ≡ Ok leaf → IsLeafOf chain leaf
+
+-- and each leaf of a chain is read
+abbrev pub ReadsEachLeaf : Type 0
+ReadsEachLeaf = (chain : List ℕ) (leaf : Leaf) → IsLeafOf chain leaf → leaf_of chain ≡ Ok leaf
+
+-- a fault is owed what its cause says, unless it is want of memory
+abbrev pub Refuses : CertFault → Type 0 → Type 0
+Refuses Memory due = Unit {0}
+Refuses (Truncated at) due = due
+Refuses (Tag at) due = due
+Refuses (Length at) due = due
+Refuses (Time at) due = due
+Refuses (Extra at) due = due
+Refuses NoUri due = due
+Refuses (ManyUris n) due = due
 
 -- ---- whether a signed identity names its ask
 
@@ -193,4 +201,4 @@ leaf_reason ask signed = leaf_against ask signed (leaf_of signed.chain)
 
 -- the leaf of the chain has the ask's id and the identity's times
 pub record NamesAsk (ask : Ask) (signed : Signed) : Type 0 where
-  pub leaf : leaf_of signed.chain ≡ Ok (record { uri = ask.spiffe_id; not_before = signed.not_before; not_after = signed.not_after })
+  pub leaf : IsLeafOf signed.chain (record { uri = ask.spiffe_id; not_before = signed.not_before; not_after = signed.not_after })

@@ -1,4 +1,4 @@
--- Times of a certificate (RFC 5280, section 4.1.2.5), in Unix seconds.
+-- Reading the times of a certificate (RFC 5280, section 4.1.2.5), in Unix seconds.
 use Rattle.std.specs.Prelude.{ℕ, ◌+◌, ◌*◌, ◌-◌, ◌==◌, ◌&&◌, Bool, nat_lt, nat_le, if◌then◌else◌, List, length, slice_index, Option, Some, None, ℤ, pos, negsuc, ◌+ℤ◌, ◌*ℤ◌}
 use Rattle.jiff_core.specs.Calendar.{days_in_month, days_from_civil}
 

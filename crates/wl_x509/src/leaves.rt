@@ -1,7 +1,8 @@
 //! The leaf of a chain.
 
-ghost use Rattle.std.specs.Prelude.{◌≡◌, length, IfOk, IfErr, Ok};
-ghost use Rattle.wl_x509.specs.Leaves.{leaf_of, Tells};
+ghost use Rattle.std.specs.Prelude.{◌≡◌, length, IfOk, IfErr, Ok, Err};
+ghost use Rattle.wl_x509.specs.Leaves.{leaf_of, Refuses};
+ghost use Rattle.wl_x509.specs.Certificates.{IsLeafOf, IsOnlyLeafOf, HasNoLeaf};
 ghost use Rattle.wl_x509.specs.Tallies.{found_in, chosen, IsMet};
 
 use crate::names::{Uris, meet_part};
@@ -40,7 +41,7 @@ fn read_found(chain: &[u8]) -> Result<(Frame, Uris), CertFault>
 fn one_uri(alloc: Global, chain: &[u8], found: Uris) -> Result<Octets, CertFault>
     requires { IsMet chain.now (length chain.now) found }
     ensures ok { IfOk result (λ uri. chosen chain.now found ≡ Ok uri) }
-    ensures err { IfErr result (λ e. Tells e (chosen chain.now found)) }
+    ensures err { IfErr result (λ e. Refuses e (chosen chain.now found ≡ Err e)) }
 {
     match found.count {
         0 => Err(CertFault::NoUri),
@@ -58,7 +59,11 @@ fn one_uri(alloc: Global, chain: &[u8], found: Uris) -> Result<Octets, CertFault
 /// where nothing else is wrong. `CertFault::Memory` is want of memory alone.
 pub fn read_leaf(alloc: Global, chain: &[u8]) -> Result<Leaf, CertFault>
     ensures ok { IfOk result (λ leaf. leaf_of chain.now ≡ Ok leaf) }
-    ensures err { IfErr result (λ e. Tells e (leaf_of chain.now)) }
+    ensures err { IfErr result (λ e. Refuses e (leaf_of chain.now ≡ Err e)) }
+    // What is read is the leaf of the chain, which has no other; a chain that is refused has none.
+    ensures found { IfOk result (λ leaf. IsLeafOf chain.now leaf) }
+    ensures only { IfOk result (λ leaf. IsOnlyLeafOf chain.now leaf) }
+    ensures none { IfErr result (λ e. Refuses e (HasNoLeaf chain.now)) }
 {
     let (frame, found) = read_found(chain)?;
     let uri = one_uri(alloc, chain, found)?;

@@ -4,14 +4,17 @@
 //! key usage are not judged. [`leaf_unfit`] tells whether a signed identity names the ask for which it was signed.
 #![tactic(auto)]
 
+mod laws;
 mod leaves;
 mod names;
 mod parts;
 mod reasons;
+mod tags;
 #[cfg(test)]
 mod tests;
 mod times;
 mod values;
 
+pub use laws::{leaves_are_certificates, values_are_encodings};
 pub use leaves::{Leaf, read_leaf};
 pub use reasons::leaf_unfit;

@@ -4,11 +4,9 @@ ghost use Rattle.std.specs.Prelude.{◌≡◌, ◌<◌, ◌≤◌, ◌^◌, leng
 ghost use Rattle.wl_x509.specs.Leaves.{names_from, alternative_names, uris_of, extension_at, extensions_from, extension_list, extensions_part};
 ghost use Rattle.wl_x509.specs.Tallies.{met, tallied, ended, IsMet};
 
+use crate::tags::{BOOLEAN, EXTENSIONS, OBJECT_IDENTIFIER, OCTET_STRING, SEQUENCE, URI};
 use crate::values::{Span, content, read_part, read_value, skip_option};
 use wl_entry::CertFault;
-
-/// The tag of a URI among names.
-const URI: u8 = 0x86;
 
 /// The extension that has the names of the subject, 2.5.29.17.
 const SUBJECT_ALT_NAME: [u8; 3] = [0x55, 0x1d, 0x11];
@@ -73,7 +71,7 @@ fn meet_alternatives(bytes: &[u8], value: Span, before: Uris) -> Result<Uris, Ce
     ensures value { result ≡ tallied before (alternative_names bytes.now value) }
     ensures met { IfOk result (IsMet bytes.now value.next) }
 {
-    let names = read_part(0x30, bytes, value.start, value.next)?;
+    let names = read_part(SEQUENCE, bytes, value.start, value.next)?;
     let found = meet_names(bytes, names.start, names.next, before);
     at_end(found, names.next, value.next)
 }
@@ -104,9 +102,9 @@ fn meet_extension(bytes: &[u8], at: usize, end: usize, before: Uris) -> Result<U
     ensures value { result ≡ tallied before (extension_at bytes.now at end) }
     ensures met { IfOk result (IsMet bytes.now end) }
 {
-    let id = read_part(0x06, bytes, at, end)?;
-    let next = skip_option(0x01, bytes, id.next, end)?;
-    let value = read_part(0x04, bytes, next, end)?;
+    let id = read_part(OBJECT_IDENTIFIER, bytes, at, end)?;
+    let next = skip_option(BOOLEAN, bytes, id.next, end)?;
+    let value = read_part(OCTET_STRING, bytes, next, end)?;
     let found = meet_value(bytes, id, value, before);
     at_end(found, value.next, end)
 }
@@ -122,7 +120,7 @@ fn meet_extensions(bytes: &[u8], start: usize, end: usize, before: Uris) -> Resu
     let mut found = before;
     let mut at = start;
     'extensions: while at < end {
-        let extension = read_part(0x30, bytes, at, end)?;
+        let extension = read_part(SEQUENCE, bytes, at, end)?;
         found = meet_extension(bytes, extension.start, extension.next, found)?;
         at = extension.next;
     }
@@ -138,7 +136,7 @@ fn meet_list(bytes: &[u8], at: usize, end: usize, before: Uris) -> Result<Uris, 
     ensures value { result ≡ tallied before (extension_list bytes.now at end) }
     ensures met { IfOk result (IsMet bytes.now end) }
 {
-    let list = read_part(0x30, bytes, at, end)?;
+    let list = read_part(SEQUENCE, bytes, at, end)?;
     let found = meet_extensions(bytes, list.start, list.next, before);
     at_end(found, list.next, end)
 }
@@ -155,7 +153,7 @@ pub fn meet_part(bytes: &[u8], at: usize, end: usize, before: Uris) -> Result<Ur
     if end <= at {
         return Ok(before);
     }
-    if bytes[at] != 0xa3 {
+    if bytes[at] != EXTENSIONS {
         return Err(CertFault::Extra(at));
     }
     let part = read_value(bytes, at, end)?;

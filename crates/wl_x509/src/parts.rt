@@ -3,6 +3,9 @@
 ghost use Rattle.std.specs.Prelude.{◌≡◌, ◌<◌, ◌≤◌, ◌+◌, ℕ, length, IfOk, Ok, Err};
 ghost use Rattle.wl_x509.specs.Leaves.{time_at, validity_at, issuing_at, subject_at, body_at, frame_of, signature_at};
 
+use crate::tags::{
+    BIT_STRING, GENERALIZED_TIME, INTEGER, ISSUER_ID, SEQUENCE, SUBJECT_ID, UTC_TIME, VERSION,
+};
 use crate::times::{read_long_time, read_short_time};
 use crate::values::{Span, content, read_part, read_value, skip_option};
 use wl_entry::CertFault;
@@ -31,12 +34,12 @@ fn read_time(bytes: &[u8], at: usize, end: usize) -> Result<(u64, usize), CertFa
         return Err(CertFault::Truncated(end));
     }
     let tag = bytes[at];
-    if tag != 0x17 && tag != 0x18 {
+    if tag != UTC_TIME && tag != GENERALIZED_TIME {
         return Err(CertFault::Tag(at));
     }
     let value = read_value(bytes, at, end)?;
     let text = content(bytes, value);
-    let time = if tag == 0x17 {
+    let time = if tag == UTC_TIME {
         read_short_time(text)
     } else {
         read_long_time(text)
@@ -70,10 +73,10 @@ fn read_issuing(bytes: &[u8], at: usize, end: usize) -> Result<usize, CertFault>
     ensures value { result ≡ issuing_at bytes.now at end }
     ensures within { IfOk result (λ next. (at ≤ next) × (next ≤ end)) }
 {
-    let next = skip_option(0xa0, bytes, at, end)?;
-    let serial = read_part(0x02, bytes, next, end)?;
-    let algorithm = read_part(0x30, bytes, serial.next, end)?;
-    let issuer = read_part(0x30, bytes, algorithm.next, end)?;
+    let next = skip_option(VERSION, bytes, at, end)?;
+    let serial = read_part(INTEGER, bytes, next, end)?;
+    let algorithm = read_part(SEQUENCE, bytes, serial.next, end)?;
+    let issuer = read_part(SEQUENCE, bytes, algorithm.next, end)?;
     Ok(issuer.next)
 }
 
@@ -85,10 +88,10 @@ fn read_subject(bytes: &[u8], at: usize, end: usize) -> Result<usize, CertFault>
     ensures value { result ≡ subject_at bytes.now at end }
     ensures within { IfOk result (λ next. (at ≤ next) × (next ≤ end)) }
 {
-    let subject = read_part(0x30, bytes, at, end)?;
-    let key = read_part(0x30, bytes, subject.next, end)?;
-    let next = skip_option(0x81, bytes, key.next, end)?;
-    skip_option(0x82, bytes, next, end)
+    let subject = read_part(SEQUENCE, bytes, at, end)?;
+    let key = read_part(SEQUENCE, bytes, subject.next, end)?;
+    let next = skip_option(ISSUER_ID, bytes, key.next, end)?;
+    skip_option(SUBJECT_ID, bytes, next, end)
 }
 
 /// The body of a certificate that ends at a place, up to the extensions.
@@ -100,7 +103,7 @@ fn read_body(bytes: &[u8], body: Span, whole: usize) -> Result<Frame, CertFault>
     ensures within { IfOk result (λ f. (f.at ≤ f.body) × (f.body ≡ body.next) × (f.whole ≡ whole)) }
 {
     let next = read_issuing(bytes, body.start, body.next)?;
-    let validity = read_part(0x30, bytes, next, body.next)?;
+    let validity = read_part(SEQUENCE, bytes, next, body.next)?;
     let (before, after) = read_validity(bytes, validity.start, validity.next)?;
     let at = read_subject(bytes, validity.next, body.next)?;
     Ok(Frame {
@@ -118,8 +121,8 @@ pub fn read_frame(bytes: &[u8]) -> Result<Frame, CertFault>
     ensures value { result ≡ frame_of bytes.now }
     ensures within { IfOk result (λ f. (f.at ≤ f.body) × (f.body ≤ f.whole) × (f.whole ≤ length bytes.now)) }
 {
-    let whole = read_part(0x30, bytes, 0, bytes.len())?;
-    let body = read_part(0x30, bytes, whole.start, whole.next)?;
+    let whole = read_part(SEQUENCE, bytes, 0, bytes.len())?;
+    let body = read_part(SEQUENCE, bytes, whole.start, whole.next)?;
     read_body(bytes, body, whole.next)
 }
 
@@ -130,8 +133,8 @@ pub fn read_signature(bytes: &[u8], at: usize, end: usize) -> Result<usize, Cert
     requires bound { end ≤ length bytes.now }
     ensures { result ≡ signature_at bytes.now at end }
 {
-    let algorithm = read_part(0x30, bytes, at, end)?;
-    let signature = read_part(0x03, bytes, algorithm.next, end)?;
+    let algorithm = read_part(SEQUENCE, bytes, at, end)?;
+    let signature = read_part(BIT_STRING, bytes, algorithm.next, end)?;
     if signature.next < end {
         return Err(CertFault::Extra(signature.next));
     }

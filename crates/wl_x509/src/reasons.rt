@@ -8,9 +8,13 @@ use std::alloc::Global;
 use wl_entry::{Ask, CertFault, Signed, Unfit};
 use wl_octets::{Memory, Octets};
 
+/// The first reason that the leaf of the chain gives against a signed identity: it can't be read (never for want of
+/// memory), it names another id than the ask's, or it has other times than the identity.
 #[tactic(auto, unfolding(crate::specs::Leaves::leaf_reason))]
-fn reason(alloc: Global, ask: &Ask, signed: &Signed) -> Result<Option<Unfit>, Memory>
-    ensures { IfOk result (λ unfit. unfit ≡ leaf_reason ask.now signed.now) }
+pub fn leaf_unfit(alloc: Global, ask: &Ask, signed: &Signed) -> Result<Option<Unfit>, Memory>
+    ensures value { IfOk result (λ unfit. unfit ≡ leaf_reason ask.now signed.now) }
+    // Where there is no reason the leaf has the ask's id and the identity's times.
+    ensures named { IfOk result (λ unfit. unfit ≡ None → NamesAsk ask.now signed.now) }
 {
     let leaf = match read_leaf(alloc, signed.chain.as_slice()) {
         Ok(leaf) => leaf,
@@ -30,14 +34,4 @@ fn reason(alloc: Global, ask: &Ask, signed: &Signed) -> Result<Option<Unfit>, Me
         }));
     }
     Ok(None)
-}
-
-/// The first reason that the leaf of the chain gives against a signed identity: it can't be read (never for want of
-/// memory), it names another id than the ask's, or it has other times than the identity.
-pub fn leaf_unfit(alloc: Global, ask: &Ask, signed: &Signed) -> Result<Option<Unfit>, Memory>
-    ensures value { IfOk result (λ unfit. unfit ≡ leaf_reason ask.now signed.now) }
-    // Where there is no reason the leaf has the ask's id and the identity's times.
-    ensures named { IfOk result (λ unfit. unfit ≡ None → NamesAsk ask.now signed.now) }
-{
-    reason(alloc, ask, signed)
 }

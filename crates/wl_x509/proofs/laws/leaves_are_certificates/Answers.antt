@@ -1,0 +1,9 @@
+use Rattle.wl_x509.proofs.Spelled.{certificate_found}
+use Rattle.wl_x509.proofs.Again.{certificate_again}
+use Rattle.wl_x509.proofs.laws.leaves_are_certificates.Goals as goal
+
+pub returns-clause-found : goal.returns-clause-found
+returns-clause-found c = certificate_found
+
+pub returns-clause-only : goal.returns-clause-only
+returns-clause-only c = certificate_again
