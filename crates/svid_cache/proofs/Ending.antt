@@ -1,6 +1,6 @@
 -- Whether one of the SVIDs is over, by the first end.
-use Rattle.std.specs.Prelude.{◌≡◌, ◌||◌, ℕ, min, nat_le, nat_lt, not, Bool, true, false, if◌then◌else◌, List, [], ◌∷◌, map, filter, fold, Option, Some, None}
-use Rattle.std.specs.List.{list_any, reduce}
+use Rattle.std.specs.Prelude.{◌≡◌, ◌||◌, ℕ, min, nat_le, not, Bool, true, false, if◌then◌else◌, List, [], ◌∷◌, map, filter, fold, Option, Some, None}
+use Rattle.std.specs.List.{list_any}
 use Rattle.std.proofs.Common.{arith, refl, sym, ◌∙◌, ap, subst}
 use Rattle.std.proofs.lemmas.Bool.Decides.{nat_tests}
 use Rattle.wl_entry.specs.declared.signing.Svid.{Svid}
@@ -25,9 +25,9 @@ past_end now s = grind (arith, nat_tests)
 least_come : (now end : ℕ) (svids : List Svid) → nat_le (fold min end (map (λ s. s.signed.not_after) svids)) now ≡ (nat_le end now || list_any (λ s. not (lasts now s)) svids)
 least_come now end [] = or_none (nat_le end now)
   where
-  or_none : (b : Bool) → b ≡ (b || false)
-  or_none true = refl
-  or_none false = refl
+    or_none : (b : Bool) → b ≡ (b || false)
+    or_none true = refl
+    or_none false = refl
 least_come now end (s ∷ more) =
     least_come now (min end s.signed.not_after) more
     ∙ ap (λ (b : Bool). b || list_any (λ x. not (lasts now x)) more) (sooner now end s.signed.not_after ∙ ap (λ (b : Bool). nat_le end now || b) (past_end now s))
