@@ -1,10 +1,11 @@
 -- What holds of each keep holds of those that stay and of the token that is found.
-use Rattle.std.specs.Prelude.{◌≡◌, ℕ, ◌==◌, ◌&&◌, ◌-◌, zero, suc, Bool, true, false, if◌then◌else◌, List, [], ◌∷◌, ◌++◌, length, drop, option_map, Option, Some, None}
+use Rattle.std.specs.Prelude.{◌≡◌, ℕ, ◌==◌, ◌&&◌, ◌-◌, zero, suc, Bool, true, false, if◌then◌else◌, List, [], ◌∷◌, ◌++◌, length, drop, filter, option_map, Option, Some, None}
 use Rattle.std.specs.Str.{bytes_eq}
-use Rattle.std.specs.List.{AllByRecursion}
+use Rattle.std.specs.List.{AllByRecursion, last_or}
 use Rattle.std.specs.Cmp.Lexicographic.{pointwise}
 use Rattle.std.proofs.Common.{arith, refl, subst}
 use Rattle.std.proofs.lemmas.Slice.Eq.{bytes_eq-Decides}
+use Rattle.std.proofs.lemmas.Bool.{and_parts}
 use Rattle.std.proofs.lemmas.Bool.Decides.{nat_tests}
 use Rattle.wl_keyed.proofs.Chosen.{all_append}
 use Rattle.wl_entry.specs.Same.{same_ask}
@@ -27,10 +28,6 @@ last_holds P n xs x all one = all_drop P (length (xs ++ x ∷ []) - n) (xs ++ x 
 
 -- ---- equal by test, equal
 
-both : (a b : Bool) → (a && b) ≡ true → (a ≡ true) × (b ≡ true)
-both true b is = (refl, is)
-both false b is = grind (arith, is)
-
 bytes_are : (xs ys : List ℕ) → bytes_eq xs ys ≡ true → xs ≡ ys
 bytes_are xs ys is = (bytes_eq-Decides xs ys).0 is
 
@@ -39,14 +36,14 @@ texts_are [] [] is = refl
 texts_are [] (y ∷ ys) is = grind (arith, is)
 texts_are (x ∷ xs) [] is = grind (arith, is)
 texts_are (x ∷ xs) (y ∷ ys) is =
-    let parts = both (bytes_eq x y) (pointwise bytes_eq xs ys) is in
+    let parts = and_parts (bytes_eq x y) (pointwise bytes_eq xs ys) is in
     λ i. bytes_are x y parts.0 i ∷ texts_are xs ys parts.1 i
 
 ask_is : (a b : Ask) → same_ask a b ≡ true → a ≡ b
 ask_is a b is =
-    let id = both (bytes_eq a.entry_id b.entry_id) _ is in
-    let spiffe = both (bytes_eq a.spiffe_id b.spiffe_id) _ id.1 in
-    let names = both (pointwise bytes_eq a.dns_names b.dns_names) (a.ttl == b.ttl) spiffe.1 in
+    let id = and_parts (bytes_eq a.entry_id b.entry_id) _ is in
+    let spiffe = and_parts (bytes_eq a.spiffe_id b.spiffe_id) _ id.1 in
+    let names = and_parts (pointwise bytes_eq a.dns_names b.dns_names) (a.ttl == b.ttl) spiffe.1 in
     λ i. record {
       entry_id = bytes_are a.entry_id b.entry_id id.0 i;
       spiffe_id = bytes_are a.spiffe_id b.spiffe_id spiffe.0 i;
@@ -60,13 +57,14 @@ ask_is a b is =
 abbrev Passing : {A : Type 0} → (A → Type 0) → (A → Bool) → Option A → Type 0
 Passing {A} P test o = (x : A) → o ≡ Some x → P x × (test x ≡ true)
 
-newest_go : {A : Type 0} (P : A → Type 0) (test : A → Bool) (before : Option A) (x : A) (b : Bool) → test x ≡ b → P x → Passing P test before → Passing P test (if b then Some x else before)
-newest_go P test before x true is one prior = λ y found. let same : x ≡ y = cc in subst (λ z. P z × (test z ≡ true)) same (one, is)
-newest_go P test before x false is one prior = prior
+last_go : {A : Type 0} (P : A → Type 0) (test : A → Bool) (before : Option A) (x : A) (fs : List A) (b : Bool) → test x ≡ b → P x → Passing P test before
+    → ((o : Option A) → Passing P test o → Passing P test (last_or o fs)) → Passing P test (last_or before (if b then x ∷ fs else fs))
+last_go P test before x fs true is one prior step = step (Some x) (λ y found. let same : x ≡ y = cc in subst (λ z. P z × (test z ≡ true)) same (one, is))
+last_go P test before x fs false is one prior step = step before prior
 
-newest_holds : {A : Type 0} (P : A → Type 0) (test : A → Bool) (before : Option A) (xs : List A) → AllByRecursion P xs → Passing P test before → Passing P test (newest test before xs)
-newest_holds P test before [] all prior = prior
-newest_holds P test before (x ∷ xs) all prior = newest_holds P test (if test x then Some x else before) xs all.1 (newest_go P test before x (test x) refl all.0 prior)
+last_passes : {A : Type 0} (P : A → Type 0) (test : A → Bool) (xs : List A) (before : Option A) → AllByRecursion P xs → Passing P test before → Passing P test (last_or before (filter test xs))
+last_passes P test [] before all prior = prior
+last_passes P test (x ∷ xs) before all prior = last_go P test before x (filter test xs) (test x) refl all.0 prior (λ o. last_passes P test xs o all.1)
 
 none_before : {A : Type 0} (P : A → Type 0) (test : A → Bool) → Passing P test None
 none_before P test = λ x found. cc
@@ -74,8 +72,8 @@ none_before P test = λ x found. cc
 of_use : (P : Ask → List (List ℕ) → JwtToken → Type 0) (ask : Ask) (audience : List (List ℕ)) (now : ℕ) (k : Kept) → P k.ask k.audience k.token → is_of_use ask audience now k ≡ true → P ask audience k.token
 unfolding is_of_use
 of_use P ask audience now k holds use_is =
-    let parts = both (same_ask k.ask ask) (pointwise bytes_eq k.audience audience && is_still_fresh now k.token) use_is in
-    let second = both (pointwise bytes_eq k.audience audience) (is_still_fresh now k.token) parts.1 in
+    let parts = and_parts (same_ask k.ask ask) (pointwise bytes_eq k.audience audience && is_still_fresh now k.token) use_is in
+    let second = and_parts (pointwise bytes_eq k.audience audience) (is_still_fresh now k.token) parts.1 in
     subst (λ a. P ask a k.token) (texts_are k.audience audience second.0) (subst (λ a. P a k.audience k.token) (ask_is k.ask ask parts.0) holds)
 
 found_go : (P : Ask → List (List ℕ) → JwtToken → Type 0) (ask : Ask) (audience : List (List ℕ)) (now : ℕ) (t : JwtToken) (o : Option Kept)
@@ -92,5 +90,5 @@ pub found_holds : (P : Ask → List (List ℕ) → JwtToken → Type 0) (ask : A
     → AllByRecursion (λ k. P k.ask k.audience k.token) keeps → found_among ask audience now keeps ≡ Some t → P ask audience t
 unfolding found_among
 found_holds P ask audience now keeps t all found =
-    found_go P ask audience now t (newest (is_of_use ask audience now) None keeps)
-    (newest_holds (λ k. P k.ask k.audience k.token) (is_of_use ask audience now) None keeps all (none_before (λ k. P k.ask k.audience k.token) (is_of_use ask audience now))) found
+    let P' : Kept → Type 0 = λ k. P k.ask k.audience k.token in
+    found_go P ask audience now t (newest (is_of_use ask audience now) keeps) (last_passes P' (is_of_use ask audience now) keeps None all (none_before P' (is_of_use ask audience now))) found

@@ -153,19 +153,19 @@ put_none q key es n v k is off by =
 
 -- ---- what is found
 
-pub find_none : (ask : Ask) (audience wanted : List (List ℕ)) (now : ℕ) (es : List (Vec ℕ Global × List Kept)) (rings : List (List ℕ × List Kept)) → map (λ e. ((e.0).items, e.1)) es ≡ rings
+pub find_none : (ask : Ask) (audience : List (List ℕ)) (now : ℕ) (es : List (Vec ℕ Global × List Kept)) (rings : List (List ℕ × List Kept)) → map (λ e. ((e.0).items, e.1)) es ≡ rings
     → None ≡ lookup (finds ask.entry_id) es → None ≡ found_among ask audience now (kept_for rings ask.entry_id)
 unfolding found_among
-find_none ask audience wanted now es rings view off =
+find_none ask audience now es rings view off =
     let none : lookup (bytes_eq ask.entry_id) rings ≡ None = ap (lookup (bytes_eq ask.entry_id)) (sym view) ∙ kept_bytes ask.entry_id es ∙ sym off in
     rw none refl
 
 pub find_some : (ask : Ask) (audience wanted : List (List ℕ)) (now : ℕ) (es : List (Vec ℕ Global × List Kept)) (rings : List (List ℕ × List Kept)) (ring : List Kept) (o : Option Kept) → map (λ e. ((e.0).items, e.1)) es ≡ rings
-    → Some ring ≡ lookup (finds ask.entry_id) es → wanted ≡ audience → o ≡ newest (is_of_use ask wanted now) None ring → option_map (λ k. k.token) o ≡ found_among ask audience now (kept_for rings ask.entry_id)
+    → Some ring ≡ lookup (finds ask.entry_id) es → wanted ≡ audience → o ≡ newest (is_of_use ask wanted now) ring → option_map (λ k. k.token) o ≡ found_among ask audience now (kept_for rings ask.entry_id)
 unfolding found_among
 find_some ask audience wanted now es rings ring o view at same_audience is =
     let some : lookup (bytes_eq ask.entry_id) rings ≡ Some ring = ap (lookup (bytes_eq ask.entry_id)) (sym view) ∙ kept_bytes ask.entry_id es ∙ sym at in
-    rw some (ap (option_map (λ k. k.token)) (is ∙ ap (λ (a : List (List ℕ)). newest (is_of_use ask a now) None ring) same_audience))
+    rw some (ap (option_map (λ k. k.token)) (is ∙ ap (λ (a : List (List ℕ)). newest (is_of_use ask a now) ring) same_audience))
 
 -- ---- as the cache is seen
 

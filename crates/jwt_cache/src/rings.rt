@@ -1,6 +1,6 @@
 //! The tokens of one entry.
 
-ghost use Rattle.std.specs.Prelude.{◌≡◌, [], ◌∷◌, ◌++◌, option_map, None, IfOk};
+ghost use Rattle.std.specs.Prelude.{◌≡◌, [], ◌∷◌, ◌++◌, option_map, IfOk};
 ghost use Rattle.jwt_cache.specs.Keeps.{last_of, is_of_use, newest};
 
 use circular_buffer::HeapCircularBuffer;
@@ -67,7 +67,7 @@ impl Ring {
 
     /// The newest of those that are of use.
     pub fn newest(&self, ask: &Ask, audience: &Row<Octets>, now: u64) -> Option<&Kept>
-        ensures { option_map (λ k. k.now) result ≡ newest (is_of_use ask.now audience.now now) None self.now }
+        ensures { option_map (λ k. k.now) result ≡ newest (is_of_use ask.now audience.now now) self.now }
     {
         let mut found: Option<&Kept> = None;
         for i in 0..self.items.len() {

@@ -1,13 +1,10 @@
 //! The tokens of all entries.
 
-ghost use Rattle.std.specs.Prelude.{◌≡◌, ℕ, List, [], ◌∷◌, ◌++◌, map, if◌then◌else◌, unwrap_or, IfOk, OnOk, OnErr};
+ghost use Rattle.std.specs.Prelude.{◌≡◌, ℕ, List, [], ◌∷◌, ◌++◌, map, if◌then◌else◌, IfOk, OnOk, OnErr};
 ghost use Rattle.std.specs.Str.{bytes_eq};
-ghost use Rattle.std.specs.Map.{lookup};
-ghost use Rattle.std.specs.Ordering.{nat_cmp, is_eq};
-ghost use Rattle.std.specs.Cmp.Lexicographic.{slice_cmp};
 ghost use Rattle.wl_selector.specs.Selectors.{sorted_texts};
-ghost use Rattle.jwt_cache.specs.Keeps.{last_of, is_of, keep_of, found_among, found_in, without};
-ghost use Rattle.jwt_cache.specs.Rings.{kept_for, StandsFor};
+ghost use Rattle.jwt_cache.specs.Keeps.{with_keep, keep_of, found_among, found_in, without};
+ghost use Rattle.jwt_cache.specs.Rings.{ring_at, kept_for, StandsFor};
 ghost use Rattle.jwt_cache.specs.declared.rings.Kept.{Kept};
 
 use crate::rings::{Kept, Ring};
@@ -38,9 +35,7 @@ type Rings = BTreeMap<Vec<u8>, Ring>;
 
 /// Keeps one more.
 fn put(alloc: Global, rings: &mut Rings, kept: Kept) -> Result<(), Memory>
-    ensures ok { OnOk result ((q : List ℕ) → unwrap_or (lookup (λ k. is_eq (slice_cmp nat_cmp q k.items)) rings.new.entries) []
-        ≡ (if is_of q kept then last_of 16 (unwrap_or (lookup (λ k. is_eq (slice_cmp nat_cmp q k.items)) rings.old.entries) [] ++ kept ∷ [])
-        else unwrap_or (lookup (λ k. is_eq (slice_cmp nat_cmp q k.items)) rings.old.entries) [])) }
+    ensures ok { OnOk result ((q : List ℕ) → ring_at rings.new.entries q ≡ with_keep kept q (ring_at rings.old.entries q)) }
     ensures err { OnErr result (rings.new.entries ≡ rings.old.entries) }
 {
     match rings.get_mut(kept.ask.entry_id.as_slice()) {
@@ -77,10 +72,10 @@ impl Tokens {
     ) -> Result<Option<JwtToken>, Memory>
         ensures { IfOk result (λ t. t ≡ found_among ask.now (sorted_texts audience.now) now (kept_for self.now ask.now.entry_id)) }
     {
-        let wanted = sorted(alloc, audience)?;
         let Some(ring) = self.rings.get(ask.entry_id.as_slice()) else {
             return Ok(None);
         };
+        let wanted = sorted(alloc, audience)?;
         match ring.newest(ask, &wanted, now) {
             Some(kept) => Ok(Some(kept.token.copy(alloc)?)),
             None => Ok(None),
@@ -95,7 +90,7 @@ impl Tokens {
         audience: &[Octets],
         token: JwtToken,
     ) -> Result<(), Memory>
-        ensures ok { OnOk result ((q : List ℕ) → kept_for self.new q ≡ (if is_of q (keep_of ask.now audience.now token) then last_of 16 (kept_for self.old q ++ keep_of ask.now audience.now token ∷ []) else kept_for self.old q)) }
+        ensures ok { OnOk result ((q : List ℕ) → kept_for self.new q ≡ with_keep (keep_of ask.now audience.now token) q (kept_for self.old q)) }
         ensures err { OnErr result (self.new ≡ self.old) }
     {
         let kept = Kept {
@@ -133,7 +128,7 @@ impl Tokens {
         audience: &[Octets],
         token: JwtToken,
     ) -> Result<(), Memory>
-        ensures ok { OnOk result ((q : List ℕ) → kept_for self.new q ≡ (if is_of q (keep_of ask.now audience.now token) then last_of 16 (kept_for self.old q ++ keep_of ask.now audience.now token ∷ []) else kept_for self.old q)) }
+        ensures ok { OnOk result ((q : List ℕ) → kept_for self.new q ≡ with_keep (keep_of ask.now audience.now token) q (kept_for self.old q)) }
         ensures keeps { (keeps : List Kept) → StandsFor self.old keeps → OnOk result (StandsFor self.new (keeps ++ keep_of ask.now audience.now token ∷ [])) }
         ensures err { OnErr result (self.new ≡ self.old) }
     {

@@ -1,7 +1,8 @@
 -- Whether one of the SVIDs is over, by the first end.
-use Rattle.std.specs.Prelude.{◌≡◌, ◌||◌, ℕ, min, nat_le, nat_lt, not, Bool, true, false, if◌then◌else◌, List, [], ◌∷◌, map, filter, fold, Option, Some, None}
-use Rattle.std.specs.List.{list_any, reduce}
+use Rattle.std.specs.Prelude.{◌≡◌, ◌||◌, ℕ, min, nat_le, not, Bool, true, false, if◌then◌else◌, List, [], ◌∷◌, map, filter, fold, Option, Some, None}
+use Rattle.std.specs.List.{list_any}
 use Rattle.std.proofs.Common.{arith, refl, sym, ◌∙◌, ap, subst}
+use Rattle.std.proofs.lemmas.Bool.{or_parts}
 use Rattle.std.proofs.lemmas.Bool.Decides.{nat_tests}
 use Rattle.wl_entry.specs.declared.signing.Svid.{Svid}
 use Rattle.svid_cache.specs.Caches.{Cached, lasts, has_ended, swept}
@@ -25,9 +26,9 @@ past_end now s = grind (arith, nat_tests)
 least_come : (now end : ℕ) (svids : List Svid) → nat_le (fold min end (map (λ s. s.signed.not_after) svids)) now ≡ (nat_le end now || list_any (λ s. not (lasts now s)) svids)
 least_come now end [] = or_none (nat_le end now)
   where
-  or_none : (b : Bool) → b ≡ (b || false)
-  or_none true = refl
-  or_none false = refl
+    or_none : (b : Bool) → b ≡ (b || false)
+    or_none true = refl
+    or_none false = refl
 least_come now end (s ∷ more) =
     least_come now (min end s.signed.not_after) more
     ∙ ap (λ (b : Bool). b || list_any (λ x. not (lasts now x)) more) (sooner now end s.signed.not_after ∙ ap (λ (b : Bool). nat_le end now || b) (past_end now s))
@@ -37,24 +38,16 @@ come_ended : (now : ℕ) (svids : List Svid) → has_come now (first_end svids) 
 come_ended now [] = refl
 come_ended now (s ∷ more) = least_come now s.signed.not_after more ∙ ap (λ (b : Bool). b || list_any (λ x. not (lasts now x)) more) (past_end now s)
 
-none_go : (b : Bool) (s : Svid) (kept more : List Svid) → (not b || false) ≡ false → kept ≡ more → (if b then s ∷ kept else kept) ≡ s ∷ more
-none_go true s kept more h same = ap (λ l. s ∷ l) same
-none_go false s kept more h same = cc
-
-first_kept : (b rest : Bool) → (not b || rest) ≡ false → (not b || false) ≡ false
-first_kept true rest h = refl
-first_kept false rest h = cc
-
-others_kept : (b rest : Bool) → (not b || rest) ≡ false → rest ≡ false
-others_kept true rest h = h
-others_kept false rest h = cc
+kept_go : (b : Bool) (s : Svid) (kept more : List Svid) → not b ≡ false → kept ≡ more → (if b then s ∷ kept else kept) ≡ s ∷ more
+kept_go true s kept more h same = ap (λ l. s ∷ l) same
+kept_go false s kept more h same = cc
 
 -- where none is over all stay
 none_ended : (now : ℕ) (svids : List Svid) → list_any (λ s. not (lasts now s)) svids ≡ false → filter (lasts now) svids ≡ svids
 none_ended now [] h = refl
 none_ended now (s ∷ more) h =
-    let any = list_any (λ x. not (lasts now x)) more in
-    none_go (lasts now s) s (filter (lasts now) more) more (first_kept (lasts now s) any h) (none_ended now more (others_kept (lasts now s) any h))
+    let parts = or_parts (not (lasts now s)) (list_any (λ x. not (lasts now x)) more) h in
+    kept_go (lasts now s) s (filter (lasts now) more) more parts.0 (none_ended now more parts.1)
 
 pub no_ends : (svids : List Svid) → svids ≡ [] → None ≡ first_end svids
 no_ends svids empty = subst (λ l. None ≡ first_end l) (sym empty) refl

@@ -1,27 +1,27 @@
 -- Blocks of asks and the seconds before which none of a block is due.
-use Rattle.std.specs.Prelude.{◌≡◌, ◌++◌, ◌&&◌, ℕ, ◌+◌, ◌*◌, ◌/◌, ◌<◌, ◌≤◌, min, nat_le, nat_lt, Bool, true, false, if◌then◌else◌, List, [], ◌∷◌, map, filter, find, take, drop, get_or, set, length, Option, Some, None, unwrap_or, option_map}
+use Rattle.std.specs.Prelude.{◌≡◌, ◌++◌, ℕ, ◌+◌, ◌<◌, ◌≤◌, min, nat_le, nat_lt, Bool, true, false, if◌then◌else◌, List, [], ◌∷◌, map, filter, find, take, drop, get_or, set, length, Option, Some, None, unwrap_or, option_map}
 use Rattle.std.specs.Str.{bytes_eq}
 use Rattle.std.specs.List.{AllByRecursion}
 use Rattle.std.specs.List.Sorted.{IsStrictlySortedBy}
 use Rattle.std.specs.Ordering.{nat_cmp, ordering_reverse, is_lt, is_gt, is_eq}
 use Rattle.std.specs.Cmp.Lexicographic.{slice_cmp, nat_list_cmp_total}
-use Rattle.std.proofs.Common.{Ordering, Less, Equal, Greater, arith, refl, sym, ◌∙◌, ap, subst, append_assoc}
+use Rattle.std.proofs.Common.{Ordering, Less, Equal, Greater, arith, refl, sym, ◌∙◌, ap, subst, append_assoc, append-nil}
 use Rattle.std.proofs.lemmas.Bool.Decides.{nat_tests}
 use Rattle.std.proofs.lemmas.Map.Text.{is_eq-slice_cmp}
 use Rattle.std.proofs.lemmas.List.{take-append-drop, drop_more, take_more, take_all, drop_all, get_or_default}
 use Rattle.std.proofs.lemmas.List.Edits.{map_over_more}
 use Rattle.std.proofs.lemmas.List.Elements.{filter-append}
-use Rattle.std.proofs.lemmas.Slice.Eq.{bytes_eq-Decides}
 use Rattle.wl_words.specs.Lists.{Rises}
 use Rattle.wl_entry.specs.Fitness.{is_half_over}
-use Rattle.wl_entry.specs.Keys.{ask_key, svid_key}
+use Rattle.wl_entry.specs.Keys.{ask_key}
 use Rattle.wl_entry.specs.Same.{same_ask}
 use Rattle.wl_entry.specs.declared.asks.Ask.{Ask}
 use Rattle.wl_entry.specs.declared.signing.Signed.{Signed}
 use Rattle.wl_entry.specs.declared.signing.Svid.{Svid}
 use Rattle.wl_keyed.specs.Keys.{item_at}
-use Rattle.wl_keyed.proofs.Chosen.{all_such}
+use Rattle.wl_keyed.proofs.Chosen.{all_append, all_such}
 use Rattle.wl_keyed.proofs.Halving.{order, not_same, turned}
+use Rattle.svid_cache.proofs.Keeping.{same_entry_id}
 use Rattle.svid_cache.specs.Caches.{kept_for, is_due, lasts, is_below, is_above, put}
 use Rattle.svid_cache.specs.Queue.{half_second, first_second, NotBefore, OthersNotBefore, Filed, NoneBelow, cleared}
 
@@ -58,15 +58,11 @@ no_seconds least firsts empty = subst (NoneBelow least) (sym empty) tt
 
 -- ---- a block's second
 
-all_push : {X : Type 0} (P : X → Type 0) (xs : List X) (x : X) → AllByRecursion P xs → P x → AllByRecursion P (xs ++ x ∷ [])
-all_push P [] x all here = (here, tt)
-all_push P (y ∷ ys) x all here = (all.0, all_push P ys x all.1 here)
-
 -- the least of the seconds so far and of one more
 pub least_more : (firsts : List ℕ) (i least : ℕ) → i < length firsts → NoneBelow least (take i firsts) → NoneBelow (min least (get_or firsts i 0)) (take (i + 1) firsts)
 least_more firsts i least below all =
     subst (NoneBelow (min least (get_or firsts i 0))) (sym (take_more firsts i 0 below))
-    (all_push (λ f. min least (get_or firsts i 0) ≤ f) (take i firsts) (get_or firsts i 0) (all_such (λ f. least ≤ f) (λ f. min least (get_or firsts i 0) ≤ f) (take i firsts) (λ f from. omega (arith, from)) all) (omega arith))
+    (all_append (λ f. min least (get_or firsts i 0) ≤ f) (take i firsts) (get_or firsts i 0 ∷ []) (all_such (λ f. least ≤ f) (λ f. min least (get_or firsts i 0) ≤ f) (take i firsts) (λ f from. omega (arith, from)) all) (omega arith, tt))
 
 -- ---- parts of what rises
 
@@ -126,10 +122,6 @@ unfolding Filed
 filed_same Fits Fits' step size [] asks filed = filed
 filed_same Fits Fits' step size (first ∷ firsts) asks filed = (all_such (Fits first) (Fits' first) (take size asks) (step first) filed.0, filed_same Fits Fits' step size firsts (drop size asks) filed.1)
 
-pub append_none : {X : Type 0} (xs : List X) → xs ++ [] ≡ xs
-append_none [] = refl
-append_none (x ∷ xs) = ap (λ l. x ∷ l) (append_none xs)
-
 -- ---- loops over blocks
 
 -- seconds for the blocks before the rest, to which those for the rest can be added
@@ -143,7 +135,7 @@ pub up_to_more : (Fits : ℕ → Ask → Type 0) (size first : ℕ) (firsts : Li
 up_to_more Fits size first firsts rest asks so_far here = λ more filed. subst (λ f. Filed Fits size f asks) (sym (append_assoc firsts (first ∷ []) more)) (so_far (first ∷ more) (filed_one Fits size first more rest here filed))
 
 pub up_to_end : (Fits : ℕ → Ask → Type 0) (size : ℕ) (firsts : List ℕ) (rest asks : List Ask) → FiledUpTo Fits size firsts rest asks → rest ≡ [] → Filed Fits size firsts asks
-up_to_end Fits size firsts rest asks so_far empty = subst (λ f. Filed Fits size f asks) (append_none firsts) (so_far [] (filed_none Fits size [] rest refl empty))
+up_to_end Fits size firsts rest asks so_far empty = subst (λ f. Filed Fits size f asks) (append-nil firsts) (so_far [] (filed_none Fits size [] rest refl empty))
 
 -- no seconds are left, and so no asks
 pub no_rest : (Fits : ℕ → Ask → Type 0) (size i : ℕ) (firsts : List ℕ) (rest : List Ask) → Filed Fits size (drop i firsts) rest → length firsts ≤ i → rest ≡ []
@@ -160,7 +152,7 @@ chosen_parts p size due rest =
     ∙ ap (λ l. due ++ l) (sym (filter-append p (take size rest) (drop size rest)) ∙ ap (filter p) (take-append-drop size rest))
 
 pub chosen_end : (p : Ask → Bool) (due rest asks : List Ask) → due ++ filter p rest ≡ filter p asks → rest ≡ [] → due ≡ filter p asks
-chosen_end p due rest asks so_far empty = sym (append_none due) ∙ ap (λ r. due ++ filter p r) (sym empty) ∙ so_far
+chosen_end p due rest asks so_far empty = sym (append-nil due) ∙ ap (λ r. due ++ filter p r) (sym empty) ∙ so_far
 
 -- ---- what is found in a part of a list
 
@@ -211,7 +203,7 @@ find_back t (x ∷ xs) ys none = back_go x (find t xs) (find t (xs ++ ys)) (find
 pub written : (new old : List ℕ) (n : ℕ) → length new ≡ length old → length old ≡ n → take n (new ++ drop (length new) old) ≡ new
 written new old n same long =
     ap (λ d. take n (new ++ d)) (drop_all (length new) old (omega (arith, same)))
-    ∙ (ap (take n) (append_none new) ∙ take_all n new (omega (arith, same, long)))
+    ∙ (ap (take n) (append-nil new) ∙ take_all n new (omega (arith, same, long)))
 
 -- one more second is written
 pub write_more : (f : ℕ → ℕ) (xs ys : List ℕ) (i y : ℕ) → i < length xs → i < length ys → ys ≡ map f (take i xs) ++ drop i xs → y ≡ f (get_or ys i 0) → set ys i y ≡ map f (take (i + 1) xs) ++ drop (i + 1) xs
@@ -234,13 +226,6 @@ filed_swept now size svids firsts asks filed = filed_such (NotBefore svids) (Not
 
 -- ---- a new SVID
 
-same_go : (b r : Bool) → (b && r) ≡ true → b ≡ true
-same_go true r both = refl
-same_go false r both = both
-
-same_id : (s : Svid) (a : Ask) → same_ask s.ask a ≡ true → s.ask.entry_id ≡ a.entry_id
-same_id s a same = (bytes_eq-Decides s.ask.entry_id a.entry_id).0 (same_go (bytes_eq s.ask.entry_id a.entry_id) _ same)
-
 other_ask : (s : Svid) (a : Ask) → bytes_eq s.ask.entry_id a.entry_id ≡ false → same_ask s.ask a ≡ false
 other_ask s a other = rw other refl
 
@@ -249,15 +234,15 @@ unfolding kept_for put
 put_go s svids a Less at other =
     let t : Svid → Bool = λ k. same_ask k.ask a in
     let new : t s ≡ false = other_ask s a (not_same s.ask.entry_id a.entry_id Greater (turned a.entry_id s.ask.entry_id at) refl) in
-    let over : find t (filter (is_above s.ask.entry_id) svids) ≡ None = find_none t (is_above s.ask.entry_id) (λ k same. subst (λ i. is_gt (order i s.ask.entry_id) ≡ false) (sym (same_id k a same)) (ap is_gt at)) svids in
+    let over : find t (filter (is_above s.ask.entry_id) svids) ≡ None = find_none t (is_above s.ask.entry_id) (λ k same. subst (λ i. is_gt (order i s.ask.entry_id) ≡ false) (sym (same_entry_id k.ask a same)) (ap is_gt at)) svids in
     find_front t (filter (is_below s.ask.entry_id) svids) (s ∷ filter (is_above s.ask.entry_id) svids) (rw new over)
-    ∙ find_all t (is_below s.ask.entry_id) (λ k same. subst (λ i. is_lt (order i s.ask.entry_id) ≡ true) (sym (same_id k a same)) (ap is_lt at)) svids
+    ∙ find_all t (is_below s.ask.entry_id) (λ k same. subst (λ i. is_lt (order i s.ask.entry_id) ≡ true) (sym (same_entry_id k.ask a same)) (ap is_lt at)) svids
 put_go s svids a Greater at other =
     let t : Svid → Bool = λ k. same_ask k.ask a in
     let new : t s ≡ false = other_ask s a (not_same s.ask.entry_id a.entry_id Less (nat_list_cmp_total.antisymm s.ask.entry_id a.entry_id ∙ ap ordering_reverse at) refl) in
-    let under : find t (filter (is_below s.ask.entry_id) svids) ≡ None = find_none t (is_below s.ask.entry_id) (λ k same. subst (λ i. is_lt (order i s.ask.entry_id) ≡ false) (sym (same_id k a same)) (ap is_lt at)) svids in
+    let under : find t (filter (is_below s.ask.entry_id) svids) ≡ None = find_none t (is_below s.ask.entry_id) (λ k same. subst (λ i. is_lt (order i s.ask.entry_id) ≡ false) (sym (same_entry_id k.ask a same)) (ap is_lt at)) svids in
     find_back t (filter (is_below s.ask.entry_id) svids) (s ∷ filter (is_above s.ask.entry_id) svids) under
-    ∙ rw new (find_all t (is_above s.ask.entry_id) (λ k same. subst (λ i. is_gt (order i s.ask.entry_id) ≡ true) (sym (same_id k a same)) (ap is_gt at)) svids)
+    ∙ rw new (find_all t (is_above s.ask.entry_id) (λ k same. subst (λ i. is_gt (order i s.ask.entry_id) ≡ true) (sym (same_entry_id k.ask a same)) (ap is_gt at)) svids)
 put_go s svids a Equal at other = cc
 
 put_other : (s : Svid) (svids : List Svid) (a : Ask) → bytes_eq a.entry_id s.ask.entry_id ≡ false → kept_for (put s svids) a ≡ kept_for svids a

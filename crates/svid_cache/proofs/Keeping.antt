@@ -1,5 +1,5 @@
 -- The facts of a cache stay as it changes.
-use Rattle.std.specs.Prelude.{◌≡◌, ◌||◌, ◌&&◌, ◌+◌, ◌==◌, nat_le, nat_lt, Option, Some, None, ℕ, ◌<◌, ◌≤◌, ◌^◌, Bool, true, false, if◌then◌else◌, List, [], ◌∷◌, ◌++◌, map, filter, length}
+use Rattle.std.specs.Prelude.{◌≡◌, ◌||◌, ◌+◌, ◌==◌, nat_le, nat_lt, Option, Some, None, ℕ, ◌<◌, ◌≤◌, ◌^◌, Bool, true, false, if◌then◌else◌, List, [], ◌∷◌, ◌++◌, map, filter, length}
 use Rattle.std.specs.Str.{bytes_eq}
 use Rattle.std.specs.List.{AllByRecursion}
 use Rattle.std.specs.List.Sorted.{IsStrictlySortedBy}
@@ -7,6 +7,7 @@ use Rattle.std.specs.Ordering.{nat_cmp, ordering_reverse, is_lt, is_gt}
 use Rattle.std.specs.Cmp.Lexicographic.{slice_cmp, nat_list_cmp_total}
 use Rattle.std.proofs.Common.{Ordering, Less, Equal, Greater, arith, refl, sym, ◌∙◌, subst}
 use Rattle.std.proofs.lemmas.Slice.Eq.{bytes_eq-Decides}
+use Rattle.std.proofs.lemmas.Bool.{and_parts}
 use Rattle.std.proofs.lemmas.Bool.Decides.{nat_tests}
 use Rattle.wl_words.specs.Lists.{Rises}
 use Rattle.wl_entry.specs.Keys.{ask_key, svid_key}
@@ -14,7 +15,7 @@ use Rattle.wl_entry.specs.Limits.{SignedWithin}
 use Rattle.wl_entry.specs.Same.{same_ask}
 use Rattle.wl_entry.specs.declared.asks.Ask.{Ask}
 use Rattle.wl_entry.specs.declared.signing.Svid.{Svid}
-use Rattle.wl_keyed.proofs.Chosen.{all_filter, rises_filter}
+use Rattle.wl_keyed.proofs.Chosen.{all_append, all_filter, keys_append, rises_filter}
 use Rattle.wl_keyed.proofs.Found.{level_self}
 use Rattle.wl_entry.specs.declared.signing.Signed.{Signed}
 use Rattle.wl_entry.specs.declared.unfit.Unfit.{Unfit}
@@ -88,14 +89,6 @@ all_over : (id : List ℕ) (xs : List Svid) → AllByRecursion (λ s. is_above i
 all_over id [] all = tt
 all_over id (x ∷ xs) all = (nat_list_cmp_total.antisymm id x.ask.entry_id ∙ is_more (order x.ask.entry_id id) all.0, all_over id xs all.1)
 
-all_join : {X : Type 0} (P : X → Type 0) (xs ys : List X) → AllByRecursion P xs → AllByRecursion P ys → AllByRecursion P (xs ++ ys)
-all_join P [] ys a b = b
-all_join P (x ∷ xs) ys a b = (a.0, all_join P xs ys a.1 b)
-
-all_keys_join : (P : List ℕ → Type 0) (xs ys : List Svid) → AllByRecursion P (map svid_key xs) → AllByRecursion P (map svid_key ys) → AllByRecursion P (map svid_key (xs ++ ys))
-all_keys_join P [] ys a b = b
-all_keys_join P (x ∷ xs) ys a b = (a.0, all_keys_join P xs ys a.1 b)
-
 all_past : (a b : List ℕ) (ks : List (List ℕ)) → order a b ≡ Less → AllByRecursion (λ k. order b k ≡ Less) ks → AllByRecursion (λ k. order a k ≡ Less) ks
 all_past a b [] less all = tt
 all_past a b (k ∷ ks) less all = (nat_list_cmp_total.trans a b k less all.0, all_past a b ks less all.1)
@@ -104,7 +97,7 @@ rises_join : (xs : List Svid) (s : Svid) (ys : List Svid) → Rises (map svid_ke
 unfolding IsStrictlySortedBy
 rises_join [] s ys front back under over = (over, back)
 rises_join (x ∷ xs) s ys front back under over = (
-  all_keys_join (λ k. order x.ask.entry_id k ≡ Less) xs (s ∷ ys) front.0 (under.0, all_past x.ask.entry_id s.ask.entry_id (map svid_key ys) under.0 over),
+  keys_append (λ k. order x.ask.entry_id k ≡ Less) svid_key xs (s ∷ ys) front.0 (under.0, all_past x.ask.entry_id s.ask.entry_id (map svid_key ys) under.0 over),
   rises_join xs s ys front.1 back under.1 over,
 )
 
@@ -119,8 +112,8 @@ put_cached s asks svids is listed within =
       svids = rises_join (filter (is_below id) svids) s (filter (is_above id) svids)
           (rises_filter svid_key (is_below id) svids is.svids) (rises_filter svid_key (is_above id) svids is.svids)
           (all_under id (filter (is_below id) svids) (all_pass (is_below id) svids)) (all_over id (filter (is_above id) svids) (all_pass (is_above id) svids));
-      listed = all_join L (filter (is_below id) svids) (s ∷ filter (is_above id) svids) (all_filter L (is_below id) svids is.listed) (listed, all_filter L (is_above id) svids is.listed);
-      within = all_join W (filter (is_below id) svids) (s ∷ filter (is_above id) svids) (all_filter W (is_below id) svids is.within) (within, all_filter W (is_above id) svids is.within);
+      listed = all_append L (filter (is_below id) svids) (s ∷ filter (is_above id) svids) (all_filter L (is_below id) svids is.listed) (listed, all_filter L (is_above id) svids is.listed);
+      within = all_append W (filter (is_below id) svids) (s ∷ filter (is_above id) svids) (all_filter W (is_below id) svids is.within) (within, all_filter W (is_above id) svids is.within);
       few = is.few;
     }
 
@@ -129,13 +122,9 @@ put_cached s asks svids is listed within =
 abbrev other_ask : Ask → Ask → Type 0
 other_ask a b = same_ask a b ≡ false
 
-both_first : (x y : Bool) → (x && y) ≡ true → x ≡ true
-both_first true y is = refl
-both_first false y is = is
-
 -- equal asks are of one entry
-same_entry_id : (a b : Ask) → same_ask a b ≡ true → a.entry_id ≡ b.entry_id
-same_entry_id a b same = (bytes_eq-Decides a.entry_id b.entry_id).0 (both_first (bytes_eq a.entry_id b.entry_id) _ same)
+pub same_entry_id : (a b : Ask) → same_ask a b ≡ true → a.entry_id ≡ b.entry_id
+same_entry_id a b same = (bytes_eq-Decides a.entry_id b.entry_id).0 (and_parts (bytes_eq a.entry_id b.entry_id) _ same).0
 
 -- what is listed among asks above a key is above it
 listed_go : (k : List ℕ) (a b : Ask) (rest : Bool) (s : Bool) → s ≡ same_ask b a → order k b.entry_id ≡ Less → (rest ≡ true → order k a.entry_id ≡ Less) → (s || rest) ≡ true → order k a.entry_id ≡ Less

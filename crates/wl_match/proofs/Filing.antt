@@ -5,6 +5,7 @@ use Rattle.std.specs.Ordering.{nat_cmp}
 use Rattle.std.specs.Map.{lookup, keys_of}
 use Rattle.std.specs.BTreeMap.{is_at}
 use Rattle.std.specs.Cmp.Lexicographic.{slice_cmp, pointwise, bytes_decides, nat_list_eq_equiv}
+use Rattle.std.proofs.lemmas.Bool.{and_parts}
 use Rattle.std.proofs.lemmas.List.{map-append, take_more}
 use Rattle.std.proofs.lemmas.List.Elements.{filter-append}
 use Rattle.std.proofs.lemmas.Map.Text.{is_eq-slice_cmp}
@@ -21,23 +22,18 @@ use Rattle.wl_match.specs.Postings.{posting_key, posting_of, first_text, ids_und
 same_bytes : (a b : List ℕ) → bytes_eq a b ≡ true → a ≡ b
 same_bytes a b h = (bytes_decides a b).0 h
 
-both : (t u : Bool) → (t && u) ≡ true → (t ≡ true) × (u ≡ true)
-both true true h = (refl, refl)
-both true false h = cc
-both false u h = cc
-
 same_lists : (a b : List (List ℕ)) → pointwise bytes_eq a b ≡ true → a ≡ b
 same_lists [] [] h = refl
 same_lists [] (y ∷ ys) h = cc
 same_lists (x ∷ xs) [] h = cc
 same_lists (x ∷ xs) (y ∷ ys) h =
-    let p = both (bytes_eq x y) (pointwise bytes_eq xs ys) h in
+    let p = and_parts (bytes_eq x y) (pointwise bytes_eq xs ys) h in
     let first = same_bytes x y p.0 in
     let rest = same_lists xs ys p.1 in cc
 
 pub same_posting : (a b : Posting) → (bytes_eq a.selector b.selector && pointwise bytes_eq a.ids b.ids) ≡ true → a ≡ b
 same_posting a b h =
-    let p = both (bytes_eq a.selector b.selector) (pointwise bytes_eq a.ids b.ids) h in
+    let p = and_parts (bytes_eq a.selector b.selector) (pointwise bytes_eq a.ids b.ids) h in
     ap (λ (s : List ℕ). record a { selector = s }) (same_bytes a.selector b.selector p.0) ∙ ap (λ (i : List (List ℕ)). record { selector = b.selector; ids = i }) (same_lists a.ids b.ids p.1)
 
 -- ---- one more entry

@@ -4,8 +4,8 @@ use Rattle.std.specs.Str.{bytes_eq}
 use Rattle.std.specs.Ordering.{nat_cmp}
 use Rattle.std.specs.BTreeMap.{is_at}
 use Rattle.std.specs.List.{list_any, list_all, flat_map}
-use Rattle.std.specs.Cmp.{both_ways}
 use Rattle.std.specs.Cmp.Lexicographic.{bytes_decides, nat_list_eq_equiv}
+use Rattle.std.proofs.lemmas.Bool.{and_parts, or_left, or_right}
 use Rattle.std.proofs.lemmas.Bool.Decides.{nat_tests}
 use Rattle.std.proofs.lemmas.List.{take_more}
 use Rattle.std.proofs.lemmas.List.Folds.{list_any-append}
@@ -15,7 +15,7 @@ use Rattle.wl_entry.specs.declared.entries.Entry.{Entry}
 use Rattle.wl_entry.specs.Entitled.{is_entitled}
 use Rattle.wl_match.specs.declared.postings.Posting.{Posting}
 use Rattle.wl_match.specs.Postings.{first_text, ids_under, ids_at, is_hit}
-use Rattle.wl_match.proofs.Rising.{passes}
+use Rattle.wl_match.proofs.Rising.{at_is, passes}
 use Rattle.wl_match.proofs.Standing.{has_id}
 use Rattle.wl_match.proofs.Filing.{ids_one, ids_under-append}
 
@@ -100,11 +100,8 @@ module _ (sel : List (List ℕ)) (id : List ℕ) (xs : List Entry) (p : ℕ) (e 
   put_by true false = refl
   put_by false a = sym (or_false a)
 
-  at_is : (q : ℕ) → is_at (nat_cmp p) q ≡ (p == q)
-  at_is q = both_ways (is_at (nat_cmp p) q) (p == q) (λ h. grind (arith, nat_tests, h)) (λ h. grind (arith, nat_tests, h))
-
   pub put_hit : is_entitled sel e ≡ true → (q : ℕ) (a b : Bool) → b ≡ cond (is_at (nat_cmp p) q) true a → b ≡ (a || is_hit sel (id ∷ []) (slice_get xs q))
-  put_hit h q a b is = is ∙ ap (λ (c : Bool). cond c true a) (at_is q) ∙ put_by (p == q) a ∙ ap (λ (c : Bool). a || c) (sym (here q (p == q) refl ∙ ap (λ (c : Bool). (p == q) && c) h))
+  put_hit h q a b is = is ∙ ap (λ (c : Bool). cond c true a) (at_is p q) ∙ put_by (p == q) a ∙ ap (λ (c : Bool). a || c) (sym (here q (p == q) refl ∙ ap (λ (c : Bool). (p == q) && c) h))
 
 -- ---- under each selector
 
@@ -122,18 +119,6 @@ reach_step f sel ids i s o x y lt is new of old =
     ∙ sym (hit-append sel (flat_map f ([] ∷ take i sel)) (f s) o) ∙ ap (λ (t : List (List ℕ)). is_hit sel t o) (sym (reach_more f sel i s lt is))
 
 -- ---- all of them
-
-or_left : (a b : Bool) → a ≡ true → (a || b) ≡ true
-or_left true b h = refl
-or_left false b h = cc
-
-or_right : (a b : Bool) → b ≡ true → (a || b) ≡ true
-or_right true b h = refl
-or_right false b h = h
-
-and_left : (a b : Bool) → (a && b) ≡ true → a ≡ true
-and_left true b h = refl
-and_left false b h = cc
 
 has_text-append : (xs ys : List (List ℕ)) (t : List ℕ) → has_text (xs ++ ys) t ≡ (has_text xs t || has_text ys t)
 unfolding has_text
@@ -178,7 +163,7 @@ under (x ∷ xs) (suc q) e h =
 key_among : (sel ts : List (List ℕ)) → has_texts sel ts ≡ true → has_text ([] ∷ sel) (first_text ts) ≡ true
 unfolding has_texts has_text
 key_among sel [] h = refl
-key_among sel (t ∷ ts) h = or_right (bytes_eq [] t) (list_any (λ other. bytes_eq other t) sel) (and_left (list_any (λ other. bytes_eq other t) sel) (list_all (has_text sel) ts) h)
+key_among sel (t ∷ ts) h = or_right (bytes_eq [] t) (list_any (λ other. bytes_eq other t) sel) (and_parts (list_any (λ other. bytes_eq other t) sel) (list_all (has_text sel) ts) h).0
 
 key_of : (sel : List (List ℕ)) (e : Entry) → is_entitled sel e ≡ true → has_text ([] ∷ sel) (first_text e.selectors) ≡ true
 unfolding is_entitled

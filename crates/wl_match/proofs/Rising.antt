@@ -6,7 +6,7 @@ use Rattle.std.specs.List.{list_any, AllByRecursion}
 use Rattle.std.specs.List.Sorted.{IsStrictlySortedBy}
 use Rattle.std.specs.Cmp.{both_ways}
 use Rattle.std.proofs.lemmas.Bool.Decides.{nat_tests}
-use Rattle.std.proofs.lemmas.Bool.{cases_order}
+use Rattle.std.proofs.lemmas.Bool.{cases_order, or_left}
 use Rattle.std.proofs.Math.Logic.{⊎_elim}
 use Rattle.wl_match.specs.Indexes.{places_from}
 
@@ -14,7 +14,7 @@ use Rattle.wl_match.specs.Indexes.{places_from}
 abbrev pub among : List ℕ → ℕ → Bool
 among ks q = list_any (is_at (nat_cmp q)) ks
 
-at_is : (p q : ℕ) → is_at (nat_cmp p) q ≡ (p == q)
+pub at_is : (p q : ℕ) → is_at (nat_cmp p) q ≡ (p == q)
 at_is p q = both_ways (is_at (nat_cmp p) q) (p == q) (λ h. grind (arith, nat_tests, h)) (λ h. grind (arith, nat_tests, h))
 
 equal : (p q : ℕ) → is_at (nat_cmp p) q ≡ true → p ≡ q
@@ -41,14 +41,6 @@ among_above : (k : ℕ) (ks : List ℕ) (q : ℕ) → AllByRecursion (λ y. nat_
 among_above k [] q all h = cc
 among_above k (y ∷ ks) q all h = above_by k y ks q (is_at (nat_cmp q) y) refl all.0 h (among_above k ks q all.1)
 
-or_true : (a b : Bool) → a ≡ true → (a || b) ≡ true
-or_true true b h = refl
-or_true false b h = cc
-
-or_more : (a b : Bool) → b ≡ true → (a || b) ≡ true
-or_more true b h = refl
-or_more false b h = h
-
 behind : (a b : Bool) → a ≡ false → (a || b) ≡ b
 behind true b h = cc
 behind false b h = refl
@@ -62,7 +54,7 @@ module _ {X : Type 0} (test : X → Bool) where
   none_of : (at : ℕ) (ks : List ℕ) → ((q : ℕ) → among ks q ≡ true → at ≤ q) → ((i : ℕ) → among ks (at + i) ≡ false) → ks ≡ []
   none_of at [] low none = refl
   none_of at (k ∷ ks) low none =
-      let here : among (k ∷ ks) k ≡ true = or_true (is_at (nat_cmp k) k) (among ks k) (same k k refl) in
+      let here : among (k ∷ ks) k ≡ true = or_left (is_at (nat_cmp k) k) (among ks k) (same k k refl) in
       let le = low k here in
       let sum : at + (k - at) ≡ k = omega (arith, le) in
       let there : among (k ∷ ks) k ≡ false = ap (among (k ∷ ks)) (sym sum) ∙ none (k - at) in
@@ -80,7 +72,7 @@ module _ {X : Type 0} (test : X → Bool) where
   unfolding IsStrictlySortedBy
   rises_by true at e es [] t up low is ih = let here : false ≡ true = is 0 ∙ t in cc
   rises_by true at e es (k ∷ ks) t up low is ih =
-      let k_here : among (k ∷ ks) k ≡ true = or_true (is_at (nat_cmp k) k) (among ks k) (same k k refl) in
+      let k_here : among (k ∷ ks) k ≡ true = or_left (is_at (nat_cmp k) k) (among ks k) (same k k refl) in
       let zero_at : at + 0 ≡ at = omega arith in
       let at_here : among (k ∷ ks) at ≡ true = ap (among (k ∷ ks)) (sym zero_at) ∙ is 0 ∙ t in
       let first : k ≡ at = first_is at k ks up.0 (low k k_here) at_here in

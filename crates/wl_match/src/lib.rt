@@ -2,7 +2,7 @@
 //!
 //! An [`Index`] files each entry under one of its selectors. Only the entries that are filed under a selector of the
 //! caller, or have none, are looked at. A posting names entries by id, so that a place that moves leaves it as it is,
-//! and a changed index shares the postings that did not change.
+//! and an index after changes or a sync shares the postings that did not change.
 #![tactic(auto)]
 
 mod changes;

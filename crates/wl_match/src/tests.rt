@@ -130,7 +130,7 @@ fn an_entry_is_replaced(rt: HostRuntime) -> Result<(), Fail> {
     Ok(())
 }
 
-/// The index after a sync that leaves this entry alone.
+/// The index after a sync to this one entry.
 fn synced_to(alloc: Global, index: &Index, entry: Shared<Entry>) -> Result<Index, Memory> {
     index.synced(alloc, &[entry])
 }

@@ -1,6 +1,6 @@
-use Rattle.std.proofs.Common.{◌++◌, sym, ◌∙◌, ap}
-use Rattle.svid_cache.proofs.Filing.{none_due, append_none}
+use Rattle.std.proofs.Common.{◌++◌, append-nil, sym, ◌∙◌, ap}
+use Rattle.svid_cache.proofs.Filing.{none_due}
 use Rattle.svid_cache.proofs.queue.push_block.Goals as goal
 
 pub returns-then-now-first : goal.returns-then-now-first
-returns-then-now-first c = sym (ap (λ l. c.args.due.now.items ++ l) (none_due c.args.now c.args.first c.args.svids.now c.args.block.now c.requires.fits c.if-now-first.true) ∙ append_none c.args.due.now.items)
+returns-then-now-first c = sym (ap (λ l. c.args.due.now.items ++ l) (none_due c.args.now c.args.first c.args.svids.now c.args.block.now c.requires.fits c.if-now-first.true) ∙ append-nil c.args.due.now.items)

@@ -1,9 +1,10 @@
 -- what is left of the tokens gives what all of them give
-use Rattle.std.proofs.Common.{◌≡◌, drop, option_map, None}
+use Rattle.std.proofs.Common.{◌≡◌, drop, filter, option_map}
+use Rattle.std.specs.List.{last_or}
 use Rattle.jwt_cache.specs.Keeps.{newest, is_of_use}
 use Rattle.jwt_cache.proofs.rings.Ring.newest.Given as goal
 
 abbrev pub invariant-loop-i : goal.invariant-loop-i
 invariant-loop-i l =
-    newest (is_of_use l.ask l.audience l.now) (option_map (λ k. k.now) l.found) (drop l.i l.self-inside.items.items)
-    ≡ newest (is_of_use l.ask l.audience l.now) None l.self-inside.items.items
+    last_or (option_map (λ k. k.now) l.found) (filter (is_of_use l.ask l.audience l.now) (drop l.i l.self-inside.items.items))
+    ≡ newest (is_of_use l.ask l.audience l.now) l.self-inside.items.items

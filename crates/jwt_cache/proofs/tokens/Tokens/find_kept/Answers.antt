@@ -4,7 +4,7 @@ use Rattle.jwt_cache.proofs.Keeping.{find_none, find_some}
 use Rattle.jwt_cache.proofs.tokens.Tokens.find_kept.Goals as goal
 
 pub returns-in_default : goal.returns-in_default
-returns-in_default c = find_none c.args.ask.now (sorted_texts c.args.audience.now) c.in_ok-wanted.wanted c.args.now c.self.inside.rings.entries c.args.self.now c.self.view_is (rw c.as_slice.ensures at c.in_default.ensures.value)
+returns-in_default c = find_none c.args.ask.now (sorted_texts c.args.audience.now) c.args.now c.self.inside.rings.entries c.args.self.now c.self.view_is (rw c.as_slice.ensures at c.in_default.ensures.value)
 
 pub returns-in-Some-newest : goal.returns-in-Some-newest
 returns-in-Some-newest c =

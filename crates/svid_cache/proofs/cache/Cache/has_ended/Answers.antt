@@ -1,4 +1,4 @@
-use Rattle.std.proofs.Common.{◌≡◌, None, sym, ◌∙◌, ap}
+use Rattle.std.proofs.Common.{sym, ◌∙◌, ap}
 use Rattle.svid_cache.specs.Caches.{has_ended}
 use Rattle.svid_cache.specs.Inside.{told}
 use Rattle.svid_cache.proofs.Ending.{has_come, ended_by, all_kept}

@@ -1,4 +1,4 @@
-use Rattle.std.proofs.Common.{◌≡◌, ◌≤◌, ◌++◌, List, ℕ, length, map, filter, take, drop, arith, rules, sym, ◌∙◌, ap, subst}
+use Rattle.std.proofs.Common.{◌≡◌, ◌≤◌, ◌++◌, length, map, filter, take, drop, arith, rules, sym, ◌∙◌, ap, subst}
 use Rattle.std.proofs.lemmas.Fn.{filter_same}
 use Rattle.svid_cache.specs.Caches.{IsCached, lasts, swept}
 use Rattle.svid_cache.specs.Inside.{told}
