@@ -1,0 +1,42 @@
+//! What happens to a manager.
+
+use std::alloc::Global;
+use wl_entry::Signed;
+use wl_octets::{Memory, Octets};
+
+/// What a signer gives. Times are Unix seconds.
+#[derive(Clone, Copy)]
+pub struct Identity {
+    pub chain: &'static [u8],
+    pub key: &'static [u8],
+    pub not_before: u64,
+    pub not_after: u64,
+}
+
+impl Identity {
+    pub fn signed(self, alloc: Global) -> Result<Signed, Memory> {
+        let chain = Octets::from_slice(alloc, self.chain)?;
+        let key = Octets::from_slice(alloc, self.key)?;
+        Ok(Signed {
+            chain,
+            key,
+            not_before: self.not_before,
+            not_after: self.not_after,
+        })
+    }
+}
+
+/// An event. Times are Unix seconds.
+#[derive(Clone, Copy)]
+pub enum Event {
+    /// A document is read.
+    Sync(&'static [u8]),
+    /// What is due at this time is claimed.
+    Claim(u64),
+    /// The ticket of this number comes back with an identity, at this time.
+    Signed(u64, Identity, u64),
+    /// The ticket of this number comes back without one.
+    Failed(u64),
+    /// The caller `unix:uid:1` is answered.
+    Answer,
+}
