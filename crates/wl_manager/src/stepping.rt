@@ -44,11 +44,7 @@ impl<V: Voucher> Prepared<V> {
 
 impl<V: Voucher> Manager<V> {
     /// The ids of the entries whose ask the step changes or removes.
-    fn dropped_by(
-        &self,
-        alloc: Global,
-        step: &wl_store::Prepared<V>,
-    ) -> Result<Row<Octets>, Memory>
+    fn dropped_by(&self, alloc: Global, step: &wl_store::Prepared<V>) -> Result<Row<Octets>, Memory>
         ensures { IfOk result (λ ids. ids ≡ changed_ids (asks_of self.now.stored.store.entries) (asks_of step.now.next.store.entries)) }
     {
         changed_ids(alloc, self.store.asks(), &step.next)

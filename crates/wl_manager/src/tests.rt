@@ -4,6 +4,7 @@ mod documents;
 mod events;
 mod replay;
 mod tickets;
+mod tokens;
 mod transcripts;
 mod words;
 

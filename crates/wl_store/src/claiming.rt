@@ -10,8 +10,8 @@ ghost use Rattle.wl_store.specs.Stores.{asks_of, cached_of, claimed, claimed_ask
 
 use crate::flights::{add_flights, grounded, issue};
 use crate::lists::share_all;
-use crate::store::Store;
 use crate::preparing::Prepared;
+use crate::store::Store;
 use crate::tickets::{Adopted, Change, Claim, Flight};
 use std::alloc::Global;
 use svid_cache::Cache;
@@ -114,7 +114,12 @@ impl<V: Voucher> Store<V> {
 
     /// The asks that are due and have no ticket in flight.
     #[tactic(auto, unfolding(crate::specs::Stores::claimed_asks))]
-    fn asks_to_claim(&self, alloc: Global, cache: &Shared<Cache>, now: u64) -> Result<Row<Ask>, Memory>
+    fn asks_to_claim(
+        &self,
+        alloc: Global,
+        cache: &Shared<Cache>,
+        now: u64,
+    ) -> Result<Row<Ask>, Memory>
         requires { cache.now ≡ swept now (cached_of self.now.store) }
         ensures { IfOk result (λ r. r ≡ claimed_asks now self.now.store) }
     {

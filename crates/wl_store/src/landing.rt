@@ -9,8 +9,8 @@ ghost use Rattle.wl_store.specs.Stores.{asks_of, cached_of, flies, landed, insta
 ghost use Rattle.svid_cache.specs.Caches.{after};
 
 use crate::flights::{has_ticket, remove_flight};
-use crate::store::Store;
 use crate::preparing::Prepared;
+use crate::store::Store;
 use crate::tickets::{Adopted, Change, Flight, Ticket, let_go_all};
 use std::alloc::Global;
 use svid_cache::{Cache, Installed};

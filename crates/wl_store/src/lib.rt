@@ -11,11 +11,11 @@ mod flights;
 mod groups;
 mod landing;
 mod lists;
-mod store;
 mod preparing;
 mod publishing;
+mod store;
 mod tickets;
 
-pub use store::Store;
 pub use preparing::Prepared;
+pub use store::Store;
 pub use tickets::{Adopted, Change, Claim, Flight, Ticket, let_go_all};

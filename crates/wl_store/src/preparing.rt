@@ -11,8 +11,8 @@ ghost use Rattle.wl_store.specs.Stores.{asks_of, cached_of, synced_with, publish
 
 use crate::flights::share_flights;
 use crate::lists::{cache_with, share_all, share_bundles, share_entries};
-use crate::store::Store;
 use crate::publishing::{publication, shows};
+use crate::store::Store;
 use crate::tickets::{Adopted, Change, Flight};
 use spiffe_id::TrustDomain;
 use std::alloc::Global;

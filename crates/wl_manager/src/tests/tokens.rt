@@ -108,6 +108,8 @@ fn tokens_are_refused(rt: HostRuntime) -> Result<(), Fail> {
     let long: &[u8] = &[b'x'; 2048];
     let longer: &[u8] = &[b'y'; 2049];
     assert!(rt; kept_first(alloc, DOC, &[long, longer], b"t", 100)? == Keeping::AudienceLong(4097));
-    assert!(rt; kept_first(alloc, DOC, &[long, long, longer], b"t", 199)? == Keeping::AudienceLong(4097));
+    assert!(rt;
+        kept_first(alloc, DOC, &[long, long, longer], b"t", 199)? == Keeping::AudienceLong(4097)
+    );
     Ok(())
 }
