@@ -1,5 +1,5 @@
 -- What becomes of kept tokens (own rules after the SPIRE agent).
-use Rattle.std.specs.Prelude.{ℕ, Bool, not, nat_lt, if◌then◌else◌, min, sum, List, map, filter, length, Option, Some, None}
+use Rattle.std.specs.Prelude.{ℕ, not, nat_lt, if◌then◌else◌, min, sum, List, map, filter, length, Option, Some, None}
 use Rattle.wl_selector.specs.Selectors.{has_text, sorted_texts}
 use Rattle.wl_entry.specs.Fitness.{token_unfit}
 use Rattle.wl_entry.specs.Keys.{ask_key}

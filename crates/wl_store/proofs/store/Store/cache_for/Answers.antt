@@ -1,6 +1,6 @@
-use Rattle.std.proofs.Common.{◌≡◌, filter, sym, ◌∙◌, ap, subst}
+use Rattle.std.proofs.Common.{◌≡◌, filter, sym, ◌∙◌, subst}
 use Rattle.svid_cache.specs.Caches.{is_listed}
-use Rattle.wl_store.specs.Stores.{asks_of, cached_of}
+use Rattle.wl_store.specs.Stores.{asks_of}
 use Rattle.wl_store.specs.Steps.{AllTrusted}
 use Rattle.wl_store.proofs.Settling.{still_trusted}
 use Rattle.wl_store.proofs.store.Store.cache_for.Goals as goal
