@@ -1,6 +1,7 @@
 #!/usr/bin/env python3
-"""Runs the built measurement of the store for 1,000, 3,000 and 10,000 entries, each in a process of its own, and prints
-its figures as a table in Markdown: microseconds, and the peak of the memory.
+"""Runs the built measurement of the store for 1,000, 3,000 and 10,000 entries, without and with tokens, each in a
+process of its own, and prints its figures as a table in Markdown: microseconds, the lesser of both runs, and the peak of
+the memory of each.
 
     bench/store/table.py PROGRAM
 """
@@ -11,24 +12,31 @@ import sys
 COUNTS = [1_000, 3_000, 10_000]
 
 
-def figures(program, count):
-    """The figures that the program prints by name, and the peak of its memory in bytes."""
-    child = subprocess.Popen([program, str(count)], stdout=subprocess.PIPE, text=True)
+def figures(program, *words):
+    """The nanoseconds that the program prints by name, and the peak of its memory in bytes."""
+    child = subprocess.Popen([program, *words], stdout=subprocess.PIPE, text=True)
     lines = child.stdout.read().splitlines()
     _, status, usage = os.wait4(child.pid, 0)
     if status != 0:
         sys.exit("\n".join(lines))
-    return dict(line.rsplit(": ", 1) for line in lines), usage.ru_maxrss * 1024
+    named = dict(line.rsplit(": ", 1) for line in lines)
+    return {name: int(nanoseconds) for name, nanoseconds in named.items()}, usage.ru_maxrss * 1024
 
 
 def cell(nanoseconds):
-    microseconds = int(nanoseconds) / 1000
+    microseconds = nanoseconds / 1000
     return f"{microseconds:,.1f}" if microseconds < 100 else f"{microseconds:,.0f}"
 
 
-runs = [figures(sys.argv[1], count) for count in COUNTS]
-print("| microseconds | " + " | ".join(f"{count:,} entries" for count in COUNTS) + " |")
-print("|---" * (len(COUNTS) + 1) + "|")
-for name in runs[0][0]:
-    print(f"| {name} | " + " | ".join(cell(named[name]) for named, _ in runs) + " |")
-print("| peak of the memory, MB | " + " | ".join(f"{peak / 1e6:,.0f}" for _, peak in runs) + " |")
+def row(name, cells):
+    print(f"| {name} | " + " | ".join(cells) + " |")
+
+
+program = sys.argv[1]
+runs = [(figures(program, str(count)), figures(program, str(count), "tokens")) for count in COUNTS]
+row("microseconds", [f"{count:,} entries" for count in COUNTS])
+row("---", ["---"] * len(COUNTS))
+for name in runs[0][1][0]:
+    row(name, [cell(min(named[name] for named, _ in both if name in named)) for both in runs])
+row("memory at most, MB", [f"{peak / 1e6:,.0f}" for (_, peak), _ in runs])
+row("with 16 tokens an entry, MB", [f"{peak / 1e6:,.0f}" for _, (_, peak) in runs])
