@@ -39,4 +39,4 @@ row("---", ["---"] * len(COUNTS))
 for name in runs[0][1][0]:
     row(name, [cell(min(named[name] for named, _ in both if name in named)) for both in runs])
 row("memory at most, MB", [f"{peak / 1e6:,.0f}" for (_, peak), _ in runs])
-row("with 16 tokens an entry, MB", [f"{peak / 1e6:,.0f}" for _, (_, peak) in runs])
+row("with the last 16 of 48 tokens an entry, MB", [f"{peak / 1e6:,.0f}" for _, (_, peak) in runs])
