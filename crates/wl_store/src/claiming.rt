@@ -76,6 +76,7 @@ impl<V: Voucher> Store<V> {
         ensures next { IfOk result (λ r. r.0 ≡ keeping (with_parts self.now.store.entries self.now.store.bundles cache.svids flying.items last self.now.store) self.now) }
         ensures change { IfOk result (λ r. r.1 ≡ change_to (with_parts self.now.store.entries self.now.store.bundles cache.svids flying.items last self.now.store) self.now) }
     {
+        // a field that is read tells the proof what the type keeps
         let _ = &self.last;
         if is_same {
             let next = self.same(cache, flying, last)?;

@@ -94,6 +94,7 @@ impl<V: Voucher> Store<V> {
         ensures answer { IfOk result (λ r. r.1 ≡ install now svid.ask svid.signed self.now.store) }
         ensures lands { IfOk result (λ r. Lands V.signed self.now.store svid r.1 r.0) }
     {
+        // a field that is read tells the proof what the type keeps
         let _ = &self.last;
         match self.refuse(alloc, &svid.ask, &svid.signed, now)? {
             Some(refusal) => {
