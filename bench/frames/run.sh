@@ -4,11 +4,11 @@ set -e
 here=$(cd "$(dirname "$0")" && pwd)
 copy=$(mktemp -d)
 mkdir -p "$copy/crates/frames_bench/src"
-for name in wl_words wl_octets h2_words h2_frame h2_flow; do
+for name in list_laws wl_octets h2_wire h2_frame h2_flow; do
     cp -r "$here/../../crates/$name" "$copy/crates/"
 done
 cp "$here/../../HANDLES" "$copy/"
-printf 'wl_words:\nwl_octets:\nh2_words:\nh2_frame: wl_octets wl_words h2_words\nh2_flow: wl_octets wl_words h2_words\nframes_bench: h2_frame h2_flow wl_octets\n' > "$copy/crates.txt"
+printf 'list_laws:\nwl_octets:\nh2_wire:\nh2_frame: wl_octets list_laws h2_wire\nh2_flow: wl_octets list_laws h2_wire\nframes_bench: h2_frame h2_flow wl_octets\n' > "$copy/crates.txt"
 cp "$here/frames.rt.txt" "$copy/crates/frames_bench/src/main.rt"
 (cd "$copy/crates/frames_bench" && rt run)
 rm -rf "$copy"

@@ -4,7 +4,7 @@ use Rattle.std.proofs.lemmas.List.{drop-drop}
 use Rattle.grpc_wire.specs.declared.fault.MessageFault.{MessageFault}
 use Rattle.grpc_wire.specs.declared.fault.MessageFault.TheVariants as faults
 use Rattle.grpc_wire.specs.Messages.{Step, partial, whole, wrong, prefix_of, first_message, End, Rest, Fault, Reading, after_step, messages_in, messages_of, resumed, read_on, Refuses}
-use Rattle.wl_words.proofs.Gains.{GainsUpTo, gains_more}
+use Rattle.list_laws.proofs.Gains.{GainsUpTo, gains_more}
 use Rattle.grpc_wire.proofs.Fronts.{IsShorter, first_shorter, with_more, first_more}
 
 -- ---- a step without the count

@@ -1,7 +1,7 @@
 -- A piece that is fed in parts, and the bytes that a cutting stands for.
 use Rattle.std.proofs.Common.{◌≡◌, ℕ, List, [], ◌++◌, take, drop, Result, Ok, Err, refl, sym, ap, ◌∙◌, append_assoc, append-nil, take-append-drop}
-use Rattle.wl_words.specs.Lists.{GainsFront}
-use Rattle.wl_words.proofs.Fronts.{gains_before, gains_after}
+use Rattle.list_laws.specs.Lists.{GainsFront}
+use Rattle.list_laws.proofs.Fronts.{gains_before, gains_after}
 use Rattle.grpc_wire.specs.declared.fault.MessageFault.{MessageFault}
 use Rattle.grpc_wire.specs.declared.fault.MessageFault.TheVariants as faults
 use Rattle.grpc_wire.specs.Messages.{End, Rest, Fault, Reading, messages_of, resumed, read_on, Refuses, Feeds, StandsFor}

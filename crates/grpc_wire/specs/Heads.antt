@@ -4,7 +4,7 @@ use Rattle.std.specs.List.{list_any, starts_with}
 use Rattle.std.specs.Option.{option_map_or}
 use Rattle.std.specs.Str.{bytes_eq}
 use Rattle.wl_octets.specs.declared.header.Header.{Header}
-use Rattle.wl_heads.specs.Heads.{is_good_head}
+use Rattle.h2_headers.specs.Heads.{is_good_head}
 use Rattle.grpc_wire.specs.declared.head.HeadVerdict.{HeadVerdict}
 use Rattle.grpc_wire.specs.declared.head.HeadVerdict.TheVariants.{Malformed, Refused, Call}
 use Rattle.grpc_wire.specs.declared.method.Method.{Method}

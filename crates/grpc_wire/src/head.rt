@@ -7,7 +7,7 @@ ghost use Rattle.grpc_wire.specs.Heads.{only_value, is_post, is_grpc, is_encoded
 
 use crate::method::Method;
 use crate::refusal::Refusal;
-use wl_heads::{is_named, is_well_formed_head};
+use h2_headers::{is_named, is_well_formed_head};
 use wl_octets::Header;
 
 /// What a call's head says.

@@ -5,7 +5,7 @@ ghost use Rattle.std.specs.Int.{w32, to_be_bytes};
 ghost use Rattle.grpc_wire.specs.declared.fault.MessageFault.{MessageFault};
 ghost use Rattle.grpc_wire.specs.Messages.{Cutting, Rest, Fault, framed, first_message, whole, messages_of, resumed, rest_of, Refuses, Feeds, StandsFor};
 ghost use Rattle.grpc_wire.specs.Cutting.{ending_of, IsCut};
-ghost use Rattle.wl_words.specs.Lists.{GainsFront};
+ghost use Rattle.list_laws.specs.Lists.{GainsFront};
 
 use crate::fault::MessageFault;
 use crate::prefix::{PREFIX, judge_prefix};

@@ -3,7 +3,7 @@
 ghost use Rattle.std.specs.Prelude.{◌≡◌, ◌≤◌, length, drop, IfOk, IfErr, OnOk, ◌++◌};
 ghost use Rattle.grpc_wire.specs.declared.fault.MessageFault.{MessageFault};
 ghost use Rattle.grpc_wire.specs.Messages.{Steps, Refuses, Rest, Fault, messages_of};
-ghost use Rattle.wl_words.specs.Lists.{GainsFront};
+ghost use Rattle.list_laws.specs.Lists.{GainsFront};
 
 use crate::fault::MessageFault;
 use crate::prefix::{PREFIX, judge_prefix};

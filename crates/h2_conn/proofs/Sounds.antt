@@ -6,7 +6,7 @@ use Rattle.std.proofs.lemmas.Bool.Decides.{nat_tests}
 use Rattle.std.proofs.lemmas.List.{map-append, length-map}
 use Rattle.std.proofs.lemmas.List.Folds.{list_any-append}
 use Rattle.wl_octets.specs.declared.header.Header.{Header}
-use Rattle.wl_heads.specs.Heads.{are_good_trailers}
+use Rattle.h2_headers.specs.Heads.{are_good_trailers}
 use Rattle.hpack.specs.declared.fault.HpackFault.{HpackFault}
 use Rattle.hpack.specs.Decoding.{Standing}
 use Rattle.h2_frame.specs.declared.frame.Body.{Body}

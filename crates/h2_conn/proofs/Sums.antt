@@ -3,7 +3,7 @@ use Rattle.std.proofs.Common.{◌≡◌, ℕ, ◌+◌, ◌==◌, ◌%◌, ◌∙
 use Rattle.std.specs.List.{take_while}
 use Rattle.std.proofs.lemmas.List.Sums.{sum_by-cons, take_while-cons}
 use Rattle.wl_octets.specs.declared.header.Header.{Header}
-use Rattle.wl_heads.specs.Heads.{are_good_trailers}
+use Rattle.h2_headers.specs.Heads.{are_good_trailers}
 use Rattle.hpack.specs.declared.fault.HpackFault.{HpackFault}
 use Rattle.hpack.specs.Decoding.{Standing}
 use Rattle.h2_frame.specs.declared.frame.Body.{Body}

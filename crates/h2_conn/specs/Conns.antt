@@ -1,7 +1,7 @@
 -- What each call of a connection does. `Link` is the state from which the connection is resumed, failing for good included.
 use Rattle.std.specs.Prelude.{◌≡◌, ℕ, ◌==◌, Bool, false, not, ◌&&◌, ◌||◌, if◌then◌else◌, List, [], ◌∷◌, ◌++◌, length, Option, Some, None, Result, Ok, Err}
 use Rattle.wl_octets.specs.declared.memory.Memory.{Memory}
-use Rattle.wl_words.specs.Lists.{GainsFront}
+use Rattle.list_laws.specs.Lists.{GainsFront}
 use Rattle.hpack.specs.Tables.{first_table}
 use Rattle.hpack.specs.Decoding as decoder
 use Rattle.h2_frame.specs.declared.fault.FrameFault.{FrameFault}

@@ -4,7 +4,7 @@
 -- on a closed stream (row `data_received`) and late HEADERS on one (row `late_on_closed`) are ignored, whatever closed it.
 use Rattle.std.specs.Prelude.{ℕ, ◌+◌, ◌%◌, ◌==◌, nat_lt, Bool, true, false, not, ◌&&◌, ◌||◌, if◌then◌else◌, List, [], ◌∷◌, ◌++◌, length, Option, Some, None, Result, Ok, Err}
 use Rattle.wl_octets.specs.declared.header.Header.{Header}
-use Rattle.wl_heads.specs.Heads.{are_good_trailers}
+use Rattle.h2_headers.specs.Heads.{are_good_trailers}
 use Rattle.hpack.specs.declared.fault.HpackFault.{HpackFault}
 use Rattle.hpack.specs.declared.fault.HpackFault.TheVariants.{ListTooLong}
 use Rattle.hpack.specs.Decoding.{Standing, decoded}

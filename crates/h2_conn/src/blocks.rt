@@ -1,7 +1,7 @@
 //! The rows of HEADERS and CONTINUATION.
 
 ghost use Rattle.std.specs.Prelude.{◌≡◌, ◌<◌, ◌^◌, true, false, nat_lt};
-ghost use Rattle.wl_heads.specs.Heads.{are_good_trailers};
+ghost use Rattle.h2_headers.specs.Heads.{are_good_trailers};
 ghost use Rattle.hpack.specs.Decoding.{decoded};
 ghost use Rattle.h2_conn.specs.Peer.{opened, trailed};
 ghost use Rattle.h2_conn.specs.Kinds.{Steps, IsRefusal, headers_rows, decoded_rows, block_rows, head_rows, continuation_rows};
@@ -14,7 +14,7 @@ use crate::state::{State, Unfinished};
 use crate::streams::Stream;
 use hpack::HpackFault;
 use std::alloc::Global;
-use wl_heads::are_well_formed_trailers;
+use h2_headers::are_well_formed_trailers;
 use wl_octets::{Header, Octets, Row};
 
 /// Whether trailers are not malformed: each name and value is as it may be, and there is no

@@ -1,7 +1,7 @@
 //! What is written of a connection.
 
 ghost use Rattle.std.specs.Prelude.{◌≡◌, ◌++◌, ℕ, List, IfOk, OnOk, OnErr};
-ghost use Rattle.wl_words.specs.Lists.{GainsFront};
+ghost use Rattle.list_laws.specs.Lists.{GainsFront};
 ghost use Rattle.h2_flow.specs.Outboxes.{pulled};
 ghost use Rattle.h2_conn.specs.Conns.{goaway, answer_ends, answers_end, after_pull};
 ghost use Rattle.h2_conn.specs.Sound.{Sound};

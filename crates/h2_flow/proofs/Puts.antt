@@ -1,8 +1,8 @@
 -- What a loop wrote and told so far.
 use Rattle.std.proofs.Common.{◌≡◌, ℕ, List, [], ◌++◌, refl, sym, append_assoc, append-nil}
 use Rattle.std.proofs.lemmas.Grind.{flat_map-append}
-use Rattle.wl_words.specs.Lists.{GainsFront}
-use Rattle.wl_words.proofs.Fronts.{gains_before, gains_after}
+use Rattle.list_laws.specs.Lists.{GainsFront}
+use Rattle.list_laws.proofs.Fronts.{gains_before, gains_after}
 use Rattle.h2_flow.specs.Streams.{Sent, sent_bytes, ended_by}
 use Rattle.h2_flow.specs.Pulls.{bytes_of, ended_of}
 

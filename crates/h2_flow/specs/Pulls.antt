@@ -1,7 +1,7 @@
 -- What a pull writes.
 use Rattle.std.specs.Prelude.{◌≡◌, ℕ, zero, suc, ◌+◌, ◌-◌, ◌==◌, if◌then◌else◌, List, [], ◌∷◌, ◌++◌, length, map, flat_map, Option, Some, None, Result, Ok, Err}
 use Rattle.wl_octets.specs.declared.memory.Memory.{Memory}
-use Rattle.wl_words.specs.Lists.{GainsFront}
+use Rattle.list_laws.specs.Lists.{GainsFront}
 use Rattle.h2_flow.specs.declared.flow.Flow.{Flow}
 use Rattle.h2_flow.specs.declared.stream.Stream.{Stream}
 use Rattle.h2_flow.specs.Streams.{Sent, sent_bytes, ended_by, Turn, turn}

@@ -1,6 +1,6 @@
 -- What one stream writes in its turn.
 use Rattle.std.specs.Prelude.{ℕ, ◌+◌, ◌-◌, ◌==◌, nat_lt, pos, ◌-ℤ◌, Bool, true, false, if◌then◌else◌, List, [], ◌∷◌, ◌++◌, length, take, drop, Option, Some, None}
-use Rattle.h2_words.specs.Spelling.{frame_bytes}
+use Rattle.h2_wire.specs.Spelling.{frame_bytes}
 use Rattle.h2_flow.specs.declared.flow.Flow.{Flow}
 use Rattle.h2_flow.specs.declared.flow.Update.{Update}
 use Rattle.h2_flow.specs.declared.flow.Update.TheVariants.{Unasked, Due, Written}

@@ -3,7 +3,7 @@
 ghost use Rattle.std.specs.Prelude.{◌≡◌, ◌<◌, ◌≤◌, ◌^◌, ◌==◌, ◌||◌, ◌&&◌, ◌++◌, true, false, List, ℕ, length, vec_capacity, IfOk, OnOk, OnErr, IsErr, pos, ◌+ℤ◌, ◌≤ℤ◌, int_lt, map, IfErr};
 ghost use Rattle.h2_flow.specs.Windows.{window_of};
 ghost use Rattle.std.specs.List.{list_any, AllByRecursion};
-ghost use Rattle.wl_words.specs.Lists.{GainsFront};
+ghost use Rattle.list_laws.specs.Lists.{GainsFront};
 ghost use Rattle.h2_flow.specs.Outboxes.{Out, fresh, failing, has, is_open, is_written, is_shrunk, RisesFrom, IsLowestOver, IsAbove, added, removed, controlled, shrunk, headed, offered, withdrawn, closed_by, grown, grown_room, grown_stream, first_over, is_number, initialed, pulled, Changes};
 
 use crate::block::Block;

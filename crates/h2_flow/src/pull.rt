@@ -1,7 +1,7 @@
 //! Writing what the windows allow.
 
 ghost use Rattle.std.specs.Prelude.{◌≡◌, ◌≤◌, ◌+◌, ◌-ℤ◌, ℕ, true, false, None, Some, pos, if◌then◌else◌, List, ◌++◌, length};
-ghost use Rattle.h2_words.specs.Spelling.{frame_bytes};
+ghost use Rattle.h2_wire.specs.Spelling.{frame_bytes};
 ghost use Rattle.h2_flow.specs.Windows.{room_of, window_of};
 ghost use Rattle.h2_flow.specs.Streams.{before_block, after_block, headers_turn, data_turn, next_turn, last_turn, body_turn, turn};
 ghost use Rattle.h2_flow.specs.Pulls.{round, all_rounds, Puts, Takes, Makes};
@@ -9,7 +9,7 @@ ghost use Rattle.h2_flow.specs.Pulls.{round, all_rounds, Puts, Takes, Makes};
 use crate::block::Block;
 use crate::flow::{Flow, Update, allowed};
 use crate::stream::{Stream, left};
-use h2_words::head_of_frame;
+use h2_wire::head_of_frame;
 use wl_octets::{Memory, Octets, Row};
 
 const DATA: u8 = 0;
@@ -42,7 +42,7 @@ fn after(update: Update) -> Update
 }
 
 /// Writes one frame, whose payload comes in two parts.
-#[tactic(auto, using(wl_words::proofs::Fronts::gains_before, wl_words::proofs::Fronts::gains_after), unfolding(h2_words::specs::Spelling::frame_bytes))]
+#[tactic(auto, using(list_laws::proofs::Fronts::gains_before, list_laws::proofs::Fronts::gains_after), unfolding(h2_wire::specs::Spelling::frame_bytes))]
 fn put(
     out: &mut Octets,
     kind: u8,

@@ -6,7 +6,7 @@ use Rattle.h2_frame.specs.declared.fault.FrameFault.{FrameFault}
 use Rattle.h2_frame.specs.declared.fault.FrameFault.TheVariants as faults
 use Rattle.h2_frame.specs.declared.frame.Frame.{Frame}
 use Rattle.h2_frame.specs.Reading.{Step, partial, whole, wrong, first_frame, End, Opening, Rest, Fault, Reading, after_step, frames_in, frames_of, opened, resumed, read_on, Refuses}
-use Rattle.wl_words.proofs.Gains.{GainsUpTo, gains_more}
+use Rattle.list_laws.proofs.Gains.{GainsUpTo, gains_more}
 use Rattle.h2_frame.proofs.Fronts.{IsShorter, first_shorter, with_more, first_more}
 
 -- ---- a step without the count

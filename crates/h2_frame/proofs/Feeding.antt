@@ -1,7 +1,7 @@
 -- A piece that is fed in parts, and the bytes that a parser stands for.
 use Rattle.std.proofs.Common.{◌≡◌, ℕ, List, [], ◌++◌, take, drop, Result, Ok, Err, refl, sym, ap, ◌∙◌, append_assoc, append-nil, take-append-drop}
-use Rattle.wl_words.specs.Lists.{GainsFront}
-use Rattle.wl_words.proofs.Fronts.{gains_before, gains_after}
+use Rattle.list_laws.specs.Lists.{GainsFront}
+use Rattle.list_laws.proofs.Fronts.{gains_before, gains_after}
 use Rattle.h2_frame.specs.declared.fault.FrameFault.{FrameFault}
 use Rattle.h2_frame.specs.declared.fault.FrameFault.TheVariants as faults
 use Rattle.h2_frame.specs.declared.frame.Frame.{Frame}

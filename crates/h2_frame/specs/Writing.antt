@@ -2,7 +2,7 @@
 use Rattle.std.specs.Prelude.{◌≡◌, ℕ, ◌+◌, ◌<◌, ◌^◌, if◌then◌else◌, List, [], ◌∷◌, ◌++◌, length, flat_map}
 use Rattle.std.specs.Int.{w16, w32, w64, to_be_bytes}
 use Rattle.std.specs.List.{AllByRecursion}
-use Rattle.h2_words.specs.Spelling.{frame_bytes}
+use Rattle.h2_wire.specs.Spelling.{frame_bytes}
 use Rattle.h2_frame.specs.declared.frame.Body.{Body}
 use Rattle.h2_frame.specs.declared.frame.Body.TheVariants.{Bytes, Headers, Priority, Reset, Settings, SettingsAck, PushPromise, Ping, GoAway, WindowUpdate, Continuation, Unknown}
 use Rattle.h2_frame.specs.declared.frame.Frame.{Frame}

@@ -5,7 +5,7 @@ ghost use Rattle.h2_frame.specs.declared.fault.FrameFault.{FrameFault};
 ghost use Rattle.h2_frame.specs.declared.stage.Stage.TheVariants.{Frames};
 ghost use Rattle.h2_frame.specs.Reading.{End, Opening, Rest, Fault, preface, frames_of, resumed, Refuses, Feeds, StandsFor};
 ghost use Rattle.h2_frame.specs.Parsing.{ending_of, IsWithin};
-ghost use Rattle.wl_words.specs.Lists.{GainsFront};
+ghost use Rattle.list_laws.specs.Lists.{GainsFront};
 
 use crate::fault::FrameFault;
 use crate::frame::Frame;

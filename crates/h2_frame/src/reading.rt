@@ -3,7 +3,7 @@
 ghost use Rattle.std.specs.Prelude.{◌≡◌, ◌≤◌, length, drop, IfOk, IfErr, OnOk, ◌++◌};
 ghost use Rattle.h2_frame.specs.declared.fault.FrameFault.{FrameFault};
 ghost use Rattle.h2_frame.specs.Reading.{Steps, Refuses, Rest, Fault, frames_of};
-ghost use Rattle.wl_words.specs.Lists.{GainsFront};
+ghost use Rattle.list_laws.specs.Lists.{GainsFront};
 
 use crate::fault::FrameFault;
 use crate::frame::Frame;

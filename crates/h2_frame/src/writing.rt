@@ -3,18 +3,18 @@
 ghost use Rattle.std.specs.Prelude.{◌≡◌, ◌≤◌, ◌<◌, ◌^◌, ℕ, if◌then◌else◌, List, flat_map, length, OnOk, nat_le, ◌++◌};
 ghost use Rattle.h2_frame.specs.Reading.{first_frame, whole};
 ghost use Rattle.h2_frame.specs.Writing.{spelling, payload_of, kind_of, flags_of, setting_bytes, IsWritable};
-ghost use Rattle.wl_words.specs.Lists.{GainsFront};
+ghost use Rattle.list_laws.specs.Lists.{GainsFront};
 
 use crate::frame::{Body, Frame, Setting};
 use crate::head::{ACK, END_HEADERS, END_STREAM};
-use h2_words::head_of_frame;
+use h2_wire::head_of_frame;
 use wl_octets::{Memory, Octets};
 
 /// Writes one frame behind what `out` holds, without padding and priority fields. A frame
 /// of PUSH_PROMISE or of an unknown type gets an empty payload, and PRIORITY five zeros.
 ///
 /// Its payload has at most 16,384 bytes, which any peer takes (RFC 9113, section 4.2).
-#[tactic(auto, using(crate::proofs::Spelled::read_again), unfolding(crate::specs::Writing::spelling, h2_words::specs::Spelling::frame_bytes))]
+#[tactic(auto, using(crate::proofs::Spelled::read_again), unfolding(crate::specs::Writing::spelling, h2_wire::specs::Spelling::frame_bytes))]
 pub fn put_frame(out: &mut Octets, frame: &Frame) -> Result<(), Memory>
     requires { length (payload_of frame.now.body) ≤ 16384 }
     ensures ok { OnOk result (out.new ≡ out.old ++ spelling frame.now) }

@@ -7,7 +7,7 @@ use Rattle.std.proofs.Common.{arith, refl, subst}
 use Rattle.std.proofs.lemmas.Slice.Eq.{bytes_eq-Decides}
 use Rattle.std.proofs.lemmas.Bool.{and_parts}
 use Rattle.std.proofs.lemmas.Bool.Decides.{nat_tests}
-use Rattle.wl_keyed.proofs.Chosen.{all_append}
+use Rattle.sorted_lists.proofs.Chosen.{all_append}
 use Rattle.wl_entry.specs.Same.{same_ask}
 use Rattle.wl_entry.specs.Fitness.{is_still_fresh}
 use Rattle.wl_entry.specs.declared.asks.Ask.{Ask}

@@ -11,16 +11,16 @@ use Rattle.std.proofs.lemmas.Map.Text.{is_eq-slice_cmp}
 use Rattle.std.proofs.lemmas.List.{take-append-drop, drop_more, take_more, take_all, drop_all, get_or_default}
 use Rattle.std.proofs.lemmas.List.Edits.{map_over_more}
 use Rattle.std.proofs.lemmas.List.Elements.{filter-append}
-use Rattle.wl_words.specs.Lists.{Rises}
+use Rattle.list_laws.specs.Lists.{Rises}
 use Rattle.wl_entry.specs.Fitness.{is_half_over}
 use Rattle.wl_entry.specs.Keys.{ask_key}
 use Rattle.wl_entry.specs.Same.{same_ask}
 use Rattle.wl_entry.specs.declared.asks.Ask.{Ask}
 use Rattle.wl_entry.specs.declared.signing.Signed.{Signed}
 use Rattle.wl_entry.specs.declared.signing.Svid.{Svid}
-use Rattle.wl_keyed.specs.Keys.{item_at}
-use Rattle.wl_keyed.proofs.Chosen.{all_append, all_such}
-use Rattle.wl_keyed.proofs.Halving.{order, not_same, turned}
+use Rattle.sorted_lists.specs.Keys.{item_at}
+use Rattle.sorted_lists.proofs.Chosen.{all_append, all_such}
+use Rattle.sorted_lists.proofs.Halving.{order, not_same, turned}
 use Rattle.svid_cache.proofs.Keeping.{same_entry_id}
 use Rattle.svid_cache.specs.Caches.{kept_for, is_due, lasts, is_below, is_above, put}
 use Rattle.svid_cache.specs.Queue.{half_second, first_second, NotBefore, OthersNotBefore, Filed, NoneBelow, cleared}

@@ -7,13 +7,13 @@ use Rattle.std.specs.Ordering.{nat_cmp}
 use Rattle.std.specs.Cmp.Lexicographic.{slice_cmp}
 use Rattle.std.proofs.Common.{Less, arith, refl, sym, ◌∙◌, ap, subst}
 use Rattle.std.proofs.lemmas.Slice.Eq.{bytes_eq-Decides}
-use Rattle.wl_words.specs.Lists.{Rises}
+use Rattle.list_laws.specs.Lists.{Rises}
 use Rattle.wl_entry.specs.Keys.{ask_key, svid_key}
 use Rattle.wl_entry.specs.Same.{same_ask}
 use Rattle.wl_entry.specs.declared.asks.Ask.{Ask}
 use Rattle.wl_entry.specs.declared.signing.Svid.{Svid}
-use Rattle.wl_keyed.specs.Keys.{item_at}
-use Rattle.wl_keyed.proofs.Found.{level_self}
+use Rattle.sorted_lists.specs.Keys.{item_at}
+use Rattle.sorted_lists.proofs.Found.{level_self}
 use Rattle.svid_cache.specs.Caches.{only, is_listed, kept_for}
 
 -- whether there is one that passes

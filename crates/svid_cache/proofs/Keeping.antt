@@ -9,14 +9,14 @@ use Rattle.std.proofs.Common.{Ordering, Less, Equal, Greater, arith, refl, sym, 
 use Rattle.std.proofs.lemmas.Slice.Eq.{bytes_eq-Decides}
 use Rattle.std.proofs.lemmas.Bool.{and_parts}
 use Rattle.std.proofs.lemmas.Bool.Decides.{nat_tests}
-use Rattle.wl_words.specs.Lists.{Rises}
+use Rattle.list_laws.specs.Lists.{Rises}
 use Rattle.wl_entry.specs.Keys.{ask_key, svid_key}
 use Rattle.wl_entry.specs.Limits.{SignedWithin}
 use Rattle.wl_entry.specs.Same.{same_ask}
 use Rattle.wl_entry.specs.declared.asks.Ask.{Ask}
 use Rattle.wl_entry.specs.declared.signing.Svid.{Svid}
-use Rattle.wl_keyed.proofs.Chosen.{all_append, all_filter, keys_append, rises_filter}
-use Rattle.wl_keyed.proofs.Found.{level_self}
+use Rattle.sorted_lists.proofs.Chosen.{all_append, all_filter, keys_append, rises_filter}
+use Rattle.sorted_lists.proofs.Found.{level_self}
 use Rattle.wl_entry.specs.declared.signing.Signed.{Signed}
 use Rattle.wl_entry.specs.declared.unfit.Unfit.{Unfit}
 use Rattle.wl_entry.specs.declared.unfit.Unfit.TheVariants as unfit

@@ -1,12 +1,12 @@
 //! Finding an ask by its entry.
 
 ghost use Rattle.std.specs.Prelude.{◌≡◌, map};
-ghost use Rattle.wl_words.specs.Lists.{Rises};
+ghost use Rattle.list_laws.specs.Lists.{Rises};
 ghost use Rattle.wl_entry.specs.Keys.{ask_key};
 ghost use Rattle.svid_cache.specs.Caches.{is_listed};
 
 use wl_entry::Ask;
-use wl_keyed::find_by_key;
+use sorted_lists::find_by_key;
 
 /// Whether the ask is among these, by halving.
 #[tactic(auto, using(crate::proofs::Finding::listed_found))]

@@ -1,7 +1,7 @@
 //! The cache.
 
 ghost use Rattle.std.specs.Prelude.{◌≡◌, ◌+◌, ◌<◌, ◌^◌, true, false, [], length, map, min, IfOk, OnOk, OnErr};
-ghost use Rattle.wl_words.specs.Lists.{Rises};
+ghost use Rattle.list_laws.specs.Lists.{Rises};
 ghost use Rattle.wl_entry.specs.Limits.{SignedWithin};
 ghost use Rattle.wl_entry.specs.Keys.{ask_key};
 ghost use Rattle.svid_cache.specs.Caches.{is_listed, due_asks, synced, has_ended, swept, install, after, IsCached};

@@ -1,7 +1,7 @@
 //! Lists of kept SVIDs.
 
 ghost use Rattle.std.specs.Prelude.{◌≡◌, Some, map, filter, IfOk, option_map, option_copied};
-ghost use Rattle.wl_words.specs.Lists.{Rises};
+ghost use Rattle.list_laws.specs.Lists.{Rises};
 ghost use Rattle.wl_entry.specs.Keys.{ask_key, svid_key};
 ghost use Rattle.wl_entry.specs.Same.{same_ask};
 ghost use Rattle.svid_cache.specs.Caches.{only, is_listed, kept_for, is_due, is_below, is_above, put, unless_older};
@@ -10,7 +10,7 @@ use crate::asks::lists;
 use crate::install::Installed;
 use std::alloc::Global;
 use wl_entry::{Ask, Signed, Svid};
-use wl_keyed::find_by_key;
+use sorted_lists::find_by_key;
 use wl_octets::{Memory, Octets, Shared};
 
 /// The SVID, where it was signed for this ask.

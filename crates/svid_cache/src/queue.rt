@@ -3,7 +3,7 @@
 
 ghost use Rattle.std.specs.Prelude.{◌≡◌, ◌≤◌, ◌<◌, ◌++◌, ℕ, nat_le, take, drop, map, filter, length, IfOk, OnOk};
 ghost use Rattle.std.specs.List.{AllByRecursion};
-ghost use Rattle.wl_words.specs.Lists.{Rises};
+ghost use Rattle.list_laws.specs.Lists.{Rises};
 ghost use Rattle.wl_entry.specs.Fitness.{is_half_over};
 ghost use Rattle.wl_entry.specs.Keys.{ask_key, svid_key};
 ghost use Rattle.svid_cache.specs.Caches.{is_due};
@@ -12,7 +12,7 @@ ghost use Rattle.svid_cache.specs.Queue.{half_second, first_second, NotBefore, O
 use crate::kept::{due_at, find_kept};
 use std::alloc::Global;
 use wl_entry::{Ask, Signed, Svid};
-use wl_keyed::find_by_key;
+use sorted_lists::find_by_key;
 use wl_octets::{Memory, Octets, Row, Shared};
 
 /// The first second at which half of its time is over.

@@ -1,7 +1,7 @@
 //! Asks, due times, what is kept and what is not.
 
 ghost use Rattle.std.specs.Prelude.{◌<◌, ◌^◌, length, map, IfOk};
-ghost use Rattle.wl_words.specs.Lists.{Rises};
+ghost use Rattle.list_laws.specs.Lists.{Rises};
 ghost use Rattle.wl_entry.specs.Keys.{ask_key};
 
 use crate::queue::{due_of, file_all};

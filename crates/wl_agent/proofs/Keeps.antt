@@ -7,10 +7,10 @@ use Rattle.std.specs.Cmp.Lexicographic.{slice_cmp}
 use Rattle.std.specs.Cmp.{nat_eq_equiv}
 use Rattle.std.specs.Cmp.Lexicographic.{nat_list_eq_equiv, lists_equiv}
 use Rattle.std.proofs.Common.{Less, arith, refl, sym, ◌∙◌, ap, subst}
-use Rattle.wl_words.specs.Lists.{Rises}
-use Rattle.wl_keyed.specs.Keys.{item_at}
-use Rattle.wl_keyed.proofs.Chosen.{all_append, keys_append}
-use Rattle.wl_keyed.proofs.Found.{found_has, found_all}
+use Rattle.list_laws.specs.Lists.{Rises}
+use Rattle.sorted_lists.specs.Keys.{item_at}
+use Rattle.sorted_lists.proofs.Chosen.{all_append, keys_append}
+use Rattle.sorted_lists.proofs.Found.{found_has, found_all}
 use Rattle.wl_entry.specs.Asks.{ask_of, is_ask_of}
 use Rattle.wl_entry.specs.Fitness.{signed_unfit}
 use Rattle.wl_entry.specs.Keys.{entry_key, svid_key, bundle_key}

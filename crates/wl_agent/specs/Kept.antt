@@ -2,7 +2,7 @@
 -- at their own first second (own rule).
 use Rattle.std.specs.Prelude.{ℕ, Bool, if◌then◌else◌, List, [], ◌∷◌, Option, Some, None, is_none}
 use Rattle.std.specs.List.{flat_map}
-use Rattle.wl_keyed.specs.Keys.{item_at}
+use Rattle.sorted_lists.specs.Keys.{item_at}
 use Rattle.wl_entry.specs.Asks.{ask_of}
 use Rattle.wl_entry.specs.Fitness.{signed_unfit}
 use Rattle.wl_entry.specs.Keys.{entry_key}

@@ -18,7 +18,7 @@ use Rattle.wl_document.specs.Checks.{◌>>=◌}
 use Rattle.wl_document.specs.Arrays.{each_from, at_end, was_given, put_by, ascending_onto, ascending}
 use Rattle.wl_document.specs.Bundles.{bundle_of, read_bundles, bundles_of}
 use Rattle.wl_document.specs.Entries.{entry_of, read_entries, entries_of}
-use Rattle.wl_keyed.specs.Keys.{item_at}
+use Rattle.sorted_lists.specs.Keys.{item_at}
 use Rattle.wl_entry.specs.Keys.{bundle_key, entry_key}
 use Rattle.wl_document.specs.Svids.{svid_of, doc_svid_key, read_svids, svids_of}
 use Rattle.wl_document.specs.States.{State}

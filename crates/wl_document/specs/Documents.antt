@@ -9,7 +9,7 @@ use Rattle.wl_document.specs.Checks.{◌>>=◌, or_fault}
 use Rattle.wl_document.specs.Places.{at_top}
 use Rattle.wl_document.specs.Members.{object_at, number_of, domain_of, list_of, list_or_empty}
 use Rattle.wl_document.specs.Bundles.{bundles_of}
-use Rattle.wl_keyed.specs.Keys.{item_at}
+use Rattle.sorted_lists.specs.Keys.{item_at}
 use Rattle.wl_entry.specs.Keys.{bundle_key}
 use Rattle.wl_document.specs.Entries.{entries_of}
 use Rattle.wl_document.specs.Svids.{svids_of}

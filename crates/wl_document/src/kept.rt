@@ -2,7 +2,7 @@
 
 ghost use Rattle.std.specs.Prelude.{◌≡◌, ℕ, ◌+◌, ◌≤◌, length, IfOk, IfErr, OnOk, option_map};
 ghost use Rattle.std.specs.Map.{keys_of, values_of};
-ghost use Rattle.wl_words.specs.Lists.{Rises};
+ghost use Rattle.list_laws.specs.Lists.{Rises};
 ghost use Rattle.wl_document.specs.Kept.{kept_has, put, kept_at};
 ghost use Rattle.wl_document.specs.declared.fault.DocFault.TheVariants.{Memory};
 

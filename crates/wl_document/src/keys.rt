@@ -3,7 +3,7 @@
 ghost use Rattle.wl_document.specs.Svids.{doc_svid_key};
 
 use crate::state::DocSvid;
-use wl_keyed::Keyed;
+use sorted_lists::Keyed;
 
 impl Keyed for DocSvid {
     ghost key = { doc_svid_key };

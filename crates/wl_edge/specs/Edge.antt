@@ -1,6 +1,6 @@
 -- The outside: what a source gives and a sink takes, and their counts of faults (own rules).
 use Rattle.std.specs.Prelude.{◌≡◌, ◌⊎◌, ℕ, ◌+◌, ◌<◌, ◌≤◌, ◌^◌, Bool, true, false, List, [], ◌++◌, length, take, drop, Option, Some, IfSome}
-use Rattle.wl_words.specs.Lists.{BeginsWith}
+use Rattle.list_laws.specs.Lists.{BeginsWith}
 use Rattle.wl_edge.specs.declared.source.Taken.{Taken}
 use Rattle.wl_edge.specs.declared.source.Taken.TheVariants.{Got, End, Failed}
 use Rattle.wl_edge.specs.declared.sink.Sent.{Sent}

@@ -6,7 +6,7 @@ use crate::asks::Ask;
 use crate::bundles::Bundle;
 use crate::entries::Entry;
 use crate::signing::Svid;
-use wl_keyed::Keyed;
+use sorted_lists::Keyed;
 
 impl Keyed for Entry {
     ghost key = { entry_key };

@@ -1,7 +1,7 @@
 //! Tokens of entries whose ask was changed or removed.
 
 ghost use Rattle.std.specs.Prelude.{◌≡◌, ℕ, List, [], if◌then◌else◌, map, IfOk};
-ghost use Rattle.wl_words.specs.Lists.{Rises};
+ghost use Rattle.list_laws.specs.Lists.{Rises};
 ghost use Rattle.wl_selector.specs.Selectors.{has_text};
 ghost use Rattle.wl_store.specs.Stores.{asks_of};
 ghost use Rattle.jwt_cache.specs.Rings.{kept_for};

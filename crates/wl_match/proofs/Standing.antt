@@ -5,9 +5,9 @@ use Rattle.std.specs.List.{AllByRecursion}
 use Rattle.std.specs.List.Sorted.{IsStrictlySortedBy}
 use Rattle.std.specs.Cmp.Lexicographic.{bytes_decides}
 use Rattle.std.proofs.lemmas.Bool.Decides.{nat_tests}
-use Rattle.wl_words.specs.Lists.{Rises}
-use Rattle.wl_keyed.specs.Keys.{place_at}
-use Rattle.wl_keyed.proofs.Halving.{order, not_same, turned}
+use Rattle.list_laws.specs.Lists.{Rises}
+use Rattle.sorted_lists.specs.Keys.{place_at}
+use Rattle.sorted_lists.proofs.Halving.{order, not_same, turned}
 use Rattle.wl_entry.specs.Keys.{entry_key}
 use Rattle.wl_entry.specs.declared.entries.Entry.{Entry}
 

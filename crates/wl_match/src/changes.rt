@@ -5,7 +5,7 @@ ghost use Rattle.std.specs.Map.{keys_of, values_of};
 ghost use Rattle.std.specs.List.Sorted.{IsStrictlySortedBy};
 ghost use Rattle.std.specs.Ordering.{nat_cmp};
 ghost use Rattle.std.specs.Cmp.Lexicographic.{slice_cmp};
-ghost use Rattle.wl_words.specs.Lists.{Rises};
+ghost use Rattle.list_laws.specs.Lists.{Rises};
 ghost use Rattle.wl_entry.specs.Keys.{entry_key};
 ghost use Rattle.wl_entry.specs.declared.entries.Entry.{Entry};
 ghost use Rattle.wl_match.specs.Changes.{put_entry, changed_by, changed_entries, by_id};

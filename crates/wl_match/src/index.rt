@@ -4,7 +4,7 @@ ghost use Rattle.std.specs.Prelude.{◌≡◌, ◌<◌, ◌+◌, ◌^◌, map, f
 ghost use Rattle.std.specs.List.{All};
 ghost use Rattle.std.specs.List.Sorted.{IsStrictlySortedBy};
 ghost use Rattle.std.specs.Ordering.{nat_cmp};
-ghost use Rattle.wl_words.specs.Lists.{Rises};
+ghost use Rattle.list_laws.specs.Lists.{Rises};
 ghost use Rattle.wl_entry.specs.Keys.{entry_key};
 ghost use Rattle.wl_entry.specs.Entitled.{is_entitled};
 ghost use Rattle.wl_match.specs.Indexes.{entitled_places, items_at};

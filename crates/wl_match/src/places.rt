@@ -5,7 +5,7 @@ ghost use Rattle.std.specs.BTreeSet.{contains};
 ghost use Rattle.std.specs.Ordering.{nat_cmp};
 ghost use Rattle.std.specs.List.{flat_map};
 ghost use Rattle.std.specs.List.Sorted.{IsStrictlySortedBy};
-ghost use Rattle.wl_words.specs.Lists.{Rises};
+ghost use Rattle.list_laws.specs.Lists.{Rises};
 ghost use Rattle.wl_entry.specs.Keys.{entry_key};
 ghost use Rattle.wl_match.specs.Indexes.{entitled_places};
 ghost use Rattle.wl_match.specs.Postings.{is_hit, ids_at, posting_key, IsIndex};
@@ -14,7 +14,7 @@ use crate::postings::{Posting, ids_at};
 use std::alloc::Global;
 use std::collections::BTreeSet;
 use wl_entry::Entry;
-use wl_keyed::place_by_key;
+use sorted_lists::place_by_key;
 use wl_octets::{Memory, Octets, Row, Shared};
 use wl_selector::Selectors;
 

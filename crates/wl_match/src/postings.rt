@@ -6,13 +6,13 @@ ghost use Rattle.std.specs.Map.{keys_of};
 ghost use Rattle.std.specs.List.Sorted.{IsStrictlySortedBy};
 ghost use Rattle.std.specs.Ordering.{nat_cmp};
 ghost use Rattle.std.specs.Cmp.Lexicographic.{slice_cmp};
-ghost use Rattle.wl_words.specs.Lists.{Rises};
+ghost use Rattle.list_laws.specs.Lists.{Rises};
 ghost use Rattle.wl_match.specs.Postings.{posting_key, posting_of, first_text, ids_under, ids_at};
 
 use std::alloc::Global;
 use std::collections::BTreeMap;
 use wl_entry::Entry;
-use wl_keyed::{Keyed, find_by_key};
+use sorted_lists::{Keyed, find_by_key};
 use wl_octets::{Memory, Octets, Row, Shared};
 
 /// The ids of the entries that are filed under a selector.

@@ -8,7 +8,7 @@ use Rattle.workload_proto.specs.declared.message.MapItem.{MapItem}
 use Rattle.workload_proto.specs.declared.message.BundlesResponse.{BundlesResponse}
 use Rattle.workload_proto.specs.declared.message.JwtBundlesResponse.{JwtBundlesResponse}
 use Rattle.workload_proto.specs.Spelling.{spell_x509, spell_bundles, spell_jwt_bundles, capped}
-use Rattle.wl_keyed.specs.Keys.{item_at}
+use Rattle.sorted_lists.specs.Keys.{item_at}
 use Rattle.wl_entry.specs.Asks.{ask_of}
 use Rattle.wl_entry.specs.Keys.{bundle_key}
 use Rattle.wl_entry.specs.declared.entries.Entry.{Entry}

@@ -1,8 +1,8 @@
 -- Publications, and the facts that every one has (own rules after the SPIRE agent).
 use Rattle.std.specs.Prelude.{◌≡◌, ℕ, ◌≤◌, true, List, map, length, IsSomeAnd}
 use Rattle.std.specs.List.{AllByRecursion}
-use Rattle.wl_words.specs.Lists.{Rises}
-use Rattle.wl_keyed.specs.Keys.{item_at}
+use Rattle.list_laws.specs.Lists.{Rises}
+use Rattle.sorted_lists.specs.Keys.{item_at}
 use Rattle.wl_entry.specs.Asks.{is_ask_of}
 use Rattle.wl_entry.specs.Keys.{entry_key, svid_key, bundle_key}
 use Rattle.wl_entry.specs.Limits.{EntryWithin, BundleWithin, SignedWithin}

@@ -2,8 +2,8 @@
 use Rattle.std.specs.Prelude.{◌≡◌, ℕ, ◌≤◌, ◌||◌, Bool, true, List, map, filter, length, Some, is_some, IfSome, option_to_list, slice_get}
 use Rattle.std.specs.Str.{bytes_eq}
 use Rattle.std.specs.List.{list_all, list_any, flat_map, AllByRecursion}
-use Rattle.wl_words.specs.Lists.{Rises}
-use Rattle.wl_keyed.specs.Keys.{item_at}
+use Rattle.list_laws.specs.Lists.{Rises}
+use Rattle.sorted_lists.specs.Keys.{item_at}
 use Rattle.wl_entry.specs.Asks.{is_ask_of}
 use Rattle.wl_entry.specs.Entitled.{is_entitled}
 use Rattle.wl_entry.specs.Keys.{entry_key, svid_key, bundle_key}

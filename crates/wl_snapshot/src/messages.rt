@@ -9,7 +9,7 @@ use crate::answers::Method3;
 use crate::seen::{Held, View};
 use std::alloc::Global;
 use wl_entry::Bundle;
-use wl_keyed::find_by_key;
+use sorted_lists::find_by_key;
 use wl_octets::{Memory, Octets, Shared};
 use workload_proto::{put_map_item, put_x509_item};
 

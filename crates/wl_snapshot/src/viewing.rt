@@ -5,7 +5,7 @@ ghost use Rattle.std.specs.Str.{bytes_eq};
 ghost use Rattle.std.specs.List.{list_any};
 ghost use Rattle.std.specs.List.Sorted.{IsStrictlySortedBy};
 ghost use Rattle.std.specs.Ordering.{nat_cmp};
-ghost use Rattle.wl_words.specs.Lists.{Rises};
+ghost use Rattle.list_laws.specs.Lists.{Rises};
 ghost use Rattle.wl_entry.specs.Entitled.{is_entitled};
 ghost use Rattle.wl_entry.specs.Keys.{entry_key, svid_key, bundle_key};
 ghost use Rattle.wl_snapshot.specs.Views.{view_in, sight_of, entries_at, held_of, is_federated, is_seen, ChosenFrom};
@@ -15,7 +15,7 @@ use crate::snapshot::Snapshot;
 use spiffe_id::TrustDomain;
 use std::alloc::Global;
 use wl_entry::{Bundle, Entry, Svid};
-use wl_keyed::{find_by_key, mark_key};
+use sorted_lists::{find_by_key, mark_key};
 use wl_octets::{Memory, Row, Shared};
 use wl_selector::Selectors;
 

@@ -1,8 +1,8 @@
 -- The asks of entries rise as the entries do.
 use Rattle.std.specs.Prelude.{◌≡◌, List, map}
 use Rattle.std.proofs.Common.{refl, sym, subst}
-use Rattle.wl_words.specs.Lists.{Rises}
-use Rattle.wl_keyed.proofs.Chosen.{rises_map}
+use Rattle.list_laws.specs.Lists.{Rises}
+use Rattle.sorted_lists.proofs.Chosen.{rises_map}
 use Rattle.wl_entry.specs.Asks.{ask_of}
 use Rattle.wl_entry.specs.Keys.{entry_key}
 use Rattle.wl_entry.specs.declared.asks.Ask.{Ask}

@@ -1,7 +1,7 @@
 -- A store: what is kept, and the last publication.
 use Rattle.std.specs.Prelude.{◌≡◌, ℕ, ◌≤◌, Bool, true, false, if◌then◌else◌, List, map, length, Option, Some, None}
 use Rattle.std.specs.List.{AllByRecursion}
-use Rattle.wl_words.specs.Lists.{Rises}
+use Rattle.list_laws.specs.Lists.{Rises}
 use Rattle.wl_entry.specs.Keys.{entry_key, bundle_key}
 use Rattle.wl_entry.specs.Limits.{EntryWithin, BundleWithin}
 use Rattle.wl_entry.specs.declared.asks.Ask.{Ask}

@@ -1,7 +1,7 @@
 //! Lists of entries, bundles and SVIDs, which share what did not change.
 
 ghost use Rattle.std.specs.Prelude.{◌≡◌, ◌≤◌, [], map, length, IfOk};
-ghost use Rattle.wl_words.specs.Lists.{Rises};
+ghost use Rattle.list_laws.specs.Lists.{Rises};
 ghost use Rattle.wl_entry.specs.Asks.{ask_of};
 ghost use Rattle.wl_entry.specs.Keys.{entry_key, bundle_key};
 ghost use Rattle.svid_cache.specs.Caches.{synced};
@@ -10,7 +10,7 @@ ghost use Rattle.wl_store.specs.Stores.{asks_of};
 use std::alloc::Global;
 use svid_cache::Cache;
 use wl_entry::{Ask, Bundle, Entry, Svid};
-use wl_keyed::find_by_key;
+use sorted_lists::find_by_key;
 use wl_match::Index;
 use wl_octets::{Memory, Row, Shared};
 

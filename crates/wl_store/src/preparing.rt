@@ -1,7 +1,7 @@
 //! Steps that are prepared, and adopted.
 
 ghost use Rattle.std.specs.Prelude.{◌≡◌, ◌+◌, ◌≤◌, [], map, length, Some, None, option_map, IfOk, IfErr, IsOkAnd};
-ghost use Rattle.wl_words.specs.Lists.{Rises};
+ghost use Rattle.list_laws.specs.Lists.{Rises};
 ghost use Rattle.wl_entry.specs.Keys.{entry_key};
 ghost use Rattle.svid_cache.specs.Caches.{synced};
 ghost use Rattle.wl_document.specs.Checks.{Faults};

@@ -1,6 +1,6 @@
 use Rattle.std.proofs.Common.{drop, arith, sym, ap, ◌∙◌}
 use Rattle.std.proofs.lemmas.List.{length-drop}
-use Rattle.wl_words.proofs.Gains.{gains_whole}
+use Rattle.list_laws.proofs.Gains.{gains_whole}
 use Rattle.grpc_wire.proofs.Cuts.{messages_more, ending_more, messages_end, messages_wrong, refuses_map}
 use Rattle.grpc_wire.proofs.reading.messages.Goals as goal
 

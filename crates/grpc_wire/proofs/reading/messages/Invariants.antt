@@ -1,6 +1,6 @@
 use Rattle.std.proofs.Common.{◌≡◌, ◌≤◌, length, drop, ◌-◌}
 use Rattle.grpc_wire.specs.Messages.{messages_of}
-use Rattle.wl_words.proofs.Gains.{GainsUpTo}
+use Rattle.list_laws.proofs.Gains.{GainsUpTo}
 use Rattle.grpc_wire.proofs.reading.messages.Given as goal
 
 abbrev pub invariant-each : goal.invariant-each

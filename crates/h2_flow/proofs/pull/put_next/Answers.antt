@@ -1,5 +1,5 @@
 use Rattle.std.proofs.Common.{refl, sym}
-use Rattle.wl_words.proofs.Fronts.{gains_nothing}
+use Rattle.list_laws.proofs.Fronts.{gains_nothing}
 use Rattle.h2_flow.proofs.Numbers.{number_next}
 use Rattle.h2_flow.proofs.pull.put_next.Goals as goal
 

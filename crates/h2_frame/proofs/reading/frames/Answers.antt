@@ -1,6 +1,6 @@
 use Rattle.std.proofs.Common.{drop, arith, sym, ap, ◌∙◌}
 use Rattle.std.proofs.lemmas.List.{length-drop}
-use Rattle.wl_words.proofs.Gains.{gains_whole}
+use Rattle.list_laws.proofs.Gains.{gains_whole}
 use Rattle.h2_frame.proofs.Cuts.{frames_more, ending_more, frames_end, frames_wrong, refuses_map}
 use Rattle.h2_frame.proofs.reading.frames.Goals as goal
 

@@ -1,6 +1,6 @@
 use Rattle.std.proofs.Common.{◌≡◌, ◌≤◌, length, drop, ◌-◌}
 use Rattle.h2_frame.specs.Reading.{frames_of}
-use Rattle.wl_words.proofs.Gains.{GainsUpTo}
+use Rattle.list_laws.proofs.Gains.{GainsUpTo}
 use Rattle.h2_frame.proofs.reading.frames.Given as goal
 
 abbrev pub invariant-each : goal.invariant-each

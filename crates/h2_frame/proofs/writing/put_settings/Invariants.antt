@@ -1,6 +1,6 @@
 use Rattle.std.proofs.Common.{flat_map, drop}
 use Rattle.h2_frame.specs.Writing.{setting_bytes}
-use Rattle.wl_words.proofs.Gains.{GainsUpTo}
+use Rattle.list_laws.proofs.Gains.{GainsUpTo}
 use Rattle.h2_frame.proofs.writing.put_settings.Given as goal
 
 abbrev pub invariant-loop-pair : goal.invariant-loop-pair

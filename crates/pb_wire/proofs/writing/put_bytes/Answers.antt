@@ -1,7 +1,7 @@
 use Rattle.std.proofs.Common.{length}
 use Rattle.std.proofs.lemmas.Result.{err_from_is_err_and}
 use Rattle.pb_wire.specs.Spelling.{head}
-use Rattle.wl_words.proofs.Fronts.{gains_before}
+use Rattle.list_laws.proofs.Fronts.{gains_before}
 use Rattle.pb_wire.proofs.writing.put_bytes.Goals as goal
 
 pub returns-in_err-put_head-clause-err : goal.returns-in_err-put_head-clause-err

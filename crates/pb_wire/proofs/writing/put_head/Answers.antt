@@ -1,7 +1,7 @@
 use Rattle.std.proofs.Common.{◌≡◌, ◌+◌, ◌*◌}
 use Rattle.std.proofs.lemmas.Result.{err_from_is_err_and}
 use Rattle.pb_wire.specs.Varint.{varint}
-use Rattle.wl_words.proofs.Fronts.{gains_before}
+use Rattle.list_laws.proofs.Fronts.{gains_before}
 use Rattle.pb_wire.proofs.writing.put_head.Goals as goal
 
 pub returns-in_err-put_varint-clause-err : goal.returns-in_err-put_varint-clause-err

@@ -1,7 +1,7 @@
 use Rattle.std.proofs.Common.{◌<◌, ◌≤◌, ◌+◌, ◌++◌, ◌∷◌, [], map, drop, length, arith, sym, subst}
 use Rattle.std.specs.Prelude.{slice_index_or}
 use Rattle.std.specs.List.{AllByRecursion}
-use Rattle.wl_words.specs.Lists.{Rises}
+use Rattle.list_laws.specs.Lists.{Rises}
 use Rattle.wl_entry.specs.Keys.{ask_key}
 use Rattle.svid_cache.specs.Queue.{Filed, NotBefore, OthersNotBefore}
 use Rattle.svid_cache.proofs.Filing.{FiledUpTo, filed_next, no_rest, up_to_more, up_to_end, rises_take, rises_drop}

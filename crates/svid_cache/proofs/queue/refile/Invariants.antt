@@ -1,5 +1,5 @@
 use Rattle.std.proofs.Common.{drop, map}
-use Rattle.wl_words.specs.Lists.{Rises}
+use Rattle.list_laws.specs.Lists.{Rises}
 use Rattle.wl_entry.specs.Keys.{ask_key}
 use Rattle.svid_cache.specs.Queue.{Filed, NotBefore, OthersNotBefore}
 use Rattle.svid_cache.proofs.Filing.{FiledUpTo}

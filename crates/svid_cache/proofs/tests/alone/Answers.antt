@@ -1,6 +1,6 @@
 use Rattle.wl_entry.specs.Keys.{ask_key}
 use Rattle.std.proofs.Common.{◌≡◌, ◌++◌, ◌∷◌, [], map, sym, ◌∙◌, ap, subst}
-use Rattle.wl_words.specs.Lists.{Rises}
+use Rattle.list_laws.specs.Lists.{Rises}
 use Rattle.svid_cache.proofs.Keeping.{alone_rises}
 use Rattle.svid_cache.proofs.tests.alone.Goals as goal
 

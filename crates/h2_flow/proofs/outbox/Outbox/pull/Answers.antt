@@ -1,7 +1,7 @@
 use Rattle.std.proofs.Common.{◌++◌, map, ap, ◌∙◌}
 use Rattle.h2_flow.specs.declared.stream.Stream.{Stream}
 use Rattle.h2_flow.specs.Outboxes.{pulled}
-use Rattle.wl_words.proofs.Fronts.{gains_after}
+use Rattle.list_laws.proofs.Fronts.{gains_after}
 use Rattle.h2_flow.proofs.Numbers.{numbers_all}
 use Rattle.h2_flow.proofs.Orders.{rises_lent}
 use Rattle.h2_flow.proofs.outbox.Outbox.pull.Goals as goal

@@ -1,5 +1,5 @@
 use Rattle.std.proofs.Common.{◌≡◌, true, map, sym, ◌∙◌, ap, subst}
-use Rattle.wl_words.specs.Lists.{Rises}
+use Rattle.list_laws.specs.Lists.{Rises}
 use Rattle.wl_entry.specs.Keys.{svid_key}
 use Rattle.svid_cache.specs.Caches.{IsCached, is_listed, put}
 use Rattle.svid_cache.specs.Inside.{told}
