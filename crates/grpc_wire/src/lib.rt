@@ -8,6 +8,7 @@
 mod answers;
 mod fault;
 mod head;
+mod laws;
 mod messages;
 mod method;
 mod prefix;
@@ -19,7 +20,8 @@ mod tests;
 pub use answers::{refusal_fields, response_head, trailers};
 pub use fault::MessageFault;
 pub use head::{HeadVerdict, judge_head};
+pub use laws::{bodies_are_framed, cut_anywhere, prefixes_stay};
 pub use messages::{Messages, message_prefix, put_message};
 pub use method::Method;
-pub use prefix::{judge_prefix, prefixes_stay};
+pub use prefix::judge_prefix;
 pub use refusal::Refusal;

@@ -1,7 +1,6 @@
 //! The five bytes before a message.
 
-ghost use Rattle.std.specs.Prelude.{◌≡◌, ◌⊎◌, ℕ, ◌<◌, ◌≤◌, ◌++◌, List, length, Ok, Err, None, IfOk, OnSome, IfSome};
-ghost use Rattle.grpc_wire.specs.declared.fault.MessageFault.TheVariants as faults;
+ghost use Rattle.std.specs.Prelude.{◌≡◌, ◌≤◌, length, IfOk, OnSome, IfSome};
 ghost use Rattle.grpc_wire.specs.Messages.{prefix_of};
 
 use crate::fault::MessageFault;
@@ -32,12 +31,3 @@ pub fn judge_prefix(limit: u32, bytes: &[u8]) -> Result<Option<u32>, MessageFaul
     }
     Ok(Some(length))
 }
-
-/// What a prefix says stays with more bytes behind it, until then fewer than five bytes have come, and it never says
-/// that memory ran out.
-#[tactic(auto, using(crate::proofs::Prefixes::prefix_more, crate::proofs::Prefixes::prefix_short, crate::proofs::Prefixes::prefix_memory))]
-pub fn prefixes_stay()
-    ensures stays { (limit : ℕ) (bytes more : List ℕ) → (prefix_of limit bytes ≡ Ok None) ⊎ (prefix_of limit (bytes ++ more) ≡ prefix_of limit bytes) }
-    ensures short { (limit : ℕ) (bytes : List ℕ) → prefix_of limit bytes ≡ Ok None → length bytes < 5 }
-    ensures memory { (limit : ℕ) (bytes : List ℕ) → prefix_of limit bytes ≡ Err faults.Memory → ⊥ }
-{}

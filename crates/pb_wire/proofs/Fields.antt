@@ -15,7 +15,8 @@ use Rattle.list_laws.specs.Results.{◌>>=◌}
 use Rattle.pb_wire.specs.Reading.{varint_at, tag_at, number_at, fixed_at, eight_at, span_at, four_at, value_at, field_at}
 use Rattle.list_laws.proofs.Results.{bind_ok, guard_ok, ok_is}
 use Rattle.pb_wire.proofs.Steps.{behind_front}
-use Rattle.pb_wire.proofs.Forms.{AreBytes, form_some, varint_begins, varint_again}
+use Rattle.list_laws.specs.Lists.{AreBytes}
+use Rattle.pb_wire.proofs.Forms.{form_some, varint_begins, varint_again}
 
 -- ---- a value
 

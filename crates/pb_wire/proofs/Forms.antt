@@ -6,12 +6,10 @@ use Rattle.std.proofs.Math.Nat.{pow-succ', one-le-pow}
 use Rattle.pb_wire.specs.declared.fault.WireFault.{WireFault}
 use Rattle.pb_wire.specs.declared.fault.WireFault.TheVariants.{VarintLong}
 use Rattle.pb_wire.specs.Varint.{IsForm, Encodes}
+use Rattle.list_laws.specs.Lists.{AreBytes}
 use Rattle.list_laws.specs.Results.{◌>>=◌}
 use Rattle.pb_wire.specs.Reading.{varint_from, varint_at}
 use Rattle.list_laws.proofs.Results.{bind_ok, needs_ok, ok_is}
-
-abbrev pub AreBytes : List ℕ → Type 0
-AreBytes bytes = (i : ℕ) → get_or bytes i 0 < 256
 
 -- what was read from the front
 pub record TakesForm (bytes : List ℕ) (more n count : ℕ) : Type 0 where

@@ -9,7 +9,7 @@ use Rattle.pb_wire.specs.declared.field.Field.{Field}
 use Rattle.pb_wire.specs.Reading.{field_at}
 use Rattle.pb_wire.specs.Message.{text_of, fields_from, first_fault, unless_fault}
 use Rattle.pb_wire.specs.Strings.{KnownIsText, Spells, fault_of, field_fault, said_by, message_of, Gives}
-use Rattle.pb_wire.proofs.Forms.{AreBytes}
+use Rattle.list_laws.specs.Lists.{AreBytes}
 use Rattle.pb_wire.proofs.Messages.{fields-end, fields-fault, fields-more, fields_found, fields_again}
 use Rattle.pb_wire.proofs.Texts.{text_found, text_again}
 use Rattle.pb_wire.proofs.Faults.{read_well, said_well, IsRight, all_right, none_wrong}

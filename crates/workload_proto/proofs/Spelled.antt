@@ -7,7 +7,7 @@ use Rattle.pb_wire.specs.declared.fault.FieldFault.{FieldFault}
 use Rattle.pb_wire.specs.declared.field.Field.{Field}
 use Rattle.pb_wire.specs.Message.{fields_from, first_fault, unless_fault}
 use Rattle.pb_wire.specs.Strings.{KnownIsText, field_fault, message_of}
-use Rattle.pb_wire.proofs.Forms.{AreBytes}
+use Rattle.list_laws.specs.Lists.{AreBytes}
 use Rattle.pb_wire.proofs.Strings.{message_found, message_again}
 use Rattle.workload_proto.specs.Requests.{SpellsEmpty, is_no_field, says_nothing, empty_of, IsWire}
 

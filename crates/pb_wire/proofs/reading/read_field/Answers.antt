@@ -5,7 +5,7 @@ use Rattle.pb_wire.specs.declared.field.Field.{Field}
 use Rattle.pb_wire.specs.Spelling.{head, field}
 use Rattle.pb_wire.specs.Grammar.{StandsAt}
 use Rattle.pb_wire.specs.Reading.{field_at}
-use Rattle.pb_wire.proofs.Forms.{AreBytes}
+use Rattle.list_laws.specs.Lists.{AreBytes}
 use Rattle.pb_wire.proofs.Fields.{field_holds, field_again}
 use Rattle.pb_wire.proofs.Written.{bytes_back, varint_back}
 use Rattle.pb_wire.proofs.reading.read_field.Goals as goal
