@@ -8,7 +8,7 @@ use Rattle.std.specs.Int.{w32, from_be_bytes, to_be_bytes}
 use Rattle.list_laws.specs.Lists.{AreBytes}
 use Rattle.list_laws.proofs.Bytes.{bytes_take, bytes_drop}
 use Rattle.grpc_wire.specs.declared.fault.MessageFault.{MessageFault}
-use Rattle.grpc_wire.specs.Messages.{framed, within, prefix_of, Step, partial, whole, wrong, behind, first_message, End, Rest, Fault, Reading, after_step, messages_of}
+use Rattle.grpc_wire.specs.Messages.{framed, length_within, prefix_of, Step, partial, whole, wrong, step_of_prefix, first_message, End, Rest, Fault, Reading, after_step, messages_of}
 use Rattle.grpc_wire.specs.Bodies.{EndsSo, IsBody}
 use Rattle.grpc_wire.proofs.Fronts.{IsShorter, first_shorter}
 use Rattle.grpc_wire.proofs.Framed.{read_again}
@@ -23,7 +23,7 @@ record HasPrefix (limit : ℕ) (b : List ℕ) (n : ℕ) : Type 0 where
   pub count : n ≡ from_be_bytes w32 (take 4 (drop 1 b))
   pub small : n ≤ limit
 
-within_found : (limit count n : ℕ) → within limit count ≡ Ok (Some n) → (n ≡ count) × (n ≤ limit)
+within_found : (limit count n : ℕ) → length_within limit count ≡ Ok (Some n) → (n ≡ count) × (n ≤ limit)
 within_found limit count n e =
     elim (cases_Bool (nat_lt limit count)) [
       | inl large ↦ absurd (cc (rw large at e))
@@ -54,7 +54,7 @@ record HasContent (said : Result (Option ℕ) MessageFault) (after m rest : List
   pub is_message : m ≡ take count after
   pub is_rest : rest ≡ drop count after
 
-content_found : (said : Result (Option ℕ) MessageFault) (after m rest : List ℕ) → behind said after ≡ whole m rest → HasContent said after m rest
+content_found : (said : Result (Option ℕ) MessageFault) (after m rest : List ℕ) → step_of_prefix said after ≡ whole m rest → HasContent said after m rest
 content_found (Err fault) after m rest e = absurd (cc e)
 content_found (Ok None) after m rest e = absurd (cc e)
 content_found (Ok (Some n)) after m rest e =

@@ -3,7 +3,7 @@
 ghost use Rattle.std.specs.Prelude.{◌≡◌, ◌⊎◌, ◌<◌, ◌^◌, ◌++◌, ℕ, List, length, Ok, Err, None};
 ghost use Rattle.list_laws.specs.Lists.{AreBytes};
 ghost use Rattle.grpc_wire.specs.declared.fault.MessageFault.TheVariants as faults;
-ghost use Rattle.grpc_wire.specs.Messages.{End, Reading, prefix_of, messages_of, resumed, read_on};
+ghost use Rattle.grpc_wire.specs.Messages.{End, Reading, prefix_of, messages_of, reading_from, read_on};
 ghost use Rattle.grpc_wire.specs.Bodies.{IsBody};
 
 /// What a prefix says stays with more bytes after it, unless fewer than five bytes have come, and it never says that
@@ -20,7 +20,7 @@ pub fn prefixes_stay()
 #[tactic(auto, using(crate::proofs::Cuts::reads_on))]
 pub fn cut_anywhere()
     ensures { (limit : ℕ) (ending : End) (bytes more : List ℕ) →
-        resumed limit ending (bytes ++ more) ≡ read_on limit (resumed limit ending bytes) more }
+        reading_from limit ending (bytes ++ more) ≡ read_on limit (reading_from limit ending bytes) more }
 {}
 
 /// What is cut out of a body was framed in it, and what was framed in it is cut out.

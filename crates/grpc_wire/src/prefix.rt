@@ -6,7 +6,7 @@ ghost use Rattle.grpc_wire.specs.Messages.{prefix_of};
 use crate::fault::MessageFault;
 
 /// How many bytes a prefix has: a flag, and a length of four bytes.
-pub const PREFIX: usize = 5;
+pub const PREFIX_LEN: usize = 5;
 
 /// The length of the message that begins here, once the five bytes before it have come. A flag other than 0 is refused
 /// at the first byte, and a length above the limit with the fifth. It takes no memory and never answers Memory.
@@ -22,7 +22,7 @@ pub fn judge_prefix(limit: u32, bytes: &[u8]) -> Result<Option<u32>, MessageFaul
     if bytes[0] != 0 {
         return Err(MessageFault::Flag(bytes[0]));
     }
-    if bytes.len() < PREFIX {
+    if bytes.len() < PREFIX_LEN {
         return Ok(None);
     }
     let length = u32::from_be_bytes([bytes[1], bytes[2], bytes[3], bytes[4]]);

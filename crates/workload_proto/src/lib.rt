@@ -8,12 +8,14 @@
 mod decode;
 mod encode;
 mod items;
+mod limits;
 mod message;
 mod size;
 
 pub use decode::{decode_empty, decode_jwt_request};
 pub use encode::{encode_bundles, encode_jwt, encode_jwt_bundles, encode_x509};
 pub use items::{put_map_item, put_x509_item};
+pub use limits::{MAX_REQUEST_LEN, MAX_RESPONSE_LEN};
 pub use message::{
     BundlesResponse, JwtBundlesResponse, JwtItem, JwtRequest, JwtResponse, MapItem, X509Item,
     X509Response,
