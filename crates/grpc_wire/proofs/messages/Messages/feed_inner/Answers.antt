@@ -1,13 +1,13 @@
 use Rattle.grpc_wire.proofs.Feeding.{feeds_stop, feeds_join, front_stop, front_join}
-use Rattle.grpc_wire.proofs.messages.Messages.feed_parts.Goals as goal
+use Rattle.grpc_wire.proofs.messages.Messages.feed_inner.Goals as goal
 
 pub returns-in-Ok-clause-fed : goal.returns-in-Ok-clause-fed
 returns-in-Ok-clause-fed c =
-    feeds_join c.args.self.now.limit c.advance.new.self.limit c.args.self.now.ending c.advance.new.self.ending _ c.min.result c.args.piece.now _ c.in-Ok.field-0 c.args.into.now c.advance.new.into _ c.in-Ok.ensures.limit (rw c.split_at.ensures.front at c.in-Ok.ensures.fed) (rw c.split_at.ensures.back at c.feed_behind.ensures.fed)
+    feeds_join c.args.self.now.limit c.advance.new.self.limit c.args.self.now.ending c.advance.new.self.ending _ c.min.result c.args.piece.now _ c.in-Ok.field-0 c.args.into.now c.advance.new.into _ c.in-Ok.ensures.limit (rw c.split_at.ensures.front at c.in-Ok.ensures.fed) (rw c.split_at.ensures.back at c.feed_content.ensures.fed)
 
 pub returns-in-Ok-clause-front : goal.returns-in-Ok-clause-front
 returns-in-Ok-clause-front c =
-    front_join c.args.self.now.limit c.advance.new.self.limit c.args.self.now.ending c.advance.new.self.ending c.min.result c.args.piece.now c.in-Ok.field-0 c.args.into.now c.advance.new.into _ c.in-Ok.ensures.limit (rw c.split_at.ensures.front at c.in-Ok.ensures.fed) (rw c.split_at.ensures.back at c.feed_behind.ensures.front)
+    front_join c.args.self.now.limit c.advance.new.self.limit c.args.self.now.ending c.advance.new.self.ending c.min.result c.args.piece.now c.in-Ok.field-0 c.args.into.now c.advance.new.into _ c.in-Ok.ensures.limit (rw c.split_at.ensures.front at c.in-Ok.ensures.fed) (rw c.split_at.ensures.back at c.feed_content.ensures.front)
 
 pub returns-in-Err-clause-fed : goal.returns-in-Err-clause-fed
 returns-in-Err-clause-fed c =

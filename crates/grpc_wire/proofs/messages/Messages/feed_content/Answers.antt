@@ -1,5 +1,5 @@
 use Rattle.grpc_wire.proofs.Feeding.{feeds_stop, feeds_join, front_stop, front_join}
-use Rattle.grpc_wire.proofs.messages.Messages.feed_behind.Goals as goal
+use Rattle.grpc_wire.proofs.messages.Messages.feed_content.Goals as goal
 
 pub returns-in-Ok-clause-fed : goal.returns-in-Ok-clause-fed
 returns-in-Ok-clause-fed c =

@@ -1,6 +1,6 @@
 use Rattle.std.proofs.Common.{◌≡◌, ◌++◌, List, ℕ}
 use Rattle.pb_wire.specs.Varint.{varint}
-use Rattle.pb_wire.proofs.varint.write_varint.Given as goal
+use Rattle.pb_wire.proofs.varint.put_varint_inner.Given as goal
 
 -- the part that was written, and what is still due of the number
 abbrev pub invariant-loop-rest : goal.invariant-loop-rest

@@ -1,7 +1,7 @@
 use Rattle.std.proofs.Common.{◌≡◌, ◌++◌, ◌∷◌, [], ◌+◌, ◌%◌, ◌/◌, sym, append_assoc, arith}
 use Rattle.pb_wire.specs.Varint.{varint}
 use Rattle.pb_wire.proofs.Varints.{varint-small, varint-more}
-use Rattle.pb_wire.proofs.varint.write_varint.Goals as goal
+use Rattle.pb_wire.proofs.varint.put_varint_inner.Goals as goal
 
 pub loop-rest-preserved : goal.loop-rest-preserved
 loop-rest-preserved c =
