@@ -2,6 +2,7 @@
 
 ghost use Rattle.std.specs.Prelude.{◌≡◌, ◌<◌, ◌&&◌, true, not, pos, ◌+ℤ◌, ◌≤ℤ◌, Some, None, length, filter, vec_capacity, slice_set, slice_index_or};
 ghost use Rattle.std.specs.List.{list_any};
+ghost use Rattle.h2_wire.specs.declared.limit.TheConstants.{MAX_WINDOW_SIZE};
 ghost use Rattle.h2_flow.specs.Outboxes.{is_number, changed, credit_of, with_offer};
 ghost use Rattle.h2_flow.specs.declared.stream.Stream.{Stream};
 
@@ -35,7 +36,7 @@ pub(crate) fn credit(streams: &[Stream], number: u32) -> i64
 /// Adds a step to the credit of a stream that is there.
 pub(crate) fn raise(streams: &mut [Stream], number: u32, step: u32)
     requires there { list_any (is_number number) streams.old ≡ true }
-    requires small { (credit_of number streams.old +ℤ pos step) ≤ℤ pos 2147483647 }
+    requires small { (credit_of number streams.old +ℤ pos step) ≤ℤ pos MAX_WINDOW_SIZE }
     ensures { streams.new ≡ changed number (λ s. record s { credit = s.credit +ℤ pos step }) streams.old }
 {
     let at = place(streams, number);
@@ -43,7 +44,7 @@ pub(crate) fn raise(streams: &mut [Stream], number: u32, step: u32)
 }
 
 /// Makes a head block due on a stream that is there.
-pub(crate) fn give_head(streams: &mut [Stream], number: u32, block: Block)
+pub(crate) fn head(streams: &mut [Stream], number: u32, block: Block)
     requires { list_any (is_number number) streams.old ≡ true }
     ensures { streams.new ≡ changed number (λ s. record s { head = Some block }) streams.old }
 {
@@ -52,7 +53,7 @@ pub(crate) fn give_head(streams: &mut [Stream], number: u32, block: Block)
 }
 
 /// Has a message wait on a stream that is there, or none where it is the last one again.
-pub(crate) fn give_message(streams: &mut [Stream], number: u32, message: Octets)
+pub(crate) fn offer(streams: &mut [Stream], number: u32, message: Octets)
     requires { list_any (is_number number) streams.old ≡ true }
     ensures { streams.new ≡ changed number (with_offer message) streams.old }
 {
@@ -61,7 +62,7 @@ pub(crate) fn give_message(streams: &mut [Stream], number: u32, message: Octets)
 }
 
 /// Withdraws the waiting message of a stream that is there.
-pub(crate) fn take_message(streams: &mut [Stream], number: u32)
+pub(crate) fn withdraw(streams: &mut [Stream], number: u32)
     requires { list_any (is_number number) streams.old ≡ true }
     ensures { streams.new ≡ changed number (λ s. record s { waiting = None }) streams.old }
 {
@@ -70,7 +71,7 @@ pub(crate) fn take_message(streams: &mut [Stream], number: u32)
 }
 
 /// Makes the last block due on a stream that is there.
-pub(crate) fn give_trailers(streams: &mut [Stream], number: u32, block: Block)
+pub(crate) fn finish(streams: &mut [Stream], number: u32, block: Block)
     requires { list_any (is_number number) streams.old ≡ true }
     ensures { streams.new ≡ changed number (λ s. record s { trailers = Some block; finished = true }) streams.old }
 {

@@ -1,29 +1,29 @@
-//! Where a connection stands.
+//! The phases of a connection.
 
 use crate::fault::ConnFault;
 use crate::state::State;
 use wl_octets::Octets;
 
-/// What is asked of a connection that has failed, too.
+/// What a connection that has failed answers, too.
 #[derive(Clone, Copy, Debug, PartialEq, Eq)]
-pub struct Past {
+pub struct Totals {
     /// Whether the peer sent GOAWAY.
-    pub going: bool,
+    pub goaway_received: bool,
     /// How many messages began.
-    pub begun: u64,
+    pub messages_started: u64,
 }
 
-/// Where a connection stands.
+/// The phase of a connection.
 #[derive(Drop)]
-pub enum Link {
+pub enum Phase {
     /// It goes on from this state.
     Open(State),
     /// It has failed, and these bytes are still to be written.
     Failed {
         fault: ConnFault,
         left: Octets,
-        past: Past,
+        totals: Totals,
     },
     /// Memory ran out.
-    Broken(Past),
+    OutOfMemory(Totals),
 }
