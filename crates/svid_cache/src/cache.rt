@@ -4,7 +4,7 @@ ghost use Rattle.std.specs.Prelude.{◌≡◌, ◌+◌, ◌<◌, ◌^◌, true, 
 ghost use Rattle.list_laws.specs.Lists.{Rises};
 ghost use Rattle.wl_entry.specs.Limits.{SignedWithin};
 ghost use Rattle.wl_entry.specs.Keys.{ask_key};
-ghost use Rattle.svid_cache.specs.Caches.{is_listed, due_asks, synced, has_ended, swept, install, after, IsCached};
+ghost use Rattle.svid_cache.specs.Caches.{is_listed, due_asks, with_asks, has_ended, without_ended, install, after_install, IsCached};
 
 use crate::asks::lists;
 use crate::install::Installed;
@@ -29,19 +29,19 @@ pub struct Cache {
     firsts: Vec<u64>,
     /// None of the asks is due before this second.
     next: u64,
-    /// The first second at which one of the SVIDs is over.
+    /// The first second at which one of the SVIDs has expired.
     end: Option<u64>,
 }
 
 impl Model for Cache {
     ghost use Rattle.svid_cache.specs.Caches.{Cached};
-    ghost use Rattle.svid_cache.specs.Inside.{told, IsKept};
+    ghost use Rattle.svid_cache.specs.Inside.{asks_in, IsKept};
 
     ghost Value = { Cached };
 
-    ghost view = { λ c. record { asks = told c.asks; svids = c.svids.items } };
+    ghost view = { λ c. record { asks = asks_in c.asks; svids = c.svids.items } };
 
-    ghost invariant = { λ c. IsKept (record { asks = told c.asks; svids = c.svids.items }) c.firsts.items c.next c.end };
+    ghost invariant = { λ c. IsKept (record { asks = asks_in c.asks; svids = c.svids.items }) c.firsts.items c.next c.end };
 }
 
 impl Cache {
@@ -58,7 +58,7 @@ impl Cache {
         }
     }
 
-    /// The same cache once more, which shares the asks and SVIDs.
+    /// A copy of the cache, which shares the asks and SVIDs.
     pub fn copy(&self, alloc: Global) -> Result<Cache, Memory>
         ensures { IfOk result (λ c. c ≡ self.now) }
     {
@@ -105,7 +105,7 @@ impl Cache {
     pub fn sync(&mut self, alloc: Global, asks: Row<Ask>) -> Result<(), Memory>
         requires rises { Rises (map ask_key asks) }
         requires few { length asks < 2 ^ 32 }
-        ensures ok { OnOk result (self.new ≡ synced asks self.old) }
+        ensures ok { OnOk result (self.new ≡ with_asks asks self.old) }
         ensures err { OnErr result (self.new ≡ self.old) }
     {
         let svids = share_listed(alloc, self.svids.as_slice(), asks.as_slice())?;
@@ -118,10 +118,10 @@ impl Cache {
         Ok(())
     }
 
-    /// Whether one of the SVIDs is over, so that a sweep lets go of it. It takes no memory.
+    /// Whether one of the SVIDs has expired, so that a sweep lets go of it. It takes no memory.
     pub fn has_ended(&self, now: u64) -> bool
         ensures ended { result ≡ has_ended now self.now }
-        ensures kept { result ≡ false → swept now self.now ≡ self.now }
+        ensures kept { result ≡ false → without_ended now self.now ≡ self.now }
     {
         match self.end {
             Some(end) => end <= now,
@@ -129,9 +129,9 @@ impl Cache {
         }
     }
 
-    /// Lets go of the SVIDs that are over, and answers how many these were. It takes no memory.
+    /// Lets go of the SVIDs that have expired, and answers how many these were. It takes no memory.
     pub fn sweep(&mut self, now: u64) -> u32
-        ensures swept { self.new ≡ swept now self.old }
+        ensures swept { self.new ≡ without_ended now self.old }
         ensures count { result + length self.new.svids ≡ length self.old.svids }
     {
         if !self.has_ended(now) {
@@ -165,7 +165,7 @@ impl Cache {
     /// Takes a new SVID in, where nothing stands against it.
     pub fn install(&mut self, alloc: Global, svid: Svid, now: u64) -> Result<Installed, Memory>
         ensures answer { IfOk result (λ i. i ≡ install now svid self.old) }
-        ensures kept { IfOk result (λ i. self.new ≡ after i svid self.old) }
+        ensures kept { IfOk result (λ i. self.new ≡ after_install i svid self.old) }
         ensures err { OnErr result (self.new ≡ self.old) }
     {
         match self.judge(&svid, now) {
@@ -181,7 +181,7 @@ impl Cache {
     fn keep(&mut self, alloc: Global, svid: Svid) -> Result<(), Memory>
         requires listed { is_listed self.old.asks svid.ask ≡ true }
         requires within { SignedWithin svid.signed }
-        ensures ok { OnOk result (self.new ≡ after Installed.Kept svid self.old) }
+        ensures ok { OnOk result (self.new ≡ after_install Installed.Kept svid self.old) }
         ensures err { OnErr result (self.new ≡ self.old) }
     {
         let id = svid.ask.entry_id.copy(alloc)?;

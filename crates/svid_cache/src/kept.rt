@@ -4,7 +4,7 @@ ghost use Rattle.std.specs.Prelude.{◌≡◌, Some, map, filter, IfOk, option_m
 ghost use Rattle.list_laws.specs.Lists.{Rises};
 ghost use Rattle.wl_entry.specs.Keys.{ask_key, svid_key};
 ghost use Rattle.wl_entry.specs.Same.{same_ask};
-ghost use Rattle.svid_cache.specs.Caches.{only, is_listed, kept_for, is_due, is_below, is_above, put, unless_older};
+ghost use Rattle.svid_cache.specs.Caches.{only, is_listed, kept_for, is_due, is_below, is_above, with_svid, unless_older};
 
 use crate::asks::lists;
 use crate::install::Installed;
@@ -48,7 +48,7 @@ pub(crate) fn due_at(svids: &[Shared<Svid>], ask: &Ask, now: u64) -> bool
     }
 }
 
-/// The same SVIDs once more, shared.
+/// The SVIDs, shared.
 pub(crate) fn share_all(alloc: Global, svids: &[Shared<Svid>]) -> Result<Vec<Shared<Svid>>, Memory>
     ensures { IfOk result (λ v. v.items ≡ svids.now) }
 {
@@ -126,13 +126,13 @@ fn share_above(
 }
 
 /// The SVIDs with this one in the place of its entry's.
-#[tactic(auto, using(std::proofs::lemmas::List::append_assoc), unfolding(crate::specs::Caches::put))]
+#[tactic(auto, using(std::proofs::lemmas::List::append_assoc), unfolding(crate::specs::Caches::with_svid))]
 pub(crate) fn share_with(
     alloc: Global,
     svids: &[Shared<Svid>],
     svid: Svid,
 ) -> Result<Vec<Shared<Svid>>, Memory>
-    ensures { IfOk result (λ v. v.items ≡ put svid svids.now) }
+    ensures { IfOk result (λ v. v.items ≡ with_svid svid svids.now) }
 {
     let mut above = share_above(alloc, svids, &svid.ask.entry_id)?;
     let mut shared = share_below(alloc, svids, &svid.ask.entry_id)?;

@@ -7,7 +7,7 @@ ghost use Rattle.list_laws.specs.Lists.{Rises};
 ghost use Rattle.wl_entry.specs.Fitness.{is_half_over};
 ghost use Rattle.wl_entry.specs.Keys.{ask_key, svid_key};
 ghost use Rattle.svid_cache.specs.Caches.{is_due};
-ghost use Rattle.svid_cache.specs.Queue.{half_second, first_second, NotBefore, OthersNotBefore, Filed, NoneBelow, first_end, cleared};
+ghost use Rattle.svid_cache.specs.Queue.{half_second, first_second, NotBefore, OthersNotBefore, Filed, NoneBelow, first_end, clear_second};
 
 use crate::kept::{due_at, find_kept};
 use std::alloc::Global;
@@ -15,7 +15,7 @@ use wl_entry::{Ask, Signed, Svid};
 use sorted_lists::find_by_key;
 use wl_octets::{Memory, Octets, Row, Shared};
 
-/// The first second at which half of its time is over.
+/// The first second at which half of its time has passed.
 fn half_time(signed: &Signed) -> u64
     ensures second { result ≡ half_second signed.now }
     ensures exact { signed.now.not_before ≤ signed.now.not_after → (now : ℕ) → is_half_over now signed.now ≡ nat_le result now }
@@ -122,14 +122,14 @@ pub(crate) fn refile(
 
 /// The second, or 0 where it has come.
 fn clear(first: u64, now: u64) -> u64
-    ensures { result ≡ cleared now first }
+    ensures { result ≡ clear_second now first }
 {
     if first <= now { 0 } else { first }
 }
 
 /// Lets each block count as due whose second has come. It takes no memory.
 pub(crate) fn clear_until(firsts: &mut [u64], now: u64)
-    ensures { firsts.new ≡ map (cleared now) firsts.old }
+    ensures { firsts.new ≡ map (clear_second now) firsts.old }
 {
     for first in firsts.iter_mut() {
         *first = clear(*first, now);
@@ -147,7 +147,7 @@ pub(crate) fn least(firsts: &[u64]) -> u64
     least
 }
 
-/// The first second at which one of the SVIDs is over.
+/// The first second at which one of the SVIDs has expired.
 pub(crate) fn first_end(svids: &[Shared<Svid>]) -> Option<u64>
     ensures { result ≡ first_end svids.now }
 {

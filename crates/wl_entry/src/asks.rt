@@ -18,7 +18,7 @@ pub struct Ask {
 }
 
 impl Ask {
-    /// The same ask once more.
+    /// A copy of the ask.
     pub fn copy(&self, alloc: Global) -> Result<Ask, Memory>
         ensures { IfOk result (λ a. a ≡ self.now) }
     {

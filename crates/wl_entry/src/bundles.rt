@@ -18,7 +18,7 @@ pub struct Bundle {
 }
 
 impl Bundle {
-    /// The same bundle once more.
+    /// A copy of the bundle.
     pub fn copy(&self, alloc: Global) -> Result<Bundle, Memory>
         ensures { IfOk result (λ b. b ≡ self.now) }
     {

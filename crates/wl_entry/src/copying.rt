@@ -7,7 +7,7 @@ use std::alloc::Global;
 use wl_octets::{Memory, Octets, Row};
 use wl_selector::Selectors;
 
-/// The same id once more.
+/// A copy of the id.
 pub(crate) fn copy_id(alloc: Global, id: &SpiffeId) -> Result<SpiffeId, Memory>
     ensures { IfOk result (λ i. i ≡ id.now) }
 {
@@ -17,7 +17,7 @@ pub(crate) fn copy_id(alloc: Global, id: &SpiffeId) -> Result<SpiffeId, Memory>
     }
 }
 
-/// The same domain once more.
+/// A copy of the domain.
 pub(crate) fn copy_domain(alloc: Global, domain: &TrustDomain) -> Result<TrustDomain, Memory>
     ensures { IfOk result (λ d. d ≡ domain.now) }
 {
@@ -27,7 +27,7 @@ pub(crate) fn copy_domain(alloc: Global, domain: &TrustDomain) -> Result<TrustDo
     }
 }
 
-/// The same selectors once more.
+/// A copy of the selectors.
 pub(crate) fn copy_selectors(alloc: Global, selectors: &Selectors) -> Result<Selectors, Memory>
     ensures { IfOk result (λ s. s ≡ selectors.now) }
 {
@@ -37,7 +37,7 @@ pub(crate) fn copy_selectors(alloc: Global, selectors: &Selectors) -> Result<Sel
     }
 }
 
-/// The same byte strings once more.
+/// A copy of the byte strings.
 pub(crate) fn copy_row(alloc: Global, row: &Row<Octets>) -> Result<Row<Octets>, Memory>
     ensures { IfOk result (λ r. r ≡ row.now) }
 {
@@ -49,7 +49,7 @@ pub(crate) fn copy_row(alloc: Global, row: &Row<Octets>) -> Result<Row<Octets>, 
     Ok(Row::from_vec(copies))
 }
 
-/// The same domains once more.
+/// A copy of the domains.
 pub(crate) fn copy_domains(
     alloc: Global,
     row: &Row<TrustDomain>,

@@ -48,7 +48,7 @@ impl Entry {
             && self.ttl == ask.ttl
     }
 
-    /// The same entry once more.
+    /// A copy of the entry.
     pub fn copy(&self, alloc: Global) -> Result<Entry, Memory>
         ensures { IfOk result (λ e. e ≡ self.now) }
     {

@@ -39,7 +39,7 @@ impl Model for Index {
     ghost invariant = { λ i. IsIndex i.entries.items i.postings.items };
 }
 
-/// The same entries, shared.
+/// The entries, shared.
 fn share_all(alloc: Global, entries: &[Shared<Entry>]) -> Result<Vec<Shared<Entry>>, Memory>
     ensures { IfOk result (λ v. v.items ≡ entries.now) }
 {
@@ -51,7 +51,7 @@ fn share_all(alloc: Global, entries: &[Shared<Entry>]) -> Result<Vec<Shared<Entr
 }
 
 /// The index of these entries, sharing those of these postings that did not change.
-fn indexed(
+fn index_with(
     alloc: Global,
     entries: Vec<Shared<Entry>>,
     old: &[Shared<Posting>],
@@ -72,7 +72,7 @@ impl Index {
         requires few { length entries.now < 2 ^ 32 }
         ensures { IfOk result (λ index. index ≡ entries.now) }
     {
-        let index = indexed(alloc, share_all(alloc, entries)?, &[])?;
+        let index = index_with(alloc, share_all(alloc, entries)?, &[])?;
         Ok(index)
     }
 
@@ -82,7 +82,7 @@ impl Index {
         requires few { length entries.now < 2 ^ 32 }
         ensures { IfOk result (λ index. index ≡ entries.now) }
     {
-        let index = indexed(alloc, share_all(alloc, entries)?, self.postings.as_slice())?;
+        let index = index_with(alloc, share_all(alloc, entries)?, self.postings.as_slice())?;
         Ok(index)
     }
 
@@ -113,11 +113,11 @@ impl Index {
         ensures { IfOk result (λ index. index ≡ changed_entries changes.now self.now) }
     {
         let entries = changed_list(alloc, self.entries.as_slice(), changes)?;
-        let index = indexed(alloc, entries, self.postings.as_slice())?;
+        let index = index_with(alloc, entries, self.postings.as_slice())?;
         Ok(index)
     }
 
-    /// Changes the entries, in turn. On want of memory the index is as it was.
+    /// Changes the entries, in turn. If memory runs out the index is as it was.
     pub fn change(&mut self, alloc: Global, changes: &[Change]) -> Result<(), Memory>
         requires { length self.old + length changes.now < 2 ^ 32 }
         ensures ok { OnOk result (self.new ≡ changed_entries changes.now self.old) }

@@ -8,7 +8,7 @@ use Rattle.wl_entry.specs.declared.entries.Entry.{Entry}
 use Rattle.wl_entry.specs.declared.tokens.JwtToken.{JwtToken}
 use Rattle.wl_entry.specs.declared.unfit.JwtUnfit.{JwtUnfit}
 use Rattle.svid_cache.specs.Caches.{is_listed}
-use Rattle.jwt_cache.specs.declared.rings.Kept.{Kept}
+use Rattle.jwt_cache.specs.declared.rings.CachedToken.{CachedToken}
 use Rattle.wl_store.specs.Stores.{asks_of}
 use Rattle.wl_manager.specs.declared.keeping.Keeping.{Keeping}
 use Rattle.wl_manager.specs.declared.keeping.Keeping.TheVariants as keep
@@ -19,13 +19,13 @@ use Rattle.wl_manager.specs.declared.keeping.Keeping.TheVariants as keep
 unfoldable pub changed_ids : List Ask → List Ask → List (List ℕ)
 changed_ids before after = map ask_key (filter (λ a. not (is_listed after a)) before)
 
--- the keeps but those of these entries
-unfoldable pub without_all : List (List ℕ) → List Kept → List Kept
-without_all ids keeps = filter (λ k. not (has_text ids k.ask.entry_id)) keeps
+-- the history but what is of these entries
+unfoldable pub without_all : List (List ℕ) → List CachedToken → List CachedToken
+without_all ids history = filter (λ k. not (has_text ids k.ask.entry_id)) history
 
--- the keeps are lost of each entry whose ask was changed or removed
-abbrev pub keeps_after : List Entry → List Entry → List Kept → List Kept
-keeps_after before after keeps = without_all (changed_ids (asks_of before) (asks_of after)) keeps
+-- the tokens are lost of each entry whose ask was changed or removed
+abbrev pub history_after : List Entry → List Entry → List CachedToken → List CachedToken
+history_after before after history = without_all (changed_ids (asks_of before) (asks_of after)) history
 
 -- ---- Keep: the first reason against a token, or else it is kept
 
@@ -42,6 +42,6 @@ abbrev pub unless_unfit : Option JwtUnfit → Keeping → Keeping
 unless_unfit (Some u) rest = keep.Unfit u
 unless_unfit None rest = rest
 
-unfoldable pub keeping : ℕ → List Ask → Ask → List (List ℕ) → JwtToken → Keeping
-keeping now asks ask audience token =
+unfoldable pub keep_verdict : ℕ → List Ask → Ask → List (List ℕ) → JwtToken → Keeping
+keep_verdict now asks ask audience token =
     unless_unfit (token_unfit now token) (if is_listed asks ask then unless_long (size_of (sorted_texts audience)) else keep.NoSuchAsk)

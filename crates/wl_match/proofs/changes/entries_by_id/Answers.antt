@@ -1,7 +1,7 @@
 use Rattle.std.proofs.Common.{take, ◌∙◌, ap}
 use Rattle.wl_match.specs.Changes.{by_id}
 use Rattle.wl_match.proofs.ById.{put_next}
-use Rattle.wl_match.proofs.changes.keyed.Goals as goal
+use Rattle.wl_match.proofs.changes.entries_by_id.Goals as goal
 
 pub loop-entry-preserved : goal.loop-entry-preserved
 loop-entry-preserved c =

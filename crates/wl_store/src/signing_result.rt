@@ -4,14 +4,14 @@ ghost use Rattle.std.specs.Prelude.{◌≡◌, true, false, [], unwrap_or, Ok, N
 ghost use Rattle.std.specs.Cmp.Lexicographic.{pointwise};
 ghost use Rattle.wl_entry.specs.Same.{same_svid};
 ghost use Rattle.wl_x509.specs.Leaves.{NamesAsk};
-ghost use Rattle.wl_store.specs.Steps.{keeping, change_to, spending, with_parts, AllTrusted, Trusted, Lands, is_refused};
-ghost use Rattle.wl_store.specs.Stores.{asks_of, cached_of, flies, landed, install, leaf_judged, refused, svids_after, without};
-ghost use Rattle.svid_cache.specs.Caches.{after};
+ghost use Rattle.wl_store.specs.Steps.{stored_after, change_to, after_failed, with_parts, AllTrusted, Trusted, IsInstalled, is_refused};
+ghost use Rattle.wl_store.specs.Stores.{asks_of, cached_of, has_ticket, after_signed, install, leaf_judged, refusal, svids_after, without_flight};
+ghost use Rattle.svid_cache.specs.Caches.{after_install};
 
 use crate::flights::{has_ticket, remove_flight};
 use crate::preparing::Prepared;
 use crate::store::Store;
-use crate::tickets::{Adopted, Change, Flight, Ticket, let_go_all};
+use crate::tickets::{Adopted, Change, Flight, Ticket, abandon_all};
 use std::alloc::Global;
 use svid_cache::{Cache, Installed};
 use wl_entry::{Ask, Signed, Svid, Unfit, Voucher};
@@ -33,7 +33,7 @@ impl<V: Voucher> Store<V> {
     }
 
     /// The first reason against a signed identity that does not hang on the kept one.
-    #[tactic(auto, unfolding(crate::specs::Stores::refused))]
+    #[tactic(auto, unfolding(crate::specs::Stores::refusal))]
     fn refuse(
         &self,
         alloc: Global,
@@ -41,7 +41,7 @@ impl<V: Voucher> Store<V> {
         signed: &Signed,
         now: u64,
     ) -> Result<Option<Installed>, Memory>
-        ensures value { IfOk result (λ r. r ≡ refused now ask.now signed.now self.now.store) }
+        ensures value { IfOk result (λ r. r ≡ refusal now ask.now signed.now self.now.store) }
         ensures named { IfOk result (λ r. r ≡ None → self.now.store.strict ≡ true → NamesAsk ask.now signed.now) }
     {
         if !self.lists(ask) {
@@ -65,9 +65,9 @@ impl<V: Voucher> Store<V> {
         svid: Svid,
         now: u64,
     ) -> Result<(Shared<Cache>, Installed), Memory>
-        requires { refused now svid.ask svid.signed self.now.store ≡ None }
+        requires { refusal now svid.ask svid.signed self.now.store ≡ None }
         ensures answer { IfOk result (λ r. r.1 ≡ install now svid.ask svid.signed self.now.store) }
-        ensures cache { IfOk result (λ r. r.0 ≡ after r.1 svid (cached_of self.now.store)) }
+        ensures cache { IfOk result (λ r. r.0 ≡ after_install r.1 svid (cached_of self.now.store)) }
     {
         let mut cache = self.kept().copy(alloc)?;
         let installed = cache.install(alloc, svid, now)?;
@@ -92,10 +92,10 @@ impl<V: Voucher> Store<V> {
     ) -> Result<(Shared<Cache>, Installed), Memory>
         requires { V.signed svid.ask svid.signed }
         ensures answer { IfOk result (λ r. r.1 ≡ install now svid.ask svid.signed self.now.store) }
-        ensures lands { IfOk result (λ r. Lands V.signed self.now.store svid r.1 r.0) }
+        ensures gives { IfOk result (λ r. IsInstalled V.signed self.now.store svid r.1 r.0) }
     {
         // a field that is read tells the proof what the type keeps
-        let _ = &self.last;
+        let _ = &self.last_ticket;
         match self.refuse(alloc, &svid.ask, &svid.signed, now)? {
             Some(refusal) => {
                 let both = self.refused_cache(refusal)?;
@@ -110,16 +110,16 @@ impl<V: Voucher> Store<V> {
 
     /// The tickets in flight without the first of this number.
     fn fewer_flights(&self, alloc: Global, number: u64) -> Result<Vec<Flight>, Memory>
-        ensures { IfOk result (λ v. v.items ≡ without number self.now.store.flying) }
+        ensures { IfOk result (λ v. v.items ≡ without_flight number self.now.store.in_flight) }
     {
-        let mut flying = self.flights(alloc)?;
-        remove_flight(&mut flying, number);
-        Ok(flying)
+        let mut in_flight = self.flights(alloc)?;
+        remove_flight(&mut in_flight, number);
+        Ok(in_flight)
     }
 
     /// The step of a ticket in flight that comes back with a signed identity.
-    #[tactic(auto, unfolding(crate::specs::Stores::landed))]
-    fn land(
+    #[tactic(auto, unfolding(crate::specs::Stores::after_signed))]
+    fn signed_step(
         &self,
         alloc: Global,
         ticket: &Ticket,
@@ -127,8 +127,8 @@ impl<V: Voucher> Store<V> {
         now: u64,
     ) -> Result<Prepared<V>, Memory>
         requires { V.signed ticket.now.ask signed.now }
-        ensures next { IfOk result (λ p. p.next ≡ keeping (landed now ticket.now.number ticket.now.ask signed.now self.now.store) self.now) }
-        ensures change { IfOk result (λ p. p.answer.change ≡ change_to (landed now ticket.now.number ticket.now.ask signed.now self.now.store) self.now) }
+        ensures next { IfOk result (λ p. p.next ≡ stored_after (after_signed now ticket.now.number ticket.now.ask signed.now self.now.store) self.now) }
+        ensures change { IfOk result (λ p. p.answer.change ≡ change_to (after_signed now ticket.now.number ticket.now.ask signed.now self.now.store) self.now) }
         ensures tickets { IfOk result (λ p. p.answer.tickets ≡ []) }
         ensures installed { IfOk result (λ p. p.answer.installed ≡ Some (install now ticket.now.ask signed.now self.now.store)) }
     {
@@ -136,10 +136,10 @@ impl<V: Voucher> Store<V> {
             ask: ticket.ask.copy(alloc)?,
             signed: signed.copy(alloc)?,
         };
-        let flying = self.fewer_flights(alloc, ticket.number)?;
+        let in_flight = self.fewer_flights(alloc, ticket.number)?;
         let (cache, installed) = self.installed_cache(alloc, svid, now)?;
         let is_same = is_refused(&installed);
-        let (next, change) = self.settle_svids(alloc, cache, is_same, flying, self.last_number())?;
+        let (next, change) = self.settle_svids(alloc, cache, is_same, in_flight, self.last_number())?;
         Ok(Prepared {
             next,
             answer: Adopted {
@@ -151,15 +151,15 @@ impl<V: Voucher> Store<V> {
     }
 
     /// The step of a ticket that is not in flight, which changes nothing.
-    fn let_be(&self, alloc: Global) -> Result<Prepared<V>, Memory>
+    fn unchanged(&self, alloc: Global) -> Result<Prepared<V>, Memory>
         ensures next { IfOk result (λ p. p.next ≡ self.now) }
         ensures change { IfOk result (λ p. p.answer.change ≡ Change.Same) }
         ensures tickets { IfOk result (λ p. p.answer.tickets ≡ []) }
         ensures installed { IfOk result (λ p. p.answer.installed ≡ Some Installed.Spent) }
     {
         let cache = self.cache.share()?;
-        let flying = self.flights(alloc)?;
-        let next = self.same(cache, flying, self.last)?;
+        let in_flight = self.flights(alloc)?;
+        let next = self.keep_published(cache, in_flight, self.last_ticket)?;
         Ok(Prepared {
             next,
             answer: Adopted {
@@ -181,25 +181,25 @@ impl<V: Voucher> Store<V> {
         requires { V.signed ticket.now.ask signed.now }
 
         // A ticket that is not in flight changes nothing.
-        ensures spent { flies ticket.now.number ticket.now.ask self.now.store.flying ≡ false → IfOk result (λ p. (p.next ≡ self.now) × (p.answer.change ≡ Change.Same) × (p.answer.installed ≡ Some Installed.Spent)) }
+        ensures spent { has_ticket ticket.now.number ticket.now.ask self.now.store.in_flight ≡ false → IfOk result (λ p. (p.next ≡ self.now) × (p.answer.change ≡ Change.Same) × (p.answer.installed ≡ Some Installed.Spent)) }
 
         // The ticket leaves, and the answer is that of Install.
-        ensures next { flies ticket.now.number ticket.now.ask self.now.store.flying ≡ true → IfOk result (λ p. p.next ≡ keeping (landed now ticket.now.number ticket.now.ask signed.now self.now.store) self.now) }
-        ensures change { flies ticket.now.number ticket.now.ask self.now.store.flying ≡ true → IfOk result (λ p. p.answer.change ≡ change_to (landed now ticket.now.number ticket.now.ask signed.now self.now.store) self.now) }
-        ensures installed { flies ticket.now.number ticket.now.ask self.now.store.flying ≡ true → IfOk result (λ p. p.answer.installed ≡ Some (install now ticket.now.ask signed.now self.now.store)) }
+        ensures next { has_ticket ticket.now.number ticket.now.ask self.now.store.in_flight ≡ true → IfOk result (λ p. p.next ≡ stored_after (after_signed now ticket.now.number ticket.now.ask signed.now self.now.store) self.now) }
+        ensures change { has_ticket ticket.now.number ticket.now.ask self.now.store.in_flight ≡ true → IfOk result (λ p. p.answer.change ≡ change_to (after_signed now ticket.now.number ticket.now.ask signed.now self.now.store) self.now) }
+        ensures installed { has_ticket ticket.now.number ticket.now.ask self.now.store.in_flight ≡ true → IfOk result (λ p. p.answer.installed ≡ Some (install now ticket.now.ask signed.now self.now.store)) }
         ensures tickets { IfOk result (λ p. p.answer.tickets ≡ []) }
     {
-        if has_ticket(self.flying.as_slice(), ticket) {
-            let prepared = self.land(alloc, ticket, signed, now)?;
+        if has_ticket(self.in_flight.as_slice(), ticket) {
+            let prepared = self.signed_step(alloc, ticket, signed, now)?;
             Ok(prepared)
         } else {
-            let prepared = self.let_be(alloc)?;
+            let prepared = self.unchanged(alloc)?;
             Ok(prepared)
         }
     }
 
     /// Takes a ticket back with a signed identity, which has to be vouched for the ticket's ask, and tells what became
-    /// of it. The ticket is spent in each case; on want of memory nothing else changes.
+    /// of it. The ticket is spent in each case; if memory runs out nothing else changes.
     pub fn signed(
         &mut self,
         alloc: Global,
@@ -210,20 +210,20 @@ impl<V: Voucher> Store<V> {
         requires { V.signed ticket.ask signed }
 
         // A ticket that is not in flight changes nothing.
-        ensures spent { flies ticket.number ticket.ask self.old.store.flying ≡ false → (result ≡ Ok Installed.Spent) × (self.new ≡ self.old) }
+        ensures spent { has_ticket ticket.number ticket.ask self.old.store.in_flight ≡ false → (result ≡ Ok Installed.Spent) × (self.new ≡ self.old) }
 
         // The ticket leaves, and the answer is that of Install.
-        ensures ok { flies ticket.number ticket.ask self.old.store.flying ≡ true → OnOk result (self.new ≡ keeping (landed now ticket.number ticket.ask signed self.old.store) self.old) }
-        ensures installed { flies ticket.number ticket.ask self.old.store.flying ≡ true → IfOk result (λ i. i ≡ install now ticket.ask signed self.old.store) }
-        ensures err { OnErr result (self.new ≡ spending ticket.number self.old) }
+        ensures ok { has_ticket ticket.number ticket.ask self.old.store.in_flight ≡ true → OnOk result (self.new ≡ stored_after (after_signed now ticket.number ticket.ask signed self.old.store) self.old) }
+        ensures installed { has_ticket ticket.number ticket.ask self.old.store.in_flight ≡ true → IfOk result (λ i. i ≡ install now ticket.ask signed self.old.store) }
+        ensures err { OnErr result (self.new ≡ after_failed ticket.number self.old) }
     {
-        if !has_ticket(self.flying.as_slice(), &ticket) {
-            ticket.let_go();
+        if !has_ticket(self.in_flight.as_slice(), &ticket) {
+            ticket.abandon();
             return Ok(Installed::Spent);
         }
         match self.prepare_signed(alloc, &ticket, &signed, now) {
             Ok(prepared) => {
-                ticket.let_go();
+                ticket.abandon();
                 Ok(self.take(prepared))
             }
             Err(memory) => {
@@ -243,7 +243,7 @@ impl<V: Voucher> Store<V> {
             tickets,
             installed,
         } = self.adopt(prepared);
-        let_go_all(tickets);
+        abandon_all(tickets);
         match installed {
             Some(installed) => installed,
             None => Installed::Spent,

@@ -3,7 +3,7 @@ use Rattle.std.specs.BTreeSet.{contains}
 use Rattle.std.specs.Ordering.{nat_cmp}
 use Rattle.wl_match.specs.Postings.{ids_at}
 use Rattle.wl_match.proofs.Hits.{reach_step}
-use Rattle.wl_match.proofs.places.gathered.Goals as goal
+use Rattle.wl_match.proofs.places.gather_all.Goals as goal
 
 pub loop-selector-preserved : goal.loop-selector-preserved
 loop-selector-preserved c = λ q.
