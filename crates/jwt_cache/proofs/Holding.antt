@@ -7,7 +7,7 @@ use Rattle.std.proofs.Common.{arith, refl, subst}
 use Rattle.std.proofs.lemmas.Slice.Eq.{bytes_eq-Decides}
 use Rattle.std.proofs.lemmas.Bool.{and_parts}
 use Rattle.std.proofs.lemmas.Bool.Decides.{nat_tests}
-use Rattle.sorted_lists.proofs.Chosen.{all_append}
+use Rattle.list_laws.proofs.Elements.{all_append}
 use Rattle.wl_entry.specs.Same.{same_ask}
 use Rattle.wl_entry.proofs.Sames.{ask_is, texts_are}
 use Rattle.wl_entry.specs.Fitness.{is_still_fresh}

@@ -18,9 +18,9 @@ use Rattle.wl_entry.specs.Same.{same_ask}
 use Rattle.wl_entry.specs.declared.asks.Ask.{Ask}
 use Rattle.wl_entry.specs.declared.signing.Signed.{Signed}
 use Rattle.wl_entry.specs.declared.signing.Svid.{Svid}
-use Rattle.sorted_lists.specs.Keys.{item_at}
-use Rattle.sorted_lists.proofs.Chosen.{all_append, all_such}
-use Rattle.sorted_lists.proofs.Halving.{order, not_same, turned}
+use Rattle.list_laws.specs.Keys.{item_at}
+use Rattle.list_laws.proofs.Elements.{all_append, all_such}
+use Rattle.list_laws.proofs.Order.{order, not_same, turned}
 use Rattle.svid_cache.proofs.Keeping.{same_entry_id}
 use Rattle.svid_cache.specs.Caches.{kept_for, is_due, lasts, is_below, is_above, with_svid}
 use Rattle.svid_cache.specs.Queue.{half_second, first_second, NotBefore, OthersNotBefore, Filed, NoneBelow, clear_second}

@@ -12,8 +12,8 @@ use Rattle.wl_entry.specs.Keys.{ask_key, svid_key}
 use Rattle.wl_entry.specs.Same.{same_ask}
 use Rattle.wl_entry.specs.declared.asks.Ask.{Ask}
 use Rattle.wl_entry.specs.declared.signing.Svid.{Svid}
-use Rattle.sorted_lists.specs.Keys.{item_at}
-use Rattle.sorted_lists.proofs.Found.{level_self}
+use Rattle.list_laws.specs.Keys.{item_at}
+use Rattle.list_laws.proofs.Order.{level_self}
 use Rattle.svid_cache.specs.Caches.{only, is_listed, kept_for}
 
 -- whether there is one that passes

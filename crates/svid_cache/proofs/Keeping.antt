@@ -15,8 +15,9 @@ use Rattle.wl_entry.specs.Limits.{SignedWithin}
 use Rattle.wl_entry.specs.Same.{same_ask}
 use Rattle.wl_entry.specs.declared.asks.Ask.{Ask}
 use Rattle.wl_entry.specs.declared.signing.Svid.{Svid}
-use Rattle.sorted_lists.proofs.Chosen.{all_append, all_filter, keys_append, rises_filter}
-use Rattle.sorted_lists.proofs.Found.{level_self}
+use Rattle.list_laws.proofs.Elements.{all_append, all_filter}
+use Rattle.list_laws.proofs.Rising.{keys_append, rises_filter}
+use Rattle.list_laws.proofs.Order.{level_self}
 use Rattle.wl_entry.specs.declared.signing.Signed.{Signed}
 use Rattle.wl_entry.specs.declared.unfit.Unfit.{Unfit}
 use Rattle.wl_entry.specs.declared.unfit.Unfit.TheVariants as unfit

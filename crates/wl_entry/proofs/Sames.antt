@@ -2,10 +2,9 @@
 use Rattle.std.specs.Prelude.{◌≡◌, ℕ, ◌==◌, ◌&&◌, Bool, true, false, List, [], ◌∷◌, ◌↔◌}
 use Rattle.std.specs.Str.{bytes_eq}
 use Rattle.std.specs.Cmp.Lexicographic.{pointwise}
-use Rattle.std.proofs.Common.{arith, refl, subst}
+use Rattle.std.proofs.Common.{refl, subst}
 use Rattle.std.proofs.lemmas.Bool.{and_parts}
-use Rattle.std.proofs.lemmas.Slice.Eq.{bytes_eq-Decides}
-use Rattle.std.proofs.lemmas.Bool.Decides.{nat_tests}
+use Rattle.list_laws.proofs.Equality.{numbers_are, same_number, bytes_are, same_bytes, lists_are, texts_are}
 use Rattle.wl_entry.specs.declared.asks.Ask.{Ask}
 use Rattle.wl_entry.specs.declared.entries.Entry.{Entry}
 use Rattle.wl_entry.specs.declared.bundles.Bundle.{Bundle}
@@ -13,24 +12,6 @@ use Rattle.wl_entry.specs.declared.signing.Signed.{Signed}
 use Rattle.wl_entry.specs.declared.signing.Svid.{Svid}
 use Rattle.wl_entry.specs.declared.tokens.JwtToken.{JwtToken}
 use Rattle.wl_entry.specs.Same.{same_ask, same_entry, same_signed, same_svid, same_bundle, same_token}
-
-pub bytes_are : (xs ys : List ℕ) → bytes_eq xs ys ≡ true → xs ≡ ys
-bytes_are xs ys is = (bytes_eq-Decides xs ys).0 is
-
-numbers_are : (m n : ℕ) → (m == n) ≡ true → m ≡ n
-numbers_are m n is = grind (arith, nat_tests, is)
-
--- lists whose items are equal by a test that decides
-pub lists_are : {X : Type 0} (t : X → X → Bool) → ((x y : X) → t x y ≡ true → x ≡ y) → (xs ys : List X) → pointwise t xs ys ≡ true → xs ≡ ys
-lists_are t decides [] [] is = refl
-lists_are t decides [] (y ∷ ys) is = grind (arith, is)
-lists_are t decides (x ∷ xs) [] is = grind (arith, is)
-lists_are t decides (x ∷ xs) (y ∷ ys) is =
-    let parts = and_parts (t x y) (pointwise t xs ys) is in
-    λ i. decides x y parts.0 i ∷ lists_are t decides xs ys parts.1 i
-
-pub texts_are : (xs ys : List (List ℕ)) → pointwise bytes_eq xs ys ≡ true → xs ≡ ys
-texts_are xs ys is = lists_are bytes_eq bytes_are xs ys is
 
 pub ask_is : (a b : Ask) → same_ask a b ≡ true → a ≡ b
 ask_is a b is =
@@ -106,40 +87,34 @@ pub both_true : (a b : Bool) → a ≡ true → b ≡ true → (a && b) ≡ true
 both_true true b is and = and
 both_true false b is and = is
 
-pub bytes_self : (xs : List ℕ) → bytes_eq xs xs ≡ true
-bytes_self xs = (bytes_eq-Decides xs xs).1 refl
-
-number_self : (n : ℕ) → (n == n) ≡ true
-number_self n = grind (arith, nat_tests)
-
 pub list_self : {X : Type 0} (t : X → X → Bool) → ((x : X) → t x x ≡ true) → (xs : List X) → pointwise t xs xs ≡ true
 list_self t self [] = refl
 list_self t self (x ∷ xs) = both_true (t x x) (pointwise t xs xs) (self x) (list_self t self xs)
 
 pub texts_self : (xs : List (List ℕ)) → pointwise bytes_eq xs xs ≡ true
-texts_self xs = list_self bytes_eq bytes_self xs
+texts_self xs = list_self bytes_eq same_bytes xs
 
 pub ask_self : (a : Ask) → same_ask a a ≡ true
-ask_self a = both_true _ _ (bytes_self a.entry_id) (both_true _ _ (bytes_self a.spiffe_id) (both_true _ _ (texts_self a.dns_names) (number_self a.ttl)))
+ask_self a = both_true _ _ (same_bytes a.entry_id) (both_true _ _ (same_bytes a.spiffe_id) (both_true _ _ (texts_self a.dns_names) (same_number a.ttl)))
 
 pub entry_self : (a : Entry) → same_entry a a ≡ true
 entry_self a =
-    both_true _ _ (bytes_self a.id) (both_true _ _ (bytes_self a.spiffe_id) (both_true _ _ (texts_self a.selectors)
-    (both_true _ _ (texts_self a.federates_with) (both_true _ _ (texts_self a.dns_names) (both_true _ _ (number_self a.ttl) (bytes_self a.hint))))))
+    both_true _ _ (same_bytes a.id) (both_true _ _ (same_bytes a.spiffe_id) (both_true _ _ (texts_self a.selectors)
+    (both_true _ _ (texts_self a.federates_with) (both_true _ _ (texts_self a.dns_names) (both_true _ _ (same_number a.ttl) (same_bytes a.hint))))))
 
 pub svid_self : (a : Svid) → same_svid a a ≡ true
 svid_self a =
-    both_true _ _ (ask_self a.ask) (both_true _ _ (bytes_self a.signed.chain) (both_true _ _ (bytes_self a.signed.key)
-    (both_true _ _ (number_self a.signed.not_before) (number_self a.signed.not_after))))
+    both_true _ _ (ask_self a.ask) (both_true _ _ (same_bytes a.signed.chain) (both_true _ _ (same_bytes a.signed.key)
+    (both_true _ _ (same_number a.signed.not_before) (same_number a.signed.not_after))))
 
 pub bundle_self : (a : Bundle) → same_bundle a a ≡ true
-bundle_self a = both_true _ _ (bytes_self a.domain) (both_true _ _ (bytes_self a.x509) (bytes_self a.jwks))
+bundle_self a = both_true _ _ (same_bytes a.domain) (both_true _ _ (same_bytes a.x509) (same_bytes a.jwks))
 
 signed_self : (a : Signed) → same_signed a a ≡ true
-signed_self a = both_true _ _ (bytes_self a.chain) (both_true _ _ (bytes_self a.key) (both_true _ _ (number_self a.not_before) (number_self a.not_after)))
+signed_self a = both_true _ _ (same_bytes a.chain) (both_true _ _ (same_bytes a.key) (both_true _ _ (same_number a.not_before) (same_number a.not_after)))
 
 token_self : (a : JwtToken) → same_token a a ≡ true
-token_self a = both_true _ _ (bytes_self a.token) (both_true _ _ (number_self a.issued_at) (number_self a.expires_at))
+token_self a = both_true _ _ (same_bytes a.token) (both_true _ _ (same_number a.issued_at) (same_number a.expires_at))
 
 -- ---- a test that is true of each item beside itself, and of no two others, decides
 

@@ -7,7 +7,6 @@
 
 mod asks;
 mod bundles;
-mod copying;
 mod entries;
 mod keys;
 mod laws;

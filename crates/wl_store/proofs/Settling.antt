@@ -6,7 +6,7 @@ use Rattle.std.specs.Ordering.{nat_cmp, is_lt}
 use Rattle.std.specs.Cmp.Lexicographic.{slice_cmp}
 use Rattle.std.proofs.lemmas.Slice.Eq.{bytes_eq-Decides}
 use Rattle.std.proofs.lemmas.Bool.Decides.{nat_tests}
-use Rattle.sorted_lists.proofs.Found.{level_self}
+use Rattle.list_laws.proofs.Order.{level_self}
 use Rattle.wl_entry.specs.Fitness.{signed_unfit}
 use Rattle.wl_entry.specs.declared.unfit.Unfit.{Unfit}
 use Rattle.svid_cache.specs.Caches as caches
@@ -15,7 +15,7 @@ use Rattle.svid_cache.specs.declared.install.Installed.TheVariants as installed
 use Rattle.std.specs.Cmp.Lexicographic.{pointwise}
 use Rattle.std.proofs.Common.{arith, refl, sym, ◌∙◌, ap, subst}
 use Rattle.wl_entry.specs.Same.{same_ask, same_entry, same_svid, same_bundle}
-use Rattle.sorted_lists.proofs.Chosen.{all_filter, length_filter}
+use Rattle.list_laws.proofs.Elements.{all_filter, length_filter}
 use Rattle.wl_entry.specs.declared.asks.Ask.{Ask}
 use Rattle.wl_entry.specs.declared.signing.Signed.{Signed}
 use Rattle.wl_entry.specs.declared.entries.Entry.{Entry}

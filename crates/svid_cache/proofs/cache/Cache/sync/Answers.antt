@@ -1,7 +1,7 @@
 use Rattle.std.proofs.Common.{◌≡◌, map, filter, sym, ◌∙◌, ap, subst}
 use Rattle.list_laws.specs.Lists.{Rises}
 use Rattle.wl_entry.specs.Keys.{svid_key}
-use Rattle.sorted_lists.proofs.Chosen.{rises_filter}
+use Rattle.list_laws.proofs.Rising.{rises_filter}
 use Rattle.svid_cache.specs.Caches.{IsCached, is_listed}
 use Rattle.svid_cache.specs.Inside.{asks_in}
 use Rattle.svid_cache.specs.Queue.{Filed, NotBefore, NoneBelow, first_end}
