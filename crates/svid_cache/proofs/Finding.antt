@@ -22,7 +22,7 @@ passes t None = false
 passes t (Some x) = t x
 
 -- no byte string above k is k
-above_is_other : (k x : List ℕ) → slice_cmp nat_cmp k x ≡ Less → (b : Bool) → b ≡ bytes_eq x k → b ≡ false
+pub above_is_other : (k x : List ℕ) → slice_cmp nat_cmp k x ≡ Less → (b : Bool) → b ≡ bytes_eq x k → b ≡ false
 above_is_other k x less false is = refl
 above_is_other k x less true is =
     let at : slice_cmp nat_cmp k k ≡ Less = subst (λ y. slice_cmp nat_cmp k y ≡ Less) ((bytes_eq-Decides x k).0 (sym is)) less in

@@ -37,6 +37,10 @@ clear_second now first = if nat_le first now then 0 else first
 abbrev pub NoneBelow : ℕ → List ℕ → Type 0
 NoneBelow least firsts = AllByRecursion (λ f. least ≤ f) firsts
 
+-- the second at which an SVID ends
+abbrev pub svid_end : Svid → ℕ
+svid_end s = s.signed.not_after
+
 -- the first second at which one of the SVIDs has expired
 abbrev pub first_end : List Svid → Option ℕ
-first_end svids = reduce min (map (λ s. s.signed.not_after) svids)
+first_end svids = reduce min (map svid_end svids)
