@@ -1,4 +1,4 @@
-use crate::keeping::publication;
+use crate::publication::publication;
 use crate::{Host, run};
 use std::alloc::{AllocGlobal, Global};
 use std::string::String;
