@@ -1,7 +1,7 @@
 -- From how a run ends to the rows of its statuses.
-use Rattle.std.specs.Prelude.{◌≡◌, ◌⊎◌, ℕ, List, [], take, Option, Some, None, IsSome, IfSome, Result, Ok, Err}
-use Rattle.std.proofs.Common.{refl, sym, ◌∙◌, ap, subst, arith, inl, inr}
-use Rattle.wl_edge.specs.Edge.{Rose, Drained, Gained, GainedPrefix}
+use Rattle.std.specs.Prelude.{◌≡◌, ◌⊎◌, ℕ, List, Option, Some, None, IsSome, Result, Ok, Err}
+use Rattle.std.proofs.Common.{refl, sym, ◌∙◌, ap, subst, inl, inr}
+use Rattle.wl_edge.specs.Edge.{Drained}
 use Rattle.wl_document.specs.declared.fault.DocFault.{DocFault}
 use Rattle.wl_document.specs.States.{State}
 use Rattle.wl_document.specs.Documents.{document_state}
@@ -9,12 +9,11 @@ use Rattle.wl_snapshot.specs.declared.answers.Answer.{Answer}
 use Rattle.wl_snapshot.specs.declared.answers.Answer.TheVariants.{Denied, Wait, TooLong, Message}
 use Rattle.wl_agent.specs.declared.command.Command.{Command}
 use Rattle.wl_agent.specs.declared.command.Command.TheVariants.{Preview, Check}
-use Rattle.wl_agent.specs.Lines.{fault_line, count_line, message_line}
-use Rattle.wl_agent.specs.Outcomes.{usage_outcome, fault_outcome, answer_outcome, preview_outcome, check_outcome, outcome_of, preview_answer}
+use Rattle.wl_agent.specs.Outcomes.{answer_outcome, preview_outcome, check_outcome, outcome_of, preview_answer}
 use Rattle.wl_agent.specs.declared.outcome.Outcome.{Outcome}
 use Rattle.wl_agent.specs.declared.program.TheConstants.{READ_LIMIT}
 use Rattle.wl_agent.specs.declared.status.TheConstants.{READ_FAILED, WRITE_FAILED, OUT_OF_MEMORY}
-use Rattle.wl_agent.specs.Ends.{Traffic, Wrote, IsOutcome, Ends, StatusExplains, IsAnswered, IsChecked, IsFaulted, YieldsTo, StatusGiven, lacks_memory, fails_read, fails_write, ends_well, previewed, checked, unfit, faulted, denied, waits, long, unread, unwritten, memory}
+use Rattle.wl_agent.specs.Ends.{Traffic, Wrote, IsOutcome, Ends, StatusExplains, StatusGiven, lacks_memory, fails_read, fails_write, ends_well, previewed, checked, unfit, faulted, denied, waits, long, unread, unwritten, memory}
 
 -- the output of an answer explains its status
 answered : (selectors : List (List ℕ)) (t : Traffic) (document : List ℕ) → Drained t.content READ_LIMIT document → (s : State) → document_state None document ≡ Ok s → (a : Answer) → preview_answer selectors s ≡ a → Wrote t (answer_outcome a).output → StatusExplains (Some (Preview selectors)) t (answer_outcome a).status

@@ -1,4 +1,4 @@
-use Rattle.std.proofs.Common.{◌≡◌, sym, ◌∙◌, ap, subst}
+use Rattle.std.proofs.Common.{sym, ◌∙◌, ap, subst}
 use Rattle.wl_snapshot.specs.Snapshots.{IsPublication}
 use Rattle.wl_agent.specs.Kept.{kept_in, publication_of}
 use Rattle.wl_agent.proofs.Keeps.{is_publication}
