@@ -1,5 +1,6 @@
--- Fronts of lists, and byte strings in order.
-use Rattle.std.specs.Prelude.{◌≡◌, ℕ, List, ◌++◌}
+-- Prefixes of lists, byte strings in order, and what a list has at some places.
+use Rattle.std.specs.Prelude.{◌≡◌, ℕ, List, ◌++◌, slice_get, option_to_list}
+use Rattle.std.specs.List.{flat_map}
 use Rattle.std.specs.Ordering.{nat_cmp}
 use Rattle.std.specs.Cmp.Lexicographic.{slice_cmp}
 use Rattle.std.specs.List.Sorted.{IsStrictlySortedBy}
@@ -8,10 +9,14 @@ use Rattle.std.specs.List.Sorted.{IsStrictlySortedBy}
 abbrev pub BeginsWith : {A : Type 0} → List A → List A → Type 0
 BeginsWith {A} whole front = (rest : List A) × (whole ≡ front ++ rest)
 
--- new is old with a front of what was due
+-- new is old with a prefix of what was due
 abbrev pub GainsFront : {A : Type 0} → List A → List A → List A → Type 0
 GainsFront {A} due old new = (part : List A) × (new ≡ old ++ part) × BeginsWith due part
 
 -- byte strings rise: each is below all later ones
 abbrev pub Rises : List (List ℕ) → Type 0
 Rises keys = IsStrictlySortedBy (slice_cmp nat_cmp) keys
+
+-- the items at these places, counted from 0, as far as there are any
+abbrev pub at_places : {X : Type 0} → List X → List ℕ → List X
+at_places xs places = flat_map (λ place. option_to_list (slice_get xs place)) places

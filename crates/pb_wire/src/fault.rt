@@ -1,23 +1,5 @@
 //! What can go wrong.
 
-use std::alloc::{AllocError, AllocFailed};
-
-/// The allocator had no room.
-#[derive(Clone, Copy, Debug, Drop, PartialEq, Eq)]
-pub struct Memory;
-
-impl From<AllocError> for Memory {
-    fn from(_: AllocError) -> Memory {
-        Memory
-    }
-}
-
-impl<T: Drop> From<AllocFailed<T>> for Memory {
-    fn from(_: AllocFailed<T>) -> Memory {
-        Memory
-    }
-}
-
 /// Why no field stands at a place: the place of the tag, the length or the value that is wrong.
 #[derive(Clone, Copy, Debug, PartialEq, Eq)]
 pub enum WireFault {

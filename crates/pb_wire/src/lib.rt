@@ -11,7 +11,7 @@ mod reading;
 mod varint;
 mod writing;
 
-pub use fault::{Memory, TextFault, WireFault};
+pub use fault::{TextFault, WireFault};
 pub use field::{Field, Value};
 pub use reading::read_field;
 pub use varint::{put_varint, size_of_varint};

@@ -4,7 +4,7 @@ ghost use Rattle.std.specs.Prelude.{◌≡◌, ◌≤◌, ◌++◌, ℕ, List, l
 ghost use Rattle.pb_wire.specs.Varint.{IsVarint, varint};
 ghost use Rattle.list_laws.specs.Lists.{GainsFront};
 
-use crate::fault::Memory;
+use wl_octets::Memory;
 
 fn write_varint(out: &mut Vec<u8>, value: u64) -> Result<(), Memory>
     ensures ok { OnOk result (out.new.items ≡ out.old.items ++ varint value) }
@@ -19,7 +19,7 @@ fn write_varint(out: &mut Vec<u8>, value: u64) -> Result<(), Memory>
     Ok(())
 }
 
-/// Appends the shortest varint of a number, one to ten bytes. After `Memory` a front of it was appended.
+/// Appends the shortest varint of a number, one to ten bytes. After `Memory` a prefix of it was appended.
 pub fn put_varint(out: &mut Vec<u8>, value: u64) -> Result<(), Memory>
     ensures ok { OnOk result (out.new.items ≡ out.old.items ++ varint value) }
     ensures err { OnErr result (GainsFront (varint value) out.old.items out.new.items) }

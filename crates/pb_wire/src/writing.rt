@@ -5,11 +5,11 @@ ghost use Rattle.pb_wire.specs.Varint.{varint};
 ghost use Rattle.pb_wire.specs.Spelling.{head, field};
 ghost use Rattle.list_laws.specs.Lists.{GainsFront};
 
-use crate::fault::Memory;
 use crate::varint::{put_varint, size_of_varint};
+use wl_octets::Memory;
 
 /// Appends the tag and the length of a field of wire type 2, whose `len` bytes the caller appends then. After `Memory`
-/// a front of them was appended.
+/// a prefix of them was appended.
 pub fn put_head(out: &mut Vec<u8>, number: u32, len: u64) -> Result<(), Memory>
     requires least { 1 ≤ number }
     requires most { number ≤ 536_870_911 }
@@ -20,7 +20,7 @@ pub fn put_head(out: &mut Vec<u8>, number: u32, len: u64) -> Result<(), Memory>
     put_varint(out, len)
 }
 
-/// Appends a field of wire type 2: its tag, its length and its bytes. After `Memory` a front of it was appended.
+/// Appends a field of wire type 2: its tag, its length and its bytes. After `Memory` a prefix of it was appended.
 pub fn put_bytes(out: &mut Vec<u8>, number: u32, bytes: &[u8]) -> Result<(), Memory>
     requires least { 1 ≤ number }
     requires most { number ≤ 536_870_911 }

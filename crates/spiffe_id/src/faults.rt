@@ -1,16 +1,6 @@
 //! What can be wrong with a text that is to be an id or a name.
 
-use std::alloc::AllocError;
-
-/// Memory ran out.
-#[derive(Clone, Copy, Debug, PartialEq, Eq)]
-pub struct Memory;
-
-impl From<AllocError> for Memory {
-    fn from(_: AllocError) -> Memory {
-        Memory
-    }
-}
+use wl_octets::Memory;
 
 /// The first fault of a text. Places count bytes of the text from 0.
 #[derive(Clone, Copy, Debug, PartialEq, Eq)]
@@ -23,23 +13,23 @@ pub enum IdFault {
     EmptyDomain,
     /// The byte at this place may not stand in a trust domain name.
     DomainByte(usize),
-    /// The segment behind the `/` at this place is empty.
+    /// The segment after the `/` at this place is empty.
     EmptySegment(usize),
     /// The byte at this place may not stand in a segment.
     PathByte(usize),
-    /// The segment behind the `/` at this place is `.` or `..`.
+    /// The segment after the `/` at this place is `.` or `..`.
     DotSegment(usize),
     /// Memory ran out.
     Memory,
 }
 
-impl From<AllocError> for IdFault {
+impl From<Memory> for IdFault {
     ghost use Rattle.std.specs.Prelude.{◌≡◌};
     ghost use Rattle.spiffe_id.specs.declared.faults.IdFault.TheVariants.{Memory};
 
     ghost from_gives = { λ _ fault. fault ≡ Memory };
 
-    fn from(_: AllocError) -> IdFault {
+    fn from(_: Memory) -> IdFault {
         IdFault::Memory
     }
 }

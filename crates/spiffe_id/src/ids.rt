@@ -4,17 +4,17 @@ ghost use Rattle.std.specs.Prelude.{◌≡◌, ◌≤◌, ℕ, List, length, dro
 ghost use Rattle.spiffe_id.specs.Grammar.{path_of, IsIdOf, IsId};
 ghost use Rattle.spiffe_id.specs.Faults.{id_fault, id_domain, id_path, Reads};
 
-use crate::faults::{IdFault, Memory};
+use crate::faults::IdFault;
 use crate::finding::{cut, fault_of_id};
 use std::alloc::Global;
-use std::cmp::Ordering;
 use std::marker::Model;
+use wl_octets::{Memory, Octets, TryClone};
 
 /// A SPIFFE ID: `spiffe://`, a trust domain name and a path (SPIFFE-ID, section 2), at most 2,048
-/// bytes (own rule).
-#[derive(Drop)]
+/// bytes (own rule). Two are ordered by their bytes.
+#[derive(Drop, PartialEq, Eq, PartialOrd, Ord)]
 pub struct SpiffeId {
-    text: Vec<u8>,
+    text: Octets,
 }
 
 impl Model for SpiffeId {
@@ -23,9 +23,11 @@ impl Model for SpiffeId {
 
     ghost Value = { List ℕ };
 
-    ghost view = { λ i. i.text.items };
+    ghost view = { λ i. i.text };
 
-    ghost invariant = { λ i. id_fault i.text.items ≡ None };
+    ghost invariant = { λ i. id_fault i.text ≡ None };
+
+    ghost inverse = { λ text. record { text = text } };
 }
 
 impl SpiffeId {
@@ -37,7 +39,7 @@ impl SpiffeId {
         match fault_of_id(text) {
             Some(fault) => Err(fault),
             None => Ok(SpiffeId {
-                text: text.to_vec(alloc)?,
+                text: Octets::from_slice(alloc, text)?,
             }),
         }
     }
@@ -54,14 +56,14 @@ impl SpiffeId {
     fn parts(&self) -> &[u8]
         ensures { result.now ≡ drop 9 self.now }
     {
-        &self.text[9..]
+        &self.text.as_slice()[9..]
     }
 
-    /// The name of its trust domain, which is the front of what follows the scheme.
+    /// The name of its trust domain, which is a prefix of what follows the scheme.
     #[tactic(auto, unfolding(crate::specs::Faults::id_domain))]
     fn name(&self) -> &[u8]
         ensures value { result.now ≡ id_domain self.now }
-        ensures front { length result.now ≤ length (drop 9 self.now) }
+        ensures prefix { length result.now ≤ length (drop 9 self.now) }
     {
         let parts = self.parts();
         match cut(parts) {
@@ -87,64 +89,18 @@ impl SpiffeId {
         &self.parts()[self.name().len()..]
     }
 
-    /// The same id once more.
+    /// A copy.
     pub fn copy(&self, alloc: Global) -> Result<SpiffeId, Memory>
         ensures { IfOk result (λ i. i ≡ self.now) }
     {
         Ok(SpiffeId {
-            text: self.text.as_slice().to_vec(alloc)?,
+            text: self.text.copy(alloc)?,
         })
     }
 }
 
-impl PartialEq for SpiffeId {
-    ghost use Rattle.std.specs.Str.{bytes_eq};
-    ghost use Rattle.std.specs.Cmp.{partial_equiv_from_equiv};
-    ghost use Rattle.std.specs.Cmp.Lexicographic.{nat_list_eq_equiv};
-
-    ghost eq = { λ a b. bytes_eq a b };
-
-    ghost laws = { partial_equiv_from_equiv nat_list_eq_equiv };
-
-    fn eq(&self, other: &SpiffeId) -> bool {
-        self.text.as_slice() == other.text.as_slice()
-    }
-}
-
-impl Eq for SpiffeId {
-    ghost use Rattle.std.specs.Cmp.Lexicographic.{nat_list_eq_equiv};
-
-    ghost laws = { nat_list_eq_equiv };
-}
-
-impl PartialOrd for SpiffeId {
-    ghost use Rattle.std.specs.Prelude.{Some};
-    ghost use Rattle.std.specs.Ordering.{nat_cmp};
-    ghost use Rattle.std.specs.Cmp.Lexicographic.{slice_cmp, texts_po};
-
-    ghost partial_cmp = { λ a b. Some (slice_cmp nat_cmp a b) };
-
-    ghost laws = { texts_po };
-
-    fn partial_cmp(&self, other: &SpiffeId) -> Option<Ordering> {
-        Some(self.cmp(other))
-    }
-}
-
-impl Ord for SpiffeId {
-    ghost use Rattle.std.specs.Prelude.{refl};
-    ghost use Rattle.std.specs.Ordering.{nat_cmp};
-    ghost use Rattle.std.specs.Cmp.Lexicographic.{slice_cmp, nat_list_cmp_total, texts_ties};
-
-    ghost cmp = { slice_cmp nat_cmp };
-
-    ghost total = { nat_list_cmp_total };
-
-    ghost matches_partial_cmp = { λ a b. refl };
-
-    ghost matches_eq = { λ a b. texts_ties a b };
-
-    fn cmp(&self, other: &SpiffeId) -> Ordering {
-        self.text.as_slice().cmp(&other.text.as_slice())
+impl TryClone for SpiffeId {
+    fn try_clone(&self, alloc: Global) -> Result<SpiffeId, Memory> {
+        self.copy(alloc)
     }
 }

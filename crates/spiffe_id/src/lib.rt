@@ -12,6 +12,6 @@ mod names;
 #[cfg(test)]
 mod tests;
 
-pub use faults::{IdFault, Memory};
+pub use faults::IdFault;
 pub use ids::SpiffeId;
 pub use names::TrustDomain;

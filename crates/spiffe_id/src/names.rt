@@ -4,17 +4,17 @@ ghost use Rattle.std.specs.Prelude.{◌≡◌, IfOk, IfErr};
 ghost use Rattle.spiffe_id.specs.Grammar.{IsDomain};
 ghost use Rattle.spiffe_id.specs.Faults.{domain_fault, Reads};
 
-use crate::faults::{IdFault, Memory};
+use crate::faults::IdFault;
 use crate::finding::fault_of_domain;
 use std::alloc::Global;
-use std::cmp::Ordering;
 use std::marker::Model;
+use wl_octets::{Memory, Octets, TryClone};
 
 /// The name of a trust domain: 1 to 255 bytes of `a-z 0-9 . - _` (SPIFFE-ID, section 2.1; the upper
-/// limit is an own rule).
-#[derive(Drop)]
+/// limit is an own rule). Two are ordered by their bytes.
+#[derive(Drop, PartialEq, Eq, PartialOrd, Ord)]
 pub struct TrustDomain {
-    name: Vec<u8>,
+    name: Octets,
 }
 
 impl Model for TrustDomain {
@@ -23,9 +23,11 @@ impl Model for TrustDomain {
 
     ghost Value = { List ℕ };
 
-    ghost view = { λ d. d.name.items };
+    ghost view = { λ d. d.name };
 
-    ghost invariant = { λ d. domain_fault 0 d.name.items ≡ None };
+    ghost invariant = { λ d. domain_fault 0 d.name ≡ None };
+
+    ghost inverse = { λ name. record { name = name } };
 }
 
 impl TrustDomain {
@@ -37,7 +39,7 @@ impl TrustDomain {
         match fault_of_domain(0, text) {
             Some(fault) => Err(fault),
             None => Ok(TrustDomain {
-                name: text.to_vec(alloc)?,
+                name: Octets::from_slice(alloc, text)?,
             }),
         }
     }
@@ -50,64 +52,18 @@ impl TrustDomain {
         self.name.as_slice()
     }
 
-    /// The same name once more.
+    /// A copy.
     pub fn copy(&self, alloc: Global) -> Result<TrustDomain, Memory>
         ensures { IfOk result (λ d. d ≡ self.now) }
     {
         Ok(TrustDomain {
-            name: self.name.as_slice().to_vec(alloc)?,
+            name: self.name.copy(alloc)?,
         })
     }
 }
 
-impl PartialEq for TrustDomain {
-    ghost use Rattle.std.specs.Str.{bytes_eq};
-    ghost use Rattle.std.specs.Cmp.{partial_equiv_from_equiv};
-    ghost use Rattle.std.specs.Cmp.Lexicographic.{nat_list_eq_equiv};
-
-    ghost eq = { λ a b. bytes_eq a b };
-
-    ghost laws = { partial_equiv_from_equiv nat_list_eq_equiv };
-
-    fn eq(&self, other: &TrustDomain) -> bool {
-        self.name.as_slice() == other.name.as_slice()
-    }
-}
-
-impl Eq for TrustDomain {
-    ghost use Rattle.std.specs.Cmp.Lexicographic.{nat_list_eq_equiv};
-
-    ghost laws = { nat_list_eq_equiv };
-}
-
-impl PartialOrd for TrustDomain {
-    ghost use Rattle.std.specs.Prelude.{Some};
-    ghost use Rattle.std.specs.Ordering.{nat_cmp};
-    ghost use Rattle.std.specs.Cmp.Lexicographic.{slice_cmp, texts_po};
-
-    ghost partial_cmp = { λ a b. Some (slice_cmp nat_cmp a b) };
-
-    ghost laws = { texts_po };
-
-    fn partial_cmp(&self, other: &TrustDomain) -> Option<Ordering> {
-        Some(self.cmp(other))
-    }
-}
-
-impl Ord for TrustDomain {
-    ghost use Rattle.std.specs.Prelude.{refl};
-    ghost use Rattle.std.specs.Ordering.{nat_cmp};
-    ghost use Rattle.std.specs.Cmp.Lexicographic.{slice_cmp, nat_list_cmp_total, texts_ties};
-
-    ghost cmp = { slice_cmp nat_cmp };
-
-    ghost total = { nat_list_cmp_total };
-
-    ghost matches_partial_cmp = { λ a b. refl };
-
-    ghost matches_eq = { λ a b. texts_ties a b };
-
-    fn cmp(&self, other: &TrustDomain) -> Ordering {
-        self.name.as_slice().cmp(&other.name.as_slice())
+impl TryClone for TrustDomain {
+    fn try_clone(&self, alloc: Global) -> Result<TrustDomain, Memory> {
+        self.copy(alloc)
     }
 }

@@ -8,7 +8,7 @@ use std::alloc::Global;
 use wl_octets::{Memory, Octets};
 
 #[tactic(auto, unfolding(crate::specs::Messages::spell_state))]
-fn put_state(out: &mut Vec<u8>, state: u32) -> Result<(), pb_wire::Memory>
+fn put_state(out: &mut Vec<u8>, state: u32) -> Result<(), Memory>
     ensures { OnOk result (out.new.items ≡ out.old.items ++ spell_state state) }
 {
     put_varint(out, 8)?;
@@ -22,8 +22,6 @@ pub fn encode_health(alloc: Global, state: u32) -> Result<Octets, Memory>
     ensures { IfOk result (λ o. o ≡ spell_state state) }
 {
     let mut out = Vec::with_capacity(alloc, 2)?;
-    match put_state(&mut out, state) {
-        Ok(()) => Ok(Octets::from_vec(out)),
-        Err(_) => Err(Memory),
-    }
+    put_state(&mut out, state)?;
+    Ok(Octets::from_vec(out))
 }

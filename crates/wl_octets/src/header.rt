@@ -14,7 +14,7 @@ pub struct Header {
 }
 
 impl Header {
-    /// Another header field of the same name and value.
+    /// A copy.
     pub fn copy(&self, alloc: Global) -> Result<Header, Memory>
         ensures { IfOk result (λ h. h ≡ self.now) }
     {

@@ -56,7 +56,7 @@ impl Octets {
         self.bytes
     }
 
-    /// Appends these bytes; on want of memory nothing changes.
+    /// Appends these bytes; when memory runs out nothing changes.
     pub fn push_slice(&mut self, bytes: &[u8]) -> Result<(), Memory>
         ensures ok { OnOk result (self.new ≡ self.old ++ bytes.now) }
         ensures err { OnErr result (self.new ≡ self.old) }
@@ -80,7 +80,7 @@ impl Octets {
         self.bytes.len()
     }
 
-    /// Another byte string of the same bytes.
+    /// A copy.
     pub fn copy(&self, alloc: Global) -> Result<Octets, Memory>
         ensures { IfOk result (λ o. o ≡ self.now) }
     {

@@ -47,7 +47,7 @@ impl<T> Row<T> {
         self.items
     }
 
-    /// Puts an item at the end; on want of memory the item comes back and nothing changes.
+    /// Puts an item at the end; when memory runs out the item comes back and nothing changes.
     pub fn push(&mut self, item: T) -> Result<(), (T, Memory)>
         ensures ok { OnOk result (self.new ≡ self.old ++ item ∷ []) }
         ensures err { OnErr result (self.new ≡ self.old) }
@@ -81,7 +81,7 @@ impl<T> Row<T> {
         self.items.len()
     }
 
-    /// Takes out the item at this place, which has to be below the length; those behind it move up.
+    /// Takes out the item at this place, which has to be below the length; those after it move up.
     pub fn remove(&mut self, at: usize) -> T
         requires { at < length self.old }
         ensures value { result ≡ slice_index_or self.old at result }
@@ -101,4 +101,10 @@ impl<T: PartialEq> PartialEq for Row<T> {
     fn eq(&self, other: &Row<T>) -> bool {
         self.items.as_slice() == other.items.as_slice()
     }
+}
+
+impl<T: Eq> Eq for Row<T> {
+    ghost use Rattle.std.specs.Cmp.Lexicographic.{lists_equiv};
+
+    ghost laws = { lists_equiv T.Eq.laws };
 }

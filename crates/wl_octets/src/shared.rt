@@ -25,7 +25,7 @@ impl<T> Model for Shared<T> {
 }
 
 impl<T> Shared<T> {
-    /// Makes a part that can be shared; on want of memory it comes back.
+    /// Makes a part that can be shared; when memory runs out it is given back.
     pub fn new(alloc: Global, part: T) -> Result<Shared<T>, (T, Memory)>
         ensures ok { IfOk result (λ s. s ≡ part) }
         ensures back { IfErr result (λ e. e.0 ≡ part) }
@@ -65,4 +65,8 @@ impl<T: PartialEq> PartialEq for Shared<T> {
         let b: &T = &other.part;
         a == b
     }
+}
+
+impl<T: Eq> Eq for Shared<T> {
+    ghost laws = { T.Eq.laws };
 }

@@ -1,25 +1,16 @@
 //! What can be wrong with a selector, and with a list of them.
 
 use std::alloc::{AllocError, AllocFailed};
-
-/// Memory ran out.
-#[derive(Clone, Copy, Debug, PartialEq, Eq)]
-pub struct Memory;
-
-impl From<AllocError> for Memory {
-    fn from(_: AllocError) -> Memory {
-        Memory
-    }
-}
+use wl_octets::Memory;
 
 /// The first fault of a text that is to be a selector: UTF-8 is judged first, then the parts.
 #[derive(Clone, Copy, Debug, PartialEq, Eq)]
 pub enum SelectorFault {
     /// There is no colon.
     NoColon,
-    /// Nothing stands before the first colon.
+    /// Nothing is before the first colon.
     EmptyKind,
-    /// Nothing stands behind the first colon.
+    /// Nothing is after the first colon.
     EmptyValue,
     /// The text is no UTF-8.
     NotUtf8,
@@ -36,19 +27,13 @@ pub enum SelectorsFault {
     Memory,
 }
 
-impl<T: Drop> From<AllocFailed<T>> for Memory {
-    fn from(_: AllocFailed<T>) -> Memory {
-        Memory
-    }
-}
-
-impl From<AllocError> for SelectorFault {
+impl From<Memory> for SelectorFault {
     ghost use Rattle.std.specs.Prelude.{◌≡◌};
     ghost use Rattle.wl_selector.specs.declared.faults.SelectorFault.TheVariants.{Memory};
 
     ghost from_gives = { λ _ fault. fault ≡ Memory };
 
-    fn from(_: AllocError) -> SelectorFault {
+    fn from(_: Memory) -> SelectorFault {
         SelectorFault::Memory
     }
 }

@@ -11,6 +11,6 @@ mod sets;
 #[cfg(test)]
 mod tests;
 
-pub use faults::{Memory, SelectorFault, SelectorsFault};
+pub use faults::{SelectorFault, SelectorsFault};
 pub use selector::Selector;
 pub use sets::Selectors;

@@ -4,16 +4,16 @@ ghost use Rattle.std.specs.Prelude.{◌≡◌, ◌==◌, ◌<◌, None, length, 
 ghost use Rattle.std.specs.Str.{is_utf8};
 ghost use Rattle.wl_selector.specs.Selectors.{selector_fault, Reads};
 
-use crate::faults::{Memory, SelectorFault};
+use crate::faults::SelectorFault;
 use std::alloc::Global;
-use std::cmp::Ordering;
 use std::marker::Model;
+use wl_octets::{Memory, Octets, TryClone};
 
 /// A selector `type:value` (SPIRE registration entries): UTF-8 with something on each side of the
-/// first colon.
-#[derive(Drop)]
+/// first colon. Two are ordered by their bytes.
+#[derive(Drop, PartialEq, Eq, PartialOrd, Ord)]
 pub struct Selector {
-    text: Vec<u8>,
+    text: Octets,
 }
 
 impl Model for Selector {
@@ -22,9 +22,11 @@ impl Model for Selector {
 
     ghost Value = { List ℕ };
 
-    ghost view = { λ s. s.text.items };
+    ghost view = { λ s. s.text };
 
-    ghost invariant = { λ s. selector_fault s.text.items ≡ None };
+    ghost invariant = { λ s. selector_fault s.text ≡ None };
+
+    ghost inverse = { λ text. record { text = text } };
 }
 
 /// Where the first colon stands.
@@ -66,7 +68,7 @@ impl Selector {
         match fault_of(text) {
             Some(fault) => Err(fault),
             None => Ok(Selector {
-                text: text.to_vec(alloc)?,
+                text: Octets::from_slice(alloc, text)?,
             }),
         }
     }
@@ -79,64 +81,18 @@ impl Selector {
         self.text.as_slice()
     }
 
-    /// The same selector once more.
+    /// A copy.
     pub fn copy(&self, alloc: Global) -> Result<Selector, Memory>
         ensures { IfOk result (λ s. s ≡ self.now) }
     {
         Ok(Selector {
-            text: self.text.as_slice().to_vec(alloc)?,
+            text: self.text.copy(alloc)?,
         })
     }
 }
 
-impl PartialEq for Selector {
-    ghost use Rattle.std.specs.Str.{bytes_eq};
-    ghost use Rattle.std.specs.Cmp.{partial_equiv_from_equiv};
-    ghost use Rattle.std.specs.Cmp.Lexicographic.{nat_list_eq_equiv};
-
-    ghost eq = { λ a b. bytes_eq a b };
-
-    ghost laws = { partial_equiv_from_equiv nat_list_eq_equiv };
-
-    fn eq(&self, other: &Selector) -> bool {
-        self.text.as_slice() == other.text.as_slice()
-    }
-}
-
-impl Eq for Selector {
-    ghost use Rattle.std.specs.Cmp.Lexicographic.{nat_list_eq_equiv};
-
-    ghost laws = { nat_list_eq_equiv };
-}
-
-impl PartialOrd for Selector {
-    ghost use Rattle.std.specs.Prelude.{Some};
-    ghost use Rattle.std.specs.Ordering.{nat_cmp};
-    ghost use Rattle.std.specs.Cmp.Lexicographic.{slice_cmp, texts_po};
-
-    ghost partial_cmp = { λ a b. Some (slice_cmp nat_cmp a b) };
-
-    ghost laws = { texts_po };
-
-    fn partial_cmp(&self, other: &Selector) -> Option<Ordering> {
-        Some(self.cmp(other))
-    }
-}
-
-impl Ord for Selector {
-    ghost use Rattle.std.specs.Prelude.{refl};
-    ghost use Rattle.std.specs.Ordering.{nat_cmp};
-    ghost use Rattle.std.specs.Cmp.Lexicographic.{slice_cmp, nat_list_cmp_total, texts_ties};
-
-    ghost cmp = { slice_cmp nat_cmp };
-
-    ghost total = { nat_list_cmp_total };
-
-    ghost matches_partial_cmp = { λ a b. refl };
-
-    ghost matches_eq = { λ a b. texts_ties a b };
-
-    fn cmp(&self, other: &Selector) -> Ordering {
-        self.text.as_slice().cmp(&other.text.as_slice())
+impl TryClone for Selector {
+    fn try_clone(&self, alloc: Global) -> Result<Selector, Memory> {
+        self.copy(alloc)
     }
 }

@@ -3,17 +3,18 @@
 ghost use Rattle.std.specs.Prelude.{◌≡◌, ◌<◌, ◌≤◌, ℕ, List, length, IfOk, IfErr, IsErrOf};
 ghost use Rattle.wl_selector.specs.Selectors.{has_text, has_texts, sorted_texts, IsAscending};
 
-use crate::faults::{Memory, SelectorsFault};
+use crate::faults::SelectorsFault;
 use crate::selector::Selector;
 use std::alloc::Global;
 use std::cmp::Ordering;
 use std::collections::BTreeSet;
 use std::marker::Model;
+use wl_octets::{Memory, Row, TryClone, clone_all};
 
 /// A set of selectors, by ascending bytes.
-#[derive(Drop)]
+#[derive(Drop, PartialEq, Eq)]
 pub struct Selectors {
-    items: Vec<Selector>,
+    items: Row<Selector>,
 }
 
 impl Model for Selectors {
@@ -22,34 +23,25 @@ impl Model for Selectors {
 
     ghost Value = { List (List ℕ) };
 
-    ghost view = { λ s. s.items.items };
+    ghost view = { λ s. s.items };
 
-    ghost invariant = { λ s. IsAscending s.items.items };
-}
+    ghost invariant = { λ s. IsAscending s.items };
 
-/// The same items once more.
-fn copies(alloc: Global, items: &[Selector]) -> Result<Vec<Selector>, Memory>
-    ensures { IfOk result (λ v. v.items ≡ items.now) }
-{
-    let mut copies = Vec::with_capacity(alloc, items.len())?;
-    for item in items {
-        copies.push(item.copy(alloc)?)?;
-    }
-    Ok(copies)
+    ghost inverse = { λ items. record { items = items } };
 }
 
 /// The items by ascending bytes, each once.
 #[tactic(auto, unfolding(crate::specs::Selectors::sorted_texts))]
-fn in_order(alloc: Global, items: Vec<Selector>) -> Result<Vec<Selector>, SelectorsFault>
-    ensures ok { IfOk result (λ v. v.items ≡ sorted_texts items.items) }
-    ensures ascending { IfOk result (λ v. IsAscending v.items) }
+fn in_order(alloc: Global, items: Vec<Selector>) -> Result<Row<Selector>, SelectorsFault>
+    ensures ok { IfOk result (λ row. row ≡ sorted_texts items.items) }
+    ensures ascending { IfOk result IsAscending }
     ensures err { IfErr result (λ e. e ≡ SelectorsFault.Memory) }
 {
     let mut kept = BTreeSet::new(alloc);
     for item in items {
         kept.insert(item)?;
     }
-    Ok(kept.into_iter().collect(alloc)?)
+    Ok(Row::from_vec(kept.into_iter().collect(alloc)?))
 }
 
 impl Selectors {
@@ -102,32 +94,18 @@ impl Selectors {
         rest.is_empty()
     }
 
-    /// The same set once more.
+    /// A copy.
     pub fn copy(&self, alloc: Global) -> Result<Selectors, Memory>
         ensures { IfOk result (λ s. s ≡ self.now) }
     {
         Ok(Selectors {
-            items: copies(alloc, self.items.as_slice())?,
+            items: clone_all(alloc, self.items.as_slice())?,
         })
     }
 }
 
-impl PartialEq for Selectors {
-    ghost use Rattle.std.specs.Str.{bytes_eq};
-    ghost use Rattle.std.specs.Cmp.{partial_equiv_from_equiv};
-    ghost use Rattle.std.specs.Cmp.Lexicographic.{pointwise, lists_per, nat_list_eq_equiv};
-
-    ghost eq = { λ a b. pointwise bytes_eq a b };
-
-    ghost laws = { lists_per (partial_equiv_from_equiv nat_list_eq_equiv) };
-
-    fn eq(&self, other: &Selectors) -> bool {
-        self.items.as_slice() == other.items.as_slice()
+impl TryClone for Selectors {
+    fn try_clone(&self, alloc: Global) -> Result<Selectors, Memory> {
+        self.copy(alloc)
     }
-}
-
-impl Eq for Selectors {
-    ghost use Rattle.std.specs.Cmp.Lexicographic.{lists_equiv, nat_list_eq_equiv};
-
-    ghost laws = { lists_equiv nat_list_eq_equiv };
 }

@@ -10,7 +10,7 @@ use std::alloc::Global;
 use wl_octets::{Memory, Octets};
 
 #[tactic(auto, unfolding(crate::specs::Spelling::spell_x509))]
-fn put_x509(out: &mut Vec<u8>, message: &X509Response) -> Result<(), pb_wire::Memory>
+fn put_x509(out: &mut Vec<u8>, message: &X509Response) -> Result<(), Memory>
     requires { length (spell_x509 message.now) ≤ 2 ^ 31 }
     ensures { OnOk result (out.new.items ≡ out.old.items ++ spell_x509 message.now) }
 {
@@ -24,10 +24,8 @@ pub fn encode_x509(alloc: Global, message: &X509Response) -> Result<Octets, Memo
     ensures { IfOk result (λ o. o ≡ spell_x509 message.now) }
 {
     let mut out = Vec::with_capacity(alloc, size_x509(message) as usize)?;
-    match put_x509(&mut out, message) {
-        Ok(()) => Ok(Octets::from_vec(out)),
-        Err(_) => Err(Memory),
-    }
+    put_x509(&mut out, message)?;
+    Ok(Octets::from_vec(out))
 }
 
 /// The spelling of an `X509BundlesResponse`, which has at most 2^31 bytes. Its map's keys are written in their order.
@@ -37,10 +35,8 @@ pub fn encode_bundles(alloc: Global, message: &BundlesResponse) -> Result<Octets
     ensures { IfOk result (λ o. o ≡ spell_bundles message.now) }
 {
     let mut out = Vec::with_capacity(alloc, size_bundles(message) as usize)?;
-    match put_map_items(&mut out, 2, message.bundles.as_slice()) {
-        Ok(()) => Ok(Octets::from_vec(out)),
-        Err(_) => Err(Memory),
-    }
+    put_map_items(&mut out, 2, message.bundles.as_slice())?;
+    Ok(Octets::from_vec(out))
 }
 
 /// The spelling of a `JWTBundlesResponse`, which has at most 2^31 bytes. Its map's keys are written in their order.
@@ -50,10 +46,8 @@ pub fn encode_jwt_bundles(alloc: Global, message: &JwtBundlesResponse) -> Result
     ensures { IfOk result (λ o. o ≡ spell_jwt_bundles message.now) }
 {
     let mut out = Vec::with_capacity(alloc, size_jwt_bundles(message) as usize)?;
-    match put_map_items(&mut out, 1, message.bundles.as_slice()) {
-        Ok(()) => Ok(Octets::from_vec(out)),
-        Err(_) => Err(Memory),
-    }
+    put_map_items(&mut out, 1, message.bundles.as_slice())?;
+    Ok(Octets::from_vec(out))
 }
 
 /// The spelling of a `JWTSVIDResponse`, which has at most 2^31 bytes.
@@ -63,8 +57,6 @@ pub fn encode_jwt(alloc: Global, message: &JwtResponse) -> Result<Octets, Memory
     ensures { IfOk result (λ o. o ≡ spell_jwt message.now) }
 {
     let mut out = Vec::with_capacity(alloc, size_jwt(message) as usize)?;
-    match put_jwt_items(&mut out, message.svids.as_slice()) {
-        Ok(()) => Ok(Octets::from_vec(out)),
-        Err(_) => Err(Memory),
-    }
+    put_jwt_items(&mut out, message.svids.as_slice())?;
+    Ok(Octets::from_vec(out))
 }

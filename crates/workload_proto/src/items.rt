@@ -7,7 +7,8 @@ ghost use Rattle.workload_proto.specs.Spelling.{spell_x509_item, spell_jwt_item,
 
 use crate::message::{JwtItem, MapItem, X509Item};
 use crate::size::{jwt_content_size, map_content_size, x509_content_size};
-use pb_wire::{Memory, put_bytes, put_head};
+use pb_wire::{put_bytes, put_head};
+use wl_octets::Memory;
 
 /// A field that is left out where it is empty.
 fn put_optional(out: &mut Vec<u8>, number: u32, bytes: &[u8]) -> Result<(), Memory>
