@@ -10,6 +10,7 @@ mod bundles;
 mod copying;
 mod entries;
 mod keys;
+pub mod limits;
 mod signing;
 #[cfg(test)]
 mod tests;
