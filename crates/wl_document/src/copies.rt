@@ -3,22 +3,11 @@
 ghost use Rattle.std.specs.Prelude.{◌≡◌, IfOk};
 
 use crate::state::DocSvid;
-use spiffe_id::TrustDomain;
 use std::alloc::Global;
 use wl_entry::{Bundle, Entry};
 use wl_octets::{Memory, Row};
 
-/// The same domain once more.
-pub(crate) fn copy_domain(alloc: Global, domain: &TrustDomain) -> Result<TrustDomain, Memory>
-    ensures { IfOk result (λ d. d ≡ domain.now) }
-{
-    match domain.copy(alloc) {
-        Ok(domain) => Ok(domain),
-        Err(_) => Err(Memory),
-    }
-}
-
-/// The same bundles once more.
+/// Copies of the bundles.
 pub(crate) fn copy_bundles(alloc: Global, items: &[Bundle]) -> Result<Row<Bundle>, Memory>
     ensures { IfOk result (λ r. r ≡ items.now) }
 {
@@ -29,7 +18,7 @@ pub(crate) fn copy_bundles(alloc: Global, items: &[Bundle]) -> Result<Row<Bundle
     Ok(Row::from_vec(copies))
 }
 
-/// The same entries once more.
+/// Copies of the entries.
 pub(crate) fn copy_entries(alloc: Global, items: &[Entry]) -> Result<Row<Entry>, Memory>
     ensures { IfOk result (λ r. r ≡ items.now) }
 {
@@ -40,7 +29,7 @@ pub(crate) fn copy_entries(alloc: Global, items: &[Entry]) -> Result<Row<Entry>,
     Ok(Row::from_vec(copies))
 }
 
-/// The same signed identities once more.
+/// Copies of the signed identities.
 pub(crate) fn copy_svids(alloc: Global, items: &[DocSvid]) -> Result<Row<DocSvid>, Memory>
     ensures { IfOk result (λ r. r ≡ items.now) }
 {

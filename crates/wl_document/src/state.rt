@@ -2,7 +2,7 @@
 
 ghost use Rattle.std.specs.Prelude.{◌≡◌, IfOk};
 
-use crate::copies::{copy_bundles, copy_domain, copy_entries, copy_svids};
+use crate::copies::{copy_bundles, copy_entries, copy_svids};
 use spiffe_id::TrustDomain;
 use std::alloc::Global;
 use std::marker::Model;
@@ -17,7 +17,7 @@ pub struct DocSvid {
 }
 
 impl DocSvid {
-    /// The same signed identity once more.
+    /// A copy of the signed identity.
     pub fn copy(&self, alloc: Global) -> Result<DocSvid, Memory>
         ensures { IfOk result (λ s. s ≡ self.now) }
     {
@@ -49,11 +49,11 @@ impl Model for AuthorityState {
 }
 
 impl AuthorityState {
-    /// The same state once more.
+    /// A copy of the state.
     pub fn copy(&self, alloc: Global) -> Result<AuthorityState, Memory>
         ensures { IfOk result (λ s. s ≡ self.now) }
     {
-        let domain = copy_domain(alloc, &self.domain)?;
+        let domain = self.domain.copy(alloc)?;
         let bundles = copy_bundles(alloc, self.bundles.as_slice())?;
         let entries = copy_entries(alloc, self.entries.as_slice())?;
         let svids = copy_svids(alloc, self.svids.as_slice())?;

@@ -155,10 +155,7 @@ fn view_with(alloc: Global, snapshot: &Snapshot, entries: &[Shared<Entry>]) -> R
     requires { ChosenFrom snapshot.now entries.now }
     ensures { IfOk result (λ v. v ≡ sight_of snapshot.now entries.now) }
 {
-    let domain = match snapshot.domain.copy(alloc) {
-        Ok(domain) => domain,
-        Err(_) => return Err(Memory),
-    };
+    let domain = snapshot.domain.copy(alloc)?;
     let bundles = bundles_in(
         alloc,
         snapshot.bundles.as_slice(),

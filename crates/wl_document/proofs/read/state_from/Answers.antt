@@ -5,7 +5,7 @@ use Rattle.wl_entry.specs.Keys.{bundle_key, entry_key}
 use Rattle.wl_document.specs.Svids.{doc_svid_key}
 use Rattle.wl_document.specs.States.{SvidWithin}
 use Rattle.wl_document.proofs.Orders.{rises_keyed}
-use Rattle.wl_document.proofs.read.gathered.Goals as goal
+use Rattle.wl_document.proofs.read.state_from.Goals as goal
 
 pub invariant_of-result : goal.invariant_of-result
 invariant_of-result c =
