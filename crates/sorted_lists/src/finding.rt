@@ -54,7 +54,8 @@ pub fn mark_key<T: Keyed>(items: &[T], key: &[u8], marks: &mut [bool])
     requires rising { Rises (map T.key items.now) }
     requires each { length marks.old ≡ length items.now }
     ensures each { length marks.new ≡ length items.now }
-    ensures marked { (before : T → Bool) → marks.old ≡ map before items.now → marks.new ≡ map (λ x. before x || bytes_eq key.now (T.key x)) items.now }
+    ensures marked { (before : T → Bool) → marks.old ≡ map before items.now
+        → marks.new ≡ map (λ x. before x || bytes_eq key.now (T.key x)) items.now }
 {
     if let Some(place) = place_by_key(items, key) {
         marks[place] = true;

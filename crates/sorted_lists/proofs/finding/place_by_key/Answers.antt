@@ -1,6 +1,5 @@
-use Rattle.std.proofs.Common.{◌≡◌, Result, Ok, Err, ℕ, rules, sym, ap, ◌∙◌}
+use Rattle.std.proofs.Common.{rules, sym, ap, ◌∙◌}
 use Rattle.std.proofs.lemmas.Fn.{always_returns_same}
-use Rattle.list_laws.specs.Keys.{place_at}
 use Rattle.sorted_lists.proofs.Places.{ord, place_of, searched}
 use Rattle.sorted_lists.proofs.finding.place_by_key.Goals as goal
 
