@@ -3,6 +3,7 @@
 
 ghost use Rattle.std.specs.Prelude.{◌≡◌, ◌+◌, ◌≤◌, ◌<◌, ◌++◌, Ok, IfOk, IfSome, MatchOption, OnOk, length};
 ghost use Rattle.std.specs.List.{position};
+ghost use Rattle.hpack.specs.declared.limit.TheConstants.{MAX_LIST_SIZE};
 ghost use Rattle.hpack.specs.Tables.{Table, list_size, static_table};
 ghost use Rattle.hpack.specs.Reading.{block_of};
 ghost use Rattle.hpack.specs.Grammar.{IsBlock};
@@ -113,9 +114,9 @@ fn most_bytes(headers: &[Header]) -> usize {
 /// and it takes at most 16,383 bytes.
 pub fn encode_plain(alloc: Global, headers: &[Header]) -> Result<Octets, Memory>
     ensures spelled { IfOk result (λ block. block ≡ spelled_block headers.now) }
-    ensures readable { IfOk result (λ block. list_size headers.now ≤ 16384 → (table : Table) → IsBlock table block headers.now table) }
-    ensures small { IfOk result (λ block. list_size headers.now ≤ 16384 → length block ≤ 16383) }
-    ensures read_again { IfOk result (λ block. list_size headers.now ≤ 16384 → (table : Table) → block_of table block ≡ Ok (headers.now, table)) }
+    ensures readable { IfOk result (λ block. list_size headers.now ≤ MAX_LIST_SIZE → (table : Table) → IsBlock table block headers.now table) }
+    ensures small { IfOk result (λ block. list_size headers.now ≤ MAX_LIST_SIZE → length block < MAX_LIST_SIZE) }
+    ensures read_again { IfOk result (λ block. list_size headers.now ≤ MAX_LIST_SIZE → (table : Table) → block_of table block ≡ Ok (headers.now, table)) }
 {
     let mut out = Vec::with_capacity(alloc, most_bytes(headers))?;
     for header in headers {

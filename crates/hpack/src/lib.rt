@@ -12,6 +12,7 @@ mod encode;
 mod fault;
 mod huffman;
 mod integers;
+pub mod limit;
 mod static_table;
 mod tables;
 #[cfg(test)]
