@@ -252,6 +252,12 @@ pull_within_connection o rises =
     let k : RoundSums o.flow o.streams r = sums_rounds (all_work o.streams + 1) o.flow o.streams rises in
     omega (arith, k.connection_window)
 
+pub pull_sums : (o : Out) → RisesFrom 0 (numbers o) → ((pulled o).left.flow.initial_window_size ≡ o.flow.initial_window_size) × ((pulled o).left.flow.connection_window + sum_by data_of (pulled o).sent ≡ o.flow.connection_window) × Spent (pulled o).sent o.streams (pulled o).left.streams
+unfolding pulled all_rounds
+pull_sums o rises =
+    let k : RoundSums o.flow o.streams (all_rounds o.flow o.streams) = sums_rounds (all_work o.streams + 1) o.flow o.streams rises in
+    (k.initial_window_size, k.connection_window, k.spent)
+
 -- ---- what a call does to the credits
 
 -- each stream's credit rose by the step on it, and fell by what was written on it

@@ -1,4 +1,4 @@
--- Blocks, representation by representation: they are read as they are spelled, and every block is read.
+-- Blocks, representation by representation: they are read as they are encoded, and every block is read.
 use Rattle.std.proofs.Common.{◌≡◌, ℕ, zero, suc, ◌-◌, ◌<◌, ◌≤◌, Bool, true, false, List, [], ◌∷◌, ◌++◌, length, refl, sym, ap, subst, ◌∙◌, arith, inl, inr, Option, Some, None, Result, Ok, Err, slice_get, length-append, append-nil, append_assoc}
 use Rattle.std.proofs.lemmas.Bool.{cases_lt, lt-ltb, le-ltb}
 use Rattle.wl_octets.specs.declared.header.Header.{Header}

@@ -1,4 +1,4 @@
--- Representations are read as they are spelled, and every spelling is read.
+-- Representations are read as they are encoded, and every encoding is read.
 use Rattle.std.proofs.Common.{◌≡◌, ℕ, ◌<◌, ◌≤◌, nat_lt, Bool, true, false, ◌||◌, if◌then◌else◌, List, [], ◌∷◌, ◌++◌, length, refl, ap, subst, arith, inl, inr, Option, Some, None, Result, Ok, Err, slice_index, length-append}
 use Rattle.std.proofs.lemmas.Bool.{cases_lt, lt-ltb, le-ltb, le-leb, lt-leb}
 use Rattle.wl_octets.specs.declared.header.Header.{Header}

@@ -1,4 +1,4 @@
-//! The spelling of header blocks that are written.
+//! The encoding of header blocks that are written.
 #![tactic(auto)]
 
 ghost use Rattle.std.specs.Prelude.{◌≡◌, ◌+◌, ◌≤◌, ◌<◌, ◌++◌, Ok, IfOk, IfSome, MatchOption, OnOk, length};
@@ -78,7 +78,7 @@ fn find_field(header: &Header, from: usize) -> Option<usize>
     None
 }
 
-/// Appends the spelling of a header.
+/// Appends the encoding of a header.
 #[tactic(auto, unfolding(crate::specs::Writing::spelled))]
 fn put_header(out: &mut Vec<u8>, header: &Header) -> Result<(), Memory>
     ensures { OnOk result (out.new.items ≡ out.old.items ++ spelled header.now) }
@@ -107,7 +107,7 @@ fn most_bytes(headers: &[Header]) -> usize {
     bytes
 }
 
-/// The block of some headers in the one spelling that is written: a header of the static table is indexed, any other is a literal
+/// The block of some headers in the one encoding that is written: a header of the static table is indexed, any other is a literal
 /// without indexing that names the first static entry of its name, where there is one; no string is Huffman coded.
 ///
 /// Where the headers' sizes sum to at most 16,384, a decoder reads it as these headers, whatever its table, and its table stays;
