@@ -49,7 +49,7 @@ fn item_in<T>(items: &[T], place: usize) -> Option<&T>
     items.get(place)
 }
 
-/// The item in the middle, with those before it and those behind it.
+/// The item in the middle, with those before it and those after it.
 fn halve<T>(items: &[T]) -> Option<(&[T], &T, &[T])>
     ensures none { IfNone result (items.now ≡ []) }
     ensures parts { IfSome result (λ p. items.now ≡ p.0.now ++ p.1.now ∷ p.2.now) }

@@ -74,7 +74,7 @@ id_domain text = first_or_empty (pieces (drop 9 text))
 unfoldable pub id_path : List ℕ → List ℕ
 id_path text = drop (length (id_domain text)) (drop 9 text)
 
--- What reading a text answers: the text, where it has no fault; else its first fault. Want of memory yields nothing.
+-- What reading a text answers: the text, where it has no fault; else its first fault. Running out of memory yields nothing.
 abbrev pub Reads : List ℕ → Option IdFault → Result (List ℕ) IdFault → Type 0
 Reads text fault (Ok value) = (value ≡ text) × (fault ≡ None)
 Reads text fault (Err Memory) = Unit {0}

@@ -23,7 +23,7 @@ pub record IsSegment (segment : List ℕ) : Type 0 where
   pub one : segment ≢ codes "."
   pub two : segment ≢ codes ".."
 
--- a path: each segment behind a slash
+-- a path: each segment after a slash
 abbrev pub path_of : List (List ℕ) → List ℕ
 path_of [] = []
 path_of (segment ∷ segments) = 47 ∷ (segment ++ path_of segments)

@@ -91,7 +91,7 @@ fn fault_of_segment(at: usize, segment: &[u8]) -> Option<IdFault>
     }
 }
 
-/// What stands before the first `/`, and what stands behind it.
+/// What stands before the first `/`, and what is after it.
 pub(crate) fn cut(text: &[u8]) -> Option<(&[u8], &[u8])>
     ensures parts { MatchOption result (pieces text.now ≡ text.now ∷ []) (λ p. pieces text.now ≡ p.0.now ∷ pieces p.1.now) }
     ensures shorter { IfSome result (λ p. length p.0.now + 1 + length p.1.now ≡ length text.now) }
@@ -102,7 +102,7 @@ pub(crate) fn cut(text: &[u8]) -> Option<(&[u8], &[u8])>
     }
 }
 
-/// The first fault of the segments of a text whose first byte stands behind the `/` at this place.
+/// The first fault of the segments of a text whose first byte is after the `/` at this place.
 fn fault_of_segments(at: usize, text: &[u8]) -> Option<IdFault>
     requires { at + length text.now ≤ 2048 }
     ensures { result ≡ segments_fault at (pieces text.now) }

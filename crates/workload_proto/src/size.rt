@@ -1,4 +1,4 @@
-//! How many bytes a message has in its spelling: a count of 64 bits that stands still at its end.
+//! How many bytes a message has in its encoding: a count of 64 bits that stands still at its end.
 
 ghost use Rattle.std.specs.Prelude.{◌≡◌, ◌≤◌, ◌+◌, ◌*◌, ◌++◌, ℕ, List, length};
 ghost use Rattle.std.specs.List.{flat_map};
