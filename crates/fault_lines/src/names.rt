@@ -97,12 +97,7 @@ fn socket_member(field: u64) -> &'static [u8]
 }
 
 /// `NAME[INDEX]` and a member of that item.
-fn item_name(
-    alloc: Global,
-    array: &[u8],
-    index: u64,
-    member: &[u8],
-) -> Result<Octets, Memory>
+fn item_name(alloc: Global, array: &[u8], index: u64, member: &[u8]) -> Result<Octets, Memory>
     ensures { IfOk result (λ o. o ≡ item_name array.now index member.now) }
 {
     let mut name = Octets::from_slice(alloc, array)?;

@@ -88,24 +88,9 @@ fn id_what_at(alloc: Global, kind: u64, number: u64) -> Result<Option<Octets>, M
             number,
             b" may not stand in a trust domain name",
         )?)),
-        5 => Ok(Some(around(
-            alloc,
-            b"the segment at byte ",
-            number,
-            b" is empty",
-        )?)),
-        6 => Ok(Some(around(
-            alloc,
-            b"byte ",
-            number,
-            b" may not stand in a path segment",
-        )?)),
-        7 => Ok(Some(around(
-            alloc,
-            b"the segment at byte ",
-            number,
-            b" is . or ..",
-        )?)),
+        5 => Ok(Some(around(alloc, b"the segment at byte ", number, b" is empty")?)),
+        6 => Ok(Some(around(alloc, b"byte ", number, b" may not stand in a path segment")?)),
+        7 => Ok(Some(around(alloc, b"the segment at byte ", number, b" is . or ..")?)),
         _ => Ok(None),
     }
 }
@@ -144,18 +129,8 @@ fn document_what_of(alloc: Global, kind: u64, number: u64) -> Result<Option<Octe
     ensures { IfOk result (λ o. o ≡ document_what_of kind number) }
 {
     match kind {
-        12 => Ok(Some(around(
-            alloc,
-            b"has ",
-            number,
-            b" items, more than its limit",
-        )?)),
-        13 => Ok(Some(around(
-            alloc,
-            b"has ",
-            number,
-            b" bytes, more than its limit",
-        )?)),
+        12 => Ok(Some(around(alloc, b"has ", number, b" items, more than its limit")?)),
+        13 => Ok(Some(around(alloc, b"has ", number, b" bytes, more than its limit")?)),
         5 => owned(alloc, id_what(number)),
         _ => Ok(None),
     }
@@ -180,11 +155,7 @@ fn document_rest(
 }
 
 /// A place and what is wrong there, where something is said of it.
-fn told_at(
-    mut place: Octets,
-    suffix: &[u8],
-    what: Option<Octets>,
-) -> Result<Option<Octets>, Memory>
+fn told_at(mut place: Octets, suffix: &[u8], what: Option<Octets>) -> Result<Option<Octets>, Memory>
     ensures { IfOk result (λ o. o ≡ option_map (told_at (place ++ suffix.now)) what) }
 {
     let Some(what) = what else {
@@ -282,12 +253,7 @@ fn config_what_of(alloc: Global, kind: u64, number: u64) -> Result<Option<Octets
     ensures { IfOk result (λ o. o ≡ config_what_of kind number) }
 {
     match kind {
-        7 => Ok(Some(around(
-            alloc,
-            b"comes to ",
-            number,
-            b", more than its limit",
-        )?)),
+        7 => Ok(Some(around(alloc, b"comes to ", number, b", more than its limit")?)),
         _ => Ok(None),
     }
 }
@@ -361,18 +327,8 @@ fn script_line(alloc: Global, kind: u64, number: u64) -> Result<Option<Octets>, 
             number,
             b": has the wrong words, or stands where it may not",
         )?)),
-        2 => Ok(Some(around(
-            alloc,
-            b"line ",
-            number,
-            b": begins with no event's word",
-        )?)),
-        3 => Ok(Some(around(
-            alloc,
-            b"line ",
-            number,
-            b": names no connection",
-        )?)),
+        2 => Ok(Some(around(alloc, b"line ", number, b": begins with no event's word")?)),
+        3 => Ok(Some(around(alloc, b"line ", number, b": names no connection")?)),
         4 => Ok(Some(around(
             alloc,
             b"line ",

@@ -10,7 +10,10 @@ const DOCUMENTS: [Case; 28] = [
     ("fault document 1", "document: is not JSON"),
     ("fault document 2", "version: is neither 1 nor 2"),
     ("fault document 3 0 0 2 0", "trust_domain: is missing"),
-    ("fault document 3 2 17 3 0", "entries[17].selectors: is missing"),
+    (
+        "fault document 3 2 17 3 0",
+        "entries[17].selectors: is missing",
+    ),
     (
         "fault document 4 0 0 0 0",
         "document: is of the wrong kind or out of range",
@@ -59,7 +62,10 @@ const DOCUMENTS: [Case; 28] = [
         "fault document 5 2 1 2 0 7 12",
         "entries[1].spiffe_id: the segment at byte 12 is . or ..",
     ),
-    ("fault document 5 1 0 1 0 8", "bundles[0].trust_domain: memory ran out"),
+    (
+        "fault document 5 1 0 1 0 8",
+        "bundles[0].trust_domain: memory ran out",
+    ),
     (
         "fault document 6 2 0 3 0",
         "entries[0].selectors[0]: is not a selector",
@@ -68,8 +74,14 @@ const DOCUMENTS: [Case; 28] = [
         "fault document 7 2 0 3 0",
         "entries[0].selectors: has no selector",
     ),
-    ("fault document 8 2 1 1 0", "entries[1].id: was given before"),
-    ("fault document 8 3 1 1 0", "svids[1].entry: was given before"),
+    (
+        "fault document 8 2 1 1 0",
+        "entries[1].id: was given before",
+    ),
+    (
+        "fault document 8 3 1 1 0",
+        "svids[1].entry: was given before",
+    ),
     (
         "fault document 9 2 0 2 0",
         "entries[0].spiffe_id: is of another trust domain",
@@ -118,7 +130,10 @@ const CONFIGS: [Case; 11] = [
         "fault config 7 4 2 2 0 33",
         "sockets[2].workers: comes to 33, more than its limit",
     ),
-    ("fault config 8 4 1 1 0", "sockets[1].path: was given before"),
+    (
+        "fault config 8 4 1 1 0",
+        "sockets[1].path: was given before",
+    ),
     (
         "fault config 9 1048577",
         "configuration: has 1048577 bytes, more than its limit",

@@ -9,12 +9,12 @@ use Rattle.wlexplain.specs.declared.run.TheConstants.{READ_LIMIT, DONE, READ_FAI
 pub data Ends (content before after : Option (List ℕ)) (reads_before reads_after writes_before writes_after : ℕ) : ℕ → Type 0 where
   -- all was written
   done : IfSome content (λ text. Gained before after (explained_text (take READ_LIMIT text))) →
-    Ends content before after reads_before reads_after writes_before writes_after DONE
+      Ends content before after reads_before reads_after writes_before writes_after DONE
   -- a read failed; nothing was written
   read_failed : Rose reads_before reads_after → after ≡ before →
-    Ends content before after reads_before reads_after writes_before writes_after READ_FAILED
+      Ends content before after reads_before reads_after writes_before writes_after READ_FAILED
   -- a write failed; a prefix was written
   write_failed : Rose writes_before writes_after → IfSome content (λ text. GainedPrefix before after (explained_text (take READ_LIMIT text))) →
-    Ends content before after reads_before reads_after writes_before writes_after WRITE_FAILED
+      Ends content before after reads_before reads_after writes_before writes_after WRITE_FAILED
   -- out of memory; nothing was written
   no_memory : after ≡ before → Ends content before after reads_before reads_after writes_before writes_after OUT_OF_MEMORY
