@@ -81,8 +81,8 @@ pub(crate) fn publication(alloc: Global, state: AuthorityState) -> Result<Snapsh
         svids,
     } = state;
     let svids = keep_all(alloc, entries.as_slice(), svids)?;
-    let entries = share_all(alloc, entries)?;
-    let bundles = share_all(alloc, bundles)?;
+    let entries = Shared::new(alloc, share_all(alloc, entries)?)?;
+    let bundles = Shared::new(alloc, share_all(alloc, bundles)?)?;
     Ok(Snapshot {
         number: 0,
         domain,
