@@ -6,10 +6,10 @@ ghost use Rattle.list_laws.specs.Lists.{Rises};
 ghost use Rattle.wl_entry.specs.Keys.{entry_key};
 ghost use Rattle.wl_agent.specs.Kept.{is_fit, kept_of, kept_in, publication_of};
 
+use sorted_lists::find_by_key;
 use std::alloc::Global;
 use wl_document::{AuthorityState, DocSvid};
 use wl_entry::{Entry, Signed, Svid};
-use sorted_lists::find_by_key;
 use wl_octets::{Memory, Row, Shared};
 use wl_snapshot::Snapshot;
 

@@ -10,12 +10,12 @@ ghost use Rattle.wl_entry.specs.Entitled.{is_entitled};
 ghost use Rattle.wl_entry.specs.Keys.{entry_key, svid_key, bundle_key};
 ghost use Rattle.wl_snapshot.specs.Views.{view_in, sight_of, entries_at, held_of, is_federated, is_seen, ChosenFrom};
 
-use crate::views::{Held, View};
 use crate::snapshot::Snapshot;
+use crate::views::{Held, View};
+use sorted_lists::{find_by_key, mark_key};
 use spiffe_id::TrustDomain;
 use std::alloc::Global;
 use wl_entry::{Bundle, Entry, Svid};
-use sorted_lists::{find_by_key, mark_key};
 use wl_octets::{Memory, Row, Shared};
 use wl_selector::Selectors;
 
