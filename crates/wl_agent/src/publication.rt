@@ -69,6 +69,14 @@ fn share_all<T: Drop>(alloc: Global, items: Row<T>) -> Result<Row<Shared<T>>, Me
     Ok(shared)
 }
 
+/// The same items, as parts that can be shared, in a list that can be shared.
+fn share_list<T: Drop>(alloc: Global, items: Row<T>) -> Result<Shared<Row<Shared<T>>>, Memory>
+    ensures { IfOk result (λ r. r ≡ items) }
+{
+    let parts = share_all(alloc, items)?;
+    Ok(Shared::new(alloc, parts)?)
+}
+
 /// Publication 0 of a document, with those of its signed identities whose entry is there and which are fit.
 #[tactic(auto, unfolding(crate::specs::Kept::publication_of))]
 pub(crate) fn publication(alloc: Global, state: AuthorityState) -> Result<Snapshot, Memory>
@@ -81,8 +89,8 @@ pub(crate) fn publication(alloc: Global, state: AuthorityState) -> Result<Snapsh
         svids,
     } = state;
     let svids = keep_all(alloc, entries.as_slice(), svids)?;
-    let entries = Shared::new(alloc, share_all(alloc, entries)?)?;
-    let bundles = Shared::new(alloc, share_all(alloc, bundles)?)?;
+    let entries = share_list(alloc, entries)?;
+    let bundles = share_list(alloc, bundles)?;
     Ok(Snapshot {
         number: 0,
         domain,
