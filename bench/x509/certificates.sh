@@ -5,7 +5,10 @@ set -e
 dir=$(mktemp -d)
 trap 'rm -rf "$dir"' EXIT
 cd "$dir"
-openssl ecparam -name prime256v1 -genkey -noout -out key.pem
+openssl ecparam -name prime256v1 -genkey -noout -out p256.pem
+openssl genpkey -algorithm RSA -pkeyopt rsa_keygen_bits:2048 -out rsa.pem 2> keys.log
+openssl genpkey -algorithm ED25519 -out ed25519.pem
+key=p256.pem md=sha256
 
 # certificate NAME NOT_BEFORE NOT_AFTER EXTENSION-LINE..
 certificate() {
@@ -26,7 +29,7 @@ certificate() {
         echo "database = index"
         echo "rand_serial = yes"
         echo "new_certs_dir = ."
-        echo "default_md = sha256"
+        echo "default_md = $md"
         echo "policy = any"
         echo "unique_subject = no"
         echo "[any]"
@@ -34,8 +37,8 @@ certificate() {
         echo "organizationName = optional"
     } > conf
     : > index
-    openssl req -new -key key.pem -config conf -out request.pem
-    openssl ca -batch -selfsign -notext -config conf -extensions ext -keyfile key.pem -in request.pem \
+    openssl req -new -key "$key" -config conf -out request.pem
+    openssl ca -batch -selfsign -notext -config conf -extensions ext -keyfile "$key" -in request.pem \
         -startdate "$before" -enddate "$after" -out cert.pem 2> ca.log || { cat ca.log >&2; exit 1; }
     openssl x509 -in cert.pem -outform DER -out cert.der
     printf '// %s to %s, %s\nconst %s: &[u8] = &[\n' "$before" "$after" "$*" "$name"
@@ -54,3 +57,8 @@ certificate LATE 20500101000000Z 20991231235959Z "subjectAltName = critical,URI:
 certificate TWO_URIS 20240101000000Z 20250101000000Z "subjectAltName = URI:spiffe://example.org/a,URI:spiffe://example.org/b"
 certificate NO_URI 20240101000000Z 20250101000000Z "subjectAltName = DNS:a.example"
 certificate NO_NAMES 20240101000000Z 20250101000000Z "basicConstraints = critical,CA:FALSE"
+# other keys and signatures
+key=rsa.pem
+certificate RSA 20240101000000Z 20250101000000Z "subjectAltName = URI:spiffe://example.org/rsa"
+key=ed25519.pem md=null
+certificate ED25519 20240101000000Z 20250101000000Z "subjectAltName = URI:spiffe://example.org/ed25519"

@@ -59,7 +59,7 @@ fn keep_all(
 }
 
 /// The same items, as parts that can be shared.
-fn into_shared<T: Drop>(alloc: Global, items: Row<T>) -> Result<Row<Shared<T>>, Memory>
+fn share_all<T: Drop>(alloc: Global, items: Row<T>) -> Result<Row<Shared<T>>, Memory>
     ensures { IfOk result (λ r. r ≡ items) }
 {
     let mut shared = Row::empty(alloc);
@@ -67,6 +67,14 @@ fn into_shared<T: Drop>(alloc: Global, items: Row<T>) -> Result<Row<Shared<T>>, 
         shared.push(Shared::new(alloc, item)?)?;
     }
     Ok(shared)
+}
+
+/// The same items, as parts that can be shared, in a list that can be shared.
+fn share_list<T: Drop>(alloc: Global, items: Row<T>) -> Result<Shared<Row<Shared<T>>>, Memory>
+    ensures { IfOk result (λ r. r ≡ items) }
+{
+    let parts = share_all(alloc, items)?;
+    Ok(Shared::new(alloc, parts)?)
 }
 
 /// Publication 0 of a document, with those of its signed identities whose entry is there and which are fit.
@@ -81,8 +89,8 @@ pub(crate) fn publication(alloc: Global, state: AuthorityState) -> Result<Snapsh
         svids,
     } = state;
     let svids = keep_all(alloc, entries.as_slice(), svids)?;
-    let entries = Shared::new(alloc, into_shared(alloc, entries)?)?;
-    let bundles = Shared::new(alloc, into_shared(alloc, bundles)?)?;
+    let entries = share_list(alloc, entries)?;
+    let bundles = share_list(alloc, bundles)?;
     Ok(Snapshot {
         number: 0,
         domain,

@@ -4,3 +4,4 @@ pub mod Spelled
 pub mod Again
 pub mod Tallies
 pub mod Found
+pub mod Faults

@@ -15,6 +15,6 @@ mod tests;
 mod times;
 mod values;
 
-pub use laws::{leaves_are_certificates, values_are_encodings};
+pub use laws::{faults_are_no_memory, leaves_are_certificates, values_are_encodings};
 pub use leaves::{Leaf, read_leaf};
 pub use reasons::leaf_unfit;

@@ -4,7 +4,7 @@ mod certificates;
 
 use super::*;
 use crate::times::{read_long_time, read_short_time};
-use certificates::{LATE, LEAF, NO_NAMES, NO_URI, SEVERAL_EXTENSIONS, TWO_URIS};
+use certificates::{ED25519, LATE, LEAF, NO_NAMES, NO_URI, RSA, SEVERAL_EXTENSIONS, TWO_URIS};
 use spiffe_id::SpiffeId;
 use std::alloc::{AllocGlobal, Global};
 use std::test::Fail;
@@ -41,13 +41,45 @@ fn leaves_of_openssl(rt: HostRuntime) {
     assert!(rt; is_leaf(alloc, SEVERAL_EXTENSIONS, service, 1709208000, 2524607999));
     let late = b"spiffe://example.org/late".as_slice();
     assert!(rt; is_leaf(alloc, LATE, late, 2524608000, 4102444799));
+    let rsa = b"spiffe://example.org/rsa".as_slice();
+    assert!(rt; is_leaf(alloc, RSA, rsa, 1704067200, 1735689600));
+    let ed25519 = b"spiffe://example.org/ed25519".as_slice();
+    assert!(rt; is_leaf(alloc, ED25519, ed25519, 1704067200, 1735689600));
     assert_eq!(rt; fault(alloc, TWO_URIS), Some(CertFault::ManyUris(2)));
     assert_eq!(rt; fault(alloc, NO_URI), Some(CertFault::NoUri));
     assert_eq!(rt; fault(alloc, NO_NAMES), Some(CertFault::NoUri));
 }
 
-/// Whether each front of a chain that is cut short has a fault, which isn't out of memory.
-fn all_fronts_are_faults(alloc: Global, chain: &[u8]) -> bool {
+/// The heads of the smallest certificate before and after the parts between, where its URI has 2,048 bytes.
+const LONG_HEADS: [&[u8]; 2] = [
+    &[0x30, 0x82, 0x08, 0x56, 0x30, 0x82, 0x08, 0x4d],
+    &[
+        0xa3, 0x82, 0x08, 0x19, 0x30, 0x82, 0x08, 0x15, 0x30, 0x82, 0x08, 0x11, 0x06, 0x03, 0x55,
+        0x1d, 0x11, 0x04, 0x82, 0x08, 0x08, 0x30, 0x82, 0x08, 0x04, 0x86, 0x82, 0x08, 0x00,
+    ],
+];
+
+/// The smallest certificate with this URI of 2,048 bytes.
+fn long_chain(alloc: Global, uri: &[u8]) -> Result<Octets, Memory> {
+    let mut chain = Octets::from_slice(alloc, LONG_HEADS[0])?;
+    chain.push_slice(&LEAF[4..52])?;
+    chain.push_slice(LONG_HEADS[1])?;
+    chain.push_slice(uri)?;
+    chain.push_slice(&LEAF[83..])?;
+    Ok(chain)
+}
+
+#[test]
+fn longest_id(rt: HostRuntime) -> Result<(), Fail> {
+    let alloc = rt.alloc();
+    let uri = Vec::from_elem(alloc, b'w', 2048)?;
+    let chain = long_chain(alloc, uri.as_slice())?;
+    assert!(rt; is_leaf(alloc, chain.as_slice(), uri.as_slice(), 100, 200));
+    Ok(())
+}
+
+/// Whether each prefix of a chain has a fault, which isn't that memory ran out.
+fn all_prefixes_are_faults(alloc: Global, chain: &[u8]) -> bool {
     for len in 0..chain.len() {
         match fault(alloc, &chain[..len]) {
             None | Some(CertFault::Memory) => return false,
@@ -59,8 +91,16 @@ fn all_fronts_are_faults(alloc: Global, chain: &[u8]) -> bool {
 
 #[test]
 fn cut_anywhere(rt: HostRuntime) {
-    for chain in [LEAF, SEVERAL_EXTENSIONS, LATE, TWO_URIS, NO_URI, NO_NAMES] {
-        assert!(rt; all_fronts_are_faults(rt.alloc(), chain));
+    for chain in [
+        LEAF,
+        SEVERAL_EXTENSIONS,
+        LATE,
+        TWO_URIS,
+        NO_URI,
+        NO_NAMES,
+        ED25519,
+    ] {
+        assert!(rt; all_prefixes_are_faults(rt.alloc(), chain));
     }
 }
 

@@ -18,6 +18,18 @@ pub const HINTED: &[u8] =
 pub const NO_SELECTOR: &[u8] =
     b"{\"version\":1,\"trust_domain\":\"a.b\",\"bundles\":[{\"trust_domain\":\"a.b\",\"x509\":\"Aw==\"}],\"entries\":[{\"id\":\"e1\",\"spiffe_id\":\"spiffe://a.b/w\",\"selectors\":[]}]}";
 
+/// A document of three entries, which are out of order.
+pub const THREE: &[u8] =
+    b"{\"version\":1,\"trust_domain\":\"a.b\",\"bundles\":[{\"trust_domain\":\"a.b\",\"x509\":\"Aw==\"}],\"entries\":[{\"id\":\"e3\",\"spiffe_id\":\"spiffe://a.b/y\",\"selectors\":[\"unix:uid:3\"]},{\"id\":\"e1\",\"spiffe_id\":\"spiffe://a.b/w\",\"selectors\":[\"unix:uid:1\"]},{\"id\":\"e2\",\"spiffe_id\":\"spiffe://a.b/x\",\"selectors\":[\"unix:uid:2\"]}]}";
+
+/// The same without the second.
+pub const WITHOUT_E2: &[u8] =
+    b"{\"version\":1,\"trust_domain\":\"a.b\",\"bundles\":[{\"trust_domain\":\"a.b\",\"x509\":\"Aw==\"}],\"entries\":[{\"id\":\"e3\",\"spiffe_id\":\"spiffe://a.b/y\",\"selectors\":[\"unix:uid:3\"]},{\"id\":\"e1\",\"spiffe_id\":\"spiffe://a.b/w\",\"selectors\":[\"unix:uid:1\"]}]}";
+
+/// The same, where the second has another id.
+pub const OTHER_E2: &[u8] =
+    b"{\"version\":1,\"trust_domain\":\"a.b\",\"bundles\":[{\"trust_domain\":\"a.b\",\"x509\":\"Aw==\"}],\"entries\":[{\"id\":\"e2\",\"spiffe_id\":\"spiffe://a.b/z\",\"selectors\":[\"unix:uid:2\"]},{\"id\":\"e3\",\"spiffe_id\":\"spiffe://a.b/y\",\"selectors\":[\"unix:uid:3\"]},{\"id\":\"e1\",\"spiffe_id\":\"spiffe://a.b/w\",\"selectors\":[\"unix:uid:1\"]}]}";
+
 /// A document of another trust domain.
 pub const FOREIGN: &[u8] =
     b"{\"version\":1,\"trust_domain\":\"c.d\",\"bundles\":[{\"trust_domain\":\"c.d\",\"x509\":\"Aw==\"}],\"entries\":[]}";

@@ -35,6 +35,8 @@ pub enum Event {
     Claim(u64),
     /// The ticket of this number comes back with an identity, at this time.
     Signed(u64, Identity, u64),
+    /// A ticket of this number, with the ask of the ticket of that number, comes back with an identity, at this time.
+    SignedAs(u64, u64, Identity, u64),
     /// The ticket of this number comes back without one.
     Failed(u64),
     /// The caller `unix:uid:1` is answered.

@@ -79,11 +79,12 @@ impl Replay {
         &mut self,
         alloc: Global,
         number: u64,
+        slip: u64,
         identity: Identity,
         now: u64,
     ) -> Result<(), Memory> {
         let signed = identity.signed(alloc)?;
-        match ask_of(alloc, self.slips.as_slice(), number)? {
+        match ask_of(alloc, self.slips.as_slice(), slip)? {
             None => self.say("no such ticket"),
             Some(ask) if self.is_prepared => {
                 self.prepare_signed(alloc, Ticket { number, ask }, &signed, now)
@@ -105,7 +106,12 @@ impl Replay {
             Event::Sync(document) => self.sync(alloc, document),
             Event::Claim(now) if self.is_prepared => self.prepare_claim(alloc, now),
             Event::Claim(now) => self.claim(alloc, now),
-            Event::Signed(number, identity, now) => self.hand_in(alloc, number, identity, now),
+            Event::Signed(number, identity, now) => {
+                self.hand_in(alloc, number, number, identity, now)
+            }
+            Event::SignedAs(number, slip, identity, now) => {
+                self.hand_in(alloc, number, slip, identity, now)
+            }
             Event::Failed(number) => self.hand_back(alloc, number),
             Event::Answer => self.answer(alloc),
         }

@@ -1,7 +1,8 @@
 //! The worked transcripts: what events give over a store, line by line.
 
 use super::documents::{
-    AFTER_LEAF, DOC, FIRST, FOREIGN, HINTED, NO_SELECTOR, OTHER_ID, SECOND, WITH_LEAF,
+    AFTER_LEAF, DOC, FIRST, FOREIGN, HINTED, NO_SELECTOR, OTHER_E2, OTHER_ID, SECOND, THREE,
+    WITH_LEAF, WITHOUT_E2,
 };
 use super::events::Event;
 
@@ -42,7 +43,7 @@ pub const DOCUMENTS: [Transcript; 2] = [
     },
 ];
 
-pub const TICKETS: [Transcript; 6] = [
+pub const TICKETS: [Transcript; 8] = [
     Transcript {
         name: "manager_signing",
         is_strict: false,
@@ -128,6 +129,34 @@ pub const TICKETS: [Transcript; 6] = [
             Event::Answer,
         ],
         lines: "published 0, ticket 1 e1, kept, published 1, published 2, hinted message",
+    },
+    Transcript {
+        name: "three_entries",
+        is_strict: false,
+        document: THREE,
+        events: &[
+            Event::Claim(100),
+            Event::Signed(2, FIRST, 100),
+            Event::Sync(WITHOUT_E2),
+            Event::Sync(OTHER_E2),
+            Event::Signed(2, FIRST, 100),
+            Event::Signed(3, FIRST, 100),
+            Event::Claim(100),
+        ],
+        lines: "published 0, ticket 1 e1, ticket 2 e2, ticket 3 e3, kept, published 1, \
+                published 2, published 3, spent, kept, published 4, ticket 4 e2",
+    },
+    Transcript {
+        name: "ticket_of_another_ask",
+        is_strict: false,
+        document: THREE,
+        events: &[
+            Event::Claim(100),
+            Event::SignedAs(1, 2, FIRST, 100),
+            Event::Signed(1, FIRST, 100),
+            Event::Claim(100),
+        ],
+        lines: "published 0, ticket 1 e1, ticket 2 e2, ticket 3 e3, spent, kept, published 1",
     },
 ];
 
