@@ -71,7 +71,8 @@ fn take_rest(
     ended: bool,
 ) -> Result<CallEvent, Memory>
     requires { PREFIX_LEN ≤ length body.old }
-    ensures event { IfOk result (λ event. event ≡ sized_verdict method said (drop PREFIX_LEN (body.old ++ rest.now)) ended) }
+    ensures event { IfOk result (λ event. event ≡ sized_verdict method said (drop PREFIX_LEN (body.old
+        ++ rest.now)) ended) }
     ensures kept { IfOk result (λ event. event ≡ Nothing → body.new ≡ body.old ++ rest.now) }
 {
     let due = said as usize;

@@ -27,7 +27,8 @@ pub fn cut_anywhere()
 /// What is cut out of a body was framed in it, and what was framed in it is cut out.
 #[tactic(auto, using(crate::proofs::Bodies::body_found))]
 pub fn bodies_are_framed()
-    ensures found { (limit : ℕ) (bytes : List ℕ) → AreBytes bytes → IsBody limit bytes (messages_of limit bytes) }
+    ensures found { (limit : ℕ) (bytes : List ℕ) → AreBytes bytes
+        → IsBody limit bytes (messages_of limit bytes) }
     ensures only { (limit : ℕ) (bytes : List ℕ) (r : Reading) →
         limit < 2 ^ 32 → IsBody limit bytes r → messages_of limit bytes ≡ r }
 {}

@@ -32,7 +32,11 @@ fn selectors_in(alloc: Global, place: Place, value: &Value) -> Result<Selectors,
     if values.is_empty() {
         return Err(DocFault::NoSelectors(place));
     }
-    match Selectors::from_list(alloc, selectors(alloc, place, values)?, MAX_SELECTORS as u32) {
+    match Selectors::from_list(
+        alloc,
+        selectors(alloc, place, values)?,
+        MAX_SELECTORS as u32,
+    ) {
         Ok(selectors) => Ok(selectors),
         Err(SelectorsFault::TooMany(_)) => unreachable!(),
         Err(SelectorsFault::Memory) => Err(DocFault::Memory),
@@ -45,7 +49,12 @@ fn federated_list(index: u32, value: &Value) -> Result<&[Value], DocFault>
     ensures value { Gives (λ v. map view v.now) result (federated_list_of index (view value.now)) }
     ensures few { IfOk result (λ v. length v.now ≤ MAX_FEDERATED) }
 {
-    list_or_empty(MAX_FEDERATED, Place::entry(index, 4), "federates_with", value)
+    list_or_empty(
+        MAX_FEDERATED,
+        Place::entry(index, 4),
+        "federates_with",
+        value,
+    )
 }
 
 /// The federated domains of an entry.
@@ -116,7 +125,12 @@ pub(crate) struct Extra {
 /// The fields of an entry that have a default.
 #[tactic(auto, unfolding(crate::specs::Entries::extras_of))]
 fn extras(alloc: Global, version: u64, index: u32, value: &Value) -> Result<Extra, DocFault>
-    ensures { Gives (λ x. record { federates_with = x.federates_with; dns_names = x.dns_names; ttl = x.ttl; hint = x.hint }) result (extras_of version index (view value.now)) }
+    ensures { Gives (λ x. record {
+      federates_with = x.federates_with;
+      dns_names = x.dns_names;
+      ttl = x.ttl;
+      hint = x.hint;
+    }) result (extras_of version index (view value.now)) }
 {
     let federates_with = federates_with(alloc, index, value)?;
     let dns_names = dns_names_in(alloc, index, value)?;

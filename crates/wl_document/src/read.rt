@@ -114,7 +114,12 @@ fn state_from(
     requires bundles { KeptWithin bundle_key BundleWithin MAX_BUNDLES bundles.entries }
     requires entries { KeptWithin entry_key EntryWithin MAX_ENTRIES entries.entries }
     requires svids { KeptWithin doc_svid_key SvidWithin MAX_SVIDS svids.entries }
-    ensures ok { IfOk result (λ s. s ≡ record { domain = domain; bundles = values_of bundles.entries; entries = values_of entries.entries; svids = values_of svids.entries }) }
+    ensures ok { IfOk result (λ s. s ≡ record {
+      domain = domain;
+      bundles = values_of bundles.entries;
+      entries = values_of entries.entries;
+      svids = values_of svids.entries;
+    }) }
     ensures err { IfErr result (λ e. e ≡ Memory) }
 {
     let bundles = values(alloc, bundles)?;

@@ -76,8 +76,11 @@ pub(crate) struct Arrays<'a> {
 /// The arrays of a document.
 #[tactic(auto, unfolding(crate::specs::Documents::lists_of))]
 fn arrays_of(value: &Value) -> Result<Arrays, DocFault>
-    ensures value { Gives (λ a. record { bundles = map view a.bundles.now; entries = map view a.entries.now;
-        svids = map view a.svids.now }) result (lists_of (view value.now)) }
+    ensures value { Gives (λ a. record {
+      bundles = map view a.bundles.now;
+      entries = map view a.entries.now;
+      svids = map view a.svids.now;
+    }) result (lists_of (view value.now)) }
     ensures bundles { IfOk result (λ a. length a.bundles.now ≤ MAX_BUNDLES) }
     ensures entries { IfOk result (λ a. length a.entries.now ≤ MAX_ENTRIES) }
     ensures svids { IfOk result (λ a. length a.svids.now ≤ MAX_SVIDS) }
@@ -107,8 +110,13 @@ pub(crate) fn head_of<'a>(
     own: Option<&TrustDomain>,
     value: &'a Value,
 ) -> Result<Head<'a>, DocFault>
-    ensures value { Gives (λ h. record { version = h.version; domain = h.domain; bundles = map view h.arrays.bundles.now;
-        entries = map view h.arrays.entries.now; svids = map view h.arrays.svids.now }) result (top_of (option_copied own.entry) (view value.now)) }
+    ensures value { Gives (λ h. record {
+      version = h.version;
+      domain = h.domain;
+      bundles = map view h.arrays.bundles.now;
+      entries = map view h.arrays.entries.now;
+      svids = map view h.arrays.svids.now;
+    }) result (top_of (option_copied own.entry) (view value.now)) }
     ensures bundles { IfOk result (λ h. length h.arrays.bundles.now ≤ MAX_BUNDLES) }
     ensures entries { IfOk result (λ h. length h.arrays.entries.now ≤ MAX_ENTRIES) }
     ensures svids { IfOk result (λ h. length h.arrays.svids.now ≤ MAX_SVIDS) }

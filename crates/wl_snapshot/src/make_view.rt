@@ -10,12 +10,12 @@ ghost use Rattle.wl_entry.specs.Entitled.{is_entitled};
 ghost use Rattle.wl_entry.specs.Keys.{entry_key, svid_key, bundle_key};
 ghost use Rattle.wl_snapshot.specs.Views.{view_in, sight_of, entries_at, held_of, is_federated, is_seen, ChosenFrom};
 
-use crate::views::{Held, View};
 use crate::snapshot::Snapshot;
+use crate::views::{Held, View};
+use sorted_lists::{find_by_key, mark_key};
 use spiffe_id::TrustDomain;
 use std::alloc::Global;
 use wl_entry::{Bundle, Entry, Svid};
-use sorted_lists::{find_by_key, mark_key};
 use wl_octets::{Memory, Row, Shared};
 use wl_selector::Selectors;
 
@@ -92,7 +92,8 @@ fn mark_domains(bundles: &[Shared<Bundle>], domains: &[TrustDomain], marks: &mut
     requires rising { Rises (map bundle_key bundles.now) }
     requires each { length marks.old ≡ length bundles.now }
     ensures each { length marks.new ≡ length bundles.now }
-    ensures marked { (before : Bundle → Bool) → marks.old ≡ map before bundles.now → marks.new ≡ map (λ b. before b || list_any (λ other. bytes_eq other b.domain) domains.now) bundles.now }
+    ensures marked { (before : Bundle → Bool) → marks.old ≡ map before bundles.now →
+        marks.new ≡ map (λ b. before b || list_any (λ other. bytes_eq other b.domain) domains.now) bundles.now }
 {
     for domain in domains {
         mark_key(bundles, domain.as_bytes(), marks);
@@ -158,7 +159,7 @@ fn view_with(alloc: Global, snapshot: &Snapshot, entries: &[Shared<Entry>]) -> R
     let domain = snapshot.domain.copy(alloc)?;
     let bundles = bundles_in(
         alloc,
-        snapshot.bundles.as_slice(),
+        snapshot.bundles.part().as_slice(),
         domain.as_bytes(),
         entries,
     )?;
@@ -175,7 +176,7 @@ fn view_with(alloc: Global, snapshot: &Snapshot, entries: &[Shared<Entry>]) -> R
 pub fn view(alloc: Global, snapshot: &Snapshot, selectors: &Selectors) -> Result<View, Memory>
     ensures { IfOk result (λ v. v ≡ view_in snapshot.now selectors.now) }
 {
-    let entries = entitled_in(alloc, snapshot.entries.as_slice(), selectors)?;
+    let entries = entitled_in(alloc, snapshot.entries.part().as_slice(), selectors)?;
     view_with(alloc, snapshot, entries.as_slice())
 }
 
@@ -222,6 +223,6 @@ pub fn view_of(alloc: Global, snapshot: &Snapshot, places: &[u32]) -> Result<Vie
     requires there { All (λ place. place < length snapshot.now.entries) places.now }
     ensures { IfOk result (λ v. v ≡ sight_of snapshot.now (entries_at snapshot.now.entries places.now)) }
 {
-    let entries = pick_all(alloc, snapshot.entries.as_slice(), places)?;
+    let entries = pick_all(alloc, snapshot.entries.part().as_slice(), places)?;
     view_with(alloc, snapshot, entries.as_slice())
 }

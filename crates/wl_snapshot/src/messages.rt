@@ -7,9 +7,9 @@ ghost use Rattle.wl_snapshot.specs.Answers.{x509_bundle, x509_items, federated_i
 
 use crate::answers::Method3;
 use crate::views::{Held, View};
+use sorted_lists::find_by_key;
 use std::alloc::Global;
 use wl_entry::Bundle;
-use sorted_lists::find_by_key;
 use wl_octets::{Memory, Octets, Shared};
 use workload_proto::{put_map_item, put_x509_item};
 
