@@ -1,5 +1,5 @@
 -- Talks that agree.
-use Rattle.std.proofs.Common.{◌≡◌, ℕ, ◌==◌, Bool, true, false, if◌then◌else◌, List, [], ◌∷◌, ◌++◌, Option, Some, None, refl, sym, ap, ◌∙◌, append_assoc}
+use Rattle.std.proofs.Common.{◌≡◌, ℕ, ◌==◌, Bool, true, false, if◌then◌else◌, List, [], ◌∷◌, ◌++◌, Option, None, refl, sym, ap, ◌∙◌}
 use Rattle.std.proofs.lemmas.List.{append-nil}
 use Rattle.h2_frame.specs.declared.fault.FrameFault.{FrameFault}
 use Rattle.h2_frame.specs.declared.frame.Frame.{Frame}
@@ -26,8 +26,8 @@ use Rattle.wl_session.specs.declared.served.Stage.{Stage}
 use Rattle.wl_session.specs.declared.served.Stage.TheVariants.{Unnamed, Ready, Asking}
 use Rattle.wl_session.specs.declared.served.ServedCall.{ServedCall}
 use Rattle.wl_session.specs.Kinds.{was_seen}
-use Rattle.wl_session.specs.Answering.{Turned, goes_on, has_ended, with_refusal, with_last_message, stream_answer, health_of, check_answer, token_answer, call_answer, answer_where_new, stage_turn, call_turn, turn_before, calls_turn}
-use Rattle.wl_session.specs.Talks.{Talking, Said, first_of, then_, silent, written, greeting, frame_said, frames_said, break_said}
+use Rattle.wl_session.specs.Answering.{Turned, goes_on, has_ended, with_refusal, with_last_message, stream_answer, health_of, token_answer, call_answer, answer_where_new, stage_turn, call_turn, turn_before, calls_turn}
+use Rattle.wl_session.specs.Talks.{Talking, Said, first_of, then_, silent, written, frames_said, break_said}
 use Rattle.wl_session.specs.Sessions.{ended_by, feed_said, with_turned, turn_said}
 use Rattle.wl_session.specs.Agreeing.{SeesAlike, SeeAlike, HasSeen, HaveSeen, IsQuiet}
 use Rattle.wl_session.proofs.Running.{then_assoc, said_on}

@@ -1,14 +1,12 @@
 -- Ready calls by ascending stream, and the first of a kind among them.
-use Rattle.std.proofs.Common.{◌≡◌, ℕ, zero, suc, ◌+◌, ◌≤◌, Bool, true, false, not, nat_lt, if◌then◌else◌, List, [], ◌∷◌, ◌++◌, length, take, drop, insert, remove, slice_index_or, position, Option, Some, None, refl, sym, ap, subst, ◌∙◌, arith}
+use Rattle.std.proofs.Common.{◌≡◌, ℕ, suc, ◌+◌, ◌≤◌, Bool, true, false, nat_lt, List, [], ◌∷◌, ◌++◌, length, take, drop, insert, position, Some, None, refl, sym, ap, ◌∙◌, arith}
 use Rattle.std.specs.List.{position_or_len}
-use Rattle.std.proofs.lemmas.List.{take_all, drop_all, append-nil}
+use Rattle.std.proofs.lemmas.List.{take_all, drop_all}
 use Rattle.std.proofs.lemmas.Bool.Decides.{nat_tests}
-use native.Mathlib.Numerals.{unary_clauses}
 use Rattle.h2_conn.specs.declared.phase.Phase.{Phase}
-use Rattle.wl_session.specs.declared.served.Stage.{Stage}
 use Rattle.wl_session.specs.declared.served.ServedCall.{ServedCall}
-use Rattle.wl_session.specs.Answering.{Turned, kept_of}
-use Rattle.wl_session.specs.Tokens.{change_in, change_first}
+use Rattle.wl_session.specs.Answering.{Turned}
+use Rattle.wl_session.specs.Tokens.{change_first}
 use Rattle.wl_session.specs.Talks.{with_served}
 
 abbrev pub is_above : ServedCall → ServedCall → Bool

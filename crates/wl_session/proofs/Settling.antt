@@ -1,5 +1,5 @@
 -- What holds of a session between its calls is kept by each.
-use Rattle.std.proofs.Common.{◌≡◌, ℕ, ◌==◌, ◌||◌, Bool, true, false, not, nat_lt, if◌then◌else◌, List, [], ◌∷◌, ◌++◌, filter, take, drop, length, Option, Some, None, Ok, zero, suc, refl, sym, ap, subst, ◌∙◌, arith}
+use Rattle.std.proofs.Common.{◌≡◌, ℕ, ◌==◌, ◌||◌, Bool, true, false, not, nat_lt, if◌then◌else◌, List, [], ◌∷◌, ◌++◌, filter, take, drop, length, Option, Some, None, Ok, zero, suc, refl, sym, ap, subst, arith}
 use Rattle.std.proofs.lemmas.List.{append-nil}
 use Rattle.std.specs.List.{list_any, position_or_len}
 use Rattle.h2_frame.specs.Reading.{End, Opening, Rest, Fault, Reading}
@@ -25,21 +25,19 @@ use Rattle.h2_conn.specs.declared.phase.Phase.{Phase}
 use Rattle.h2_conn.specs.declared.phase.Phase.TheVariants.{Open}
 use Rattle.h2_flow.specs.Outboxes.{pulled}
 use Rattle.h2_flow.specs.Pulls.{all_rounds, rounds, round}
-use Rattle.h2_conn.specs.Conns.{fresh, Heard, heard, flushed, after_pull, frame_fault_on, after_frame_fault}
+use Rattle.h2_conn.specs.Conns.{fresh, heard, flushed, after_pull, frame_fault_on, after_frame_fault}
 use Rattle.grpc_conn.specs.declared.event.CallEvent.{CallEvent}
 use Rattle.grpc_conn.specs.declared.event.CallEvent.TheVariants.{Nothing, Malformed, Refuse}
 use Rattle.grpc_conn.specs.declared.event.CallEvent.TheVariants as events
 use Rattle.grpc_conn.specs.Verdicts.{verdict}
 use Rattle.grpc_conn.specs.Calls.{standing_of_head, standing_at, event_at, calls_after, with_call}
 use Rattle.wl_snapshot.specs.Snapshots.{Publication}
-use Rattle.wl_snapshot.specs.Views.{Sight, view_in}
 use Rattle.wl_session.specs.declared.served.Stage.{Stage}
 use Rattle.wl_session.specs.declared.served.Stage.TheVariants.{Unnamed, Ready, Asking}
 use Rattle.wl_session.specs.declared.served.ServedCall.{ServedCall}
-use Rattle.wl_session.specs.Kinds.{was_seen}
-use Rattle.wl_session.specs.Talks.{Talking, Said, fresh_talk, then_, silent, written, others, with_served, after_event, after_body, after_happening, after_happenings, after_heard, after_frame, frame_said, frames_said, break_said}
+use Rattle.wl_session.specs.Talks.{Talking, fresh_talk, silent, written, with_served, after_event, after_body, after_happening, after_happenings, after_frame, frame_said, frames_said, break_said}
 use Rattle.wl_session.specs.Agreeing.{HasSeen, HaveSeen}
-use Rattle.wl_session.specs.Settled.{is_new, is_new_stage, is_new_view, WasSeenOn, WasSeen, WereSeen, SettledOn, IsSettled, is_number, MayFollow, MayTurn}
+use Rattle.wl_session.specs.Settled.{is_new, is_new_stage, WasSeen, WereSeen, SettledOn, IsSettled, is_number, MayFollow, MayTurn}
 use Rattle.wl_session.proofs.Agreements.{written_quiet, again, calls_seen}
 
 -- ---- the ready calls

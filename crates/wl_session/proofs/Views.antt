@@ -1,5 +1,5 @@
 -- A view that is made of the places that an index gives.
-use Rattle.std.proofs.Common.{◌≡◌, ℕ, List, filter, refl, ap, sym, ◌∙◌}
+use Rattle.std.proofs.Common.{◌≡◌, ℕ, List, filter, refl, ap, ◌∙◌}
 use Rattle.wl_entry.specs.Entitled.{is_entitled}
 use Rattle.wl_entry.specs.declared.entries.Entry.{Entry}
 use Rattle.wl_match.specs.Indexes.{items_at}

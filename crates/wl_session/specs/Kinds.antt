@@ -4,7 +4,6 @@ use Rattle.grpc_wire.specs.declared.method.Method.{Method}
 use Rattle.grpc_wire.specs.declared.method.Method.TheVariants as methods
 use Rattle.grpc_conn.specs.declared.request.Request.{Request}
 use Rattle.grpc_conn.specs.declared.request.Request.TheVariants as requests
-use Rattle.wl_snapshot.specs.declared.answers.Method3.{Method3}
 use Rattle.wl_snapshot.specs.declared.answers.Method3.TheVariants as streams
 use Rattle.wl_snapshot.specs.Same.{same_sight}
 use Rattle.wl_snapshot.specs.Views.{Sight}

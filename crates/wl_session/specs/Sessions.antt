@@ -1,11 +1,9 @@
 -- A session: the state from which Talk goes on, and a step for each call.
-use Rattle.std.specs.Prelude.{◌≡◌, ℕ, ◌==◌, ◌&&◌, Bool, false, List, [], ◌++◌, Option, Some, None, IfSome, Result, Ok, Err}
+use Rattle.std.specs.Prelude.{◌≡◌, ℕ, ◌==◌, ◌&&◌, Bool, false, List, ◌++◌, Option, Some, None, Result, Ok, Err}
 use Rattle.list_laws.specs.Lists.{GainsFront}
 use Rattle.h2_frame.specs.declared.fault.FrameFault.{FrameFault}
 use Rattle.h2_frame.specs.Reading.{End, Opening, Rest, Fault, Reading, preface, resumed}
 use Rattle.h2_conn.specs.declared.fault.ConnFault.{ConnFault}
-use Rattle.h2_conn.specs.declared.phase.Phase.{Phase}
-use Rattle.h2_conn.specs.declared.phase.Totals.{Totals}
 use Rattle.h2_conn.specs.Conns.{is_going, live_on, begun_on}
 use Rattle.wl_snapshot.specs.Snapshots.{Publication}
 use Rattle.wl_session.specs.declared.asks.JwtAsk.{JwtAsk}

@@ -1,5 +1,5 @@
 -- A name for the first unnamed call, and an outcome for the first ask (own rules).
-use Rattle.std.specs.Prelude.{ℕ, ◌==◌, Bool, true, false, nat_lt, if◌then◌else◌, List, [], ◌∷◌, ◌++◌, length, take, drop, find, Option, Some, None}
+use Rattle.std.specs.Prelude.{ℕ, Bool, true, false, nat_lt, if◌then◌else◌, List, [], ◌∷◌, ◌++◌, length, take, drop, find, Option, Some, None}
 use Rattle.std.specs.List.{position_or_len}
 use Rattle.h2_conn.specs.declared.phase.Phase.{Phase}
 use Rattle.grpc_wire.specs.declared.refusal.Refusal.TheVariants.{LongResponse, Unsigned, Unattested}

@@ -1,6 +1,6 @@
-use Rattle.std.proofs.Common.{rules, ◌≡◌, ◌∷◌, ◌++◌, take, List, Option, Some, position, drop, ap, sym, ◌∙◌}
+use Rattle.std.proofs.Common.{◌≡◌, ◌∷◌, ◌++◌, take, List, Some, position, drop, ap, sym, ◌∙◌}
 use Rattle.wl_session.specs.declared.served.ServedCall.{ServedCall}
-use Rattle.wl_session.specs.Answering.{Turned, kept_of}
+use Rattle.wl_session.specs.Answering.{kept_of}
 use Rattle.wl_session.specs.Tokens.{name_first, name_on, is_unnamed}
 use Rattle.wl_session.proofs.Serving.{first_found}
 use Rattle.wl_session.proofs.naming.name_first.Goals as goal

@@ -1,4 +1,4 @@
-use Rattle.std.proofs.Common.{rules, ◌≡◌, List, Option, None, position, nat_lt, IfOk, subst, sym, ◌∙◌, ap}
+use Rattle.std.proofs.Common.{◌≡◌, List, None, position, nat_lt, IfOk, subst, sym, ◌∙◌, ap}
 use Rattle.wl_session.specs.Talks.{with_served}
 use Rattle.wl_session.specs.declared.served.ServedCall.{ServedCall}
 use Rattle.wl_session.proofs.Serving.{served_last}

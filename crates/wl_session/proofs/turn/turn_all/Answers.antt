@@ -1,4 +1,4 @@
-use Rattle.std.proofs.Common.{rules, refl, sym, ap, ◌∙◌, List}
+use Rattle.std.proofs.Common.{refl, sym, ap, ◌∙◌, List}
 use Rattle.wl_session.specs.declared.served.ServedCall.{ServedCall}
 use Rattle.wl_session.specs.Answering.{calls_turn}
 use Rattle.wl_session.proofs.Turning.{turned_one}

@@ -1,4 +1,4 @@
-use Rattle.std.proofs.Common.{◌≡◌, ◌∙◌, sym, ap, subst, ℕ, true, option_map}
+use Rattle.std.proofs.Common.{◌≡◌, sym, ap, subst, ℕ, true, option_map}
 use Rattle.wl_session.specs.Settled.{is_number}
 use Rattle.wl_session.proofs.Settling.{stays_here}
 use Rattle.wl_session.proofs.session.Session.turn_over.Goals as goal

@@ -1,9 +1,9 @@
-use Rattle.std.proofs.Common.{◌≡◌, List, [], ◌∷◌, ◌++◌, refl, sym, ap, subst, ◌∙◌, append_assoc, Option, ℕ, rules}
+use Rattle.std.proofs.Common.{◌≡◌, List, [], ◌∷◌, ◌++◌, refl, sym, ap, subst, ◌∙◌, append_assoc, Option, ℕ}
 use Rattle.std.proofs.lemmas.List.{append-nil}
 use Rattle.list_laws.specs.Lists.{GainsFront}
 use Rattle.h2_frame.specs.declared.frame.Frame.{Frame}
 use Rattle.h2_conn.specs.declared.fault.ConnFault.{ConnFault}
-use Rattle.wl_session.specs.Talks.{Talking, Said, then_, first_of, frame_said, frames_said}
+use Rattle.wl_session.specs.Talks.{Talking, Said, first_of, frame_said, frames_said}
 use Rattle.wl_session.proofs.Running.{said_more, part_said}
 use Rattle.wl_session.proofs.talk.Talk.frames.Goals as goal
 
