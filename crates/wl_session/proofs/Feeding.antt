@@ -69,10 +69,10 @@ broke_bytes r t u frames seen why old mid new same saw is came before after =
     let here : u ≡ (frames_said r.frames t).after = came ∙ ap (λ (fs : List Frame). (frames_said fs t).after) same in
     let there : mid ≡ old ++ (frames_said r.frames t).bytes = before ∙ ap (λ (fs : List Frame). old ++ (frames_said fs t).bytes) same in
     after
-      ∙ (ap (λ (w : Talking). mid ++ (break_said why w).bytes) here
-      ∙ (ap (λ (xs : List ℕ). xs ++ b) there
-      ∙ (append_assoc old (frames_said r.frames t).bytes b
-      ∙ ap (λ (s : Said). old ++ s.bytes) (sym (said_fault r t why (sym saw ∙ is))))))
+    ∙ (ap (λ (w : Talking). mid ++ (break_said why w).bytes) here
+    ∙ (ap (λ (xs : List ℕ). xs ++ b) there
+    ∙ (append_assoc old (frames_said r.frames t).bytes b
+    ∙ ap (λ (s : Said). old ++ s.bytes) (sym (said_fault r t why (sym saw ∙ is))))))
 
 -- and so does a part of it
 pub broke_front : (r : Reading) (t u : Talking) (frames : List Frame) (seen : Option FrameFault) (why : FrameFault) (old mid new : List ℕ) → frames ≡ r.frames → seen ≡ fault_in r.ending → seen ≡ Some why

@@ -54,7 +54,7 @@ pub part_said : (fs : List Frame) (f : Frame) (rest : List Frame) (t : Talking) 
 part_said fs f rest t old mid new came gained =
     let u = (frames_said fs t).after in
     rw (ap (λ s. s.bytes) (said_on fs (f ∷ rest) t), first_bytes f rest u)
-      (gains_after (frames_said fs t).bytes ((frame_said f u).bytes ++ (frames_said rest (frame_said f u).after).bytes) old mid new came (gains_before (frame_said f u).bytes (frames_said rest (frame_said f u).after).bytes mid new gained))
+    (gains_after (frames_said fs t).bytes ((frame_said f u).bytes ++ (frames_said rest (frame_said f u).after).bytes) old mid new came (gains_before (frame_said f u).bytes (frames_said rest (frame_said f u).after).bytes mid new gained))
 
 -- one happening more at the end
 pub happened_more : (hs : List Happening) (h : Happening) (t : Talking) → after_happenings (hs ++ h ∷ []) t ≡ after_happening h (after_happenings hs t)

@@ -277,4 +277,4 @@ stays_here x s failed e t shown number out view none settled numbered old may =
     let running : Running e t shown ≡ s = subst (λ (f : Option SessionFault). state_by f e t shown ≡ s) none view in
     let on : SettledOn shown number t = subst (λ (f : Option SessionFault). IsSettled f shown number t) none settled in
     subst (λ (u : SessionState). Turns x u (Ok tt) out out u) running
-      (stays_on x shown number e t out on (numbered_is number x.number numbered) old (subst (λ (u : SessionState). MayTurn x u) (sym running) may))
+    (stays_on x shown number e t out on (numbered_is number x.number numbered) old (subst (λ (u : SessionState). MayTurn x u) (sym running) may))

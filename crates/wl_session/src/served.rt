@@ -119,10 +119,7 @@ fn push_last(mut served: Vec<ServedCall>, call: ServedCall) -> Result<Row<Served
 
 /// One more ready call, by ascending stream.
 #[tactic(auto, using(crate::proofs::Serving::served_here, crate::proofs::Serving::served_last))]
-pub fn with_served(
-    served: Row<ServedCall>,
-    call: ServedCall,
-) -> Result<Row<ServedCall>, Memory>
+pub fn with_served(served: Row<ServedCall>, call: ServedCall) -> Result<Row<ServedCall>, Memory>
     ensures { IfOk result (λ r. r ≡ with_served call served) }
 {
     let served = served.into_vec();

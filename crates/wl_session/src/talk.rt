@@ -151,7 +151,9 @@ impl Talk {
                 Ok(())
             }
             CallEvent::Ready {
-                method, request, ..
+                method,
+                request,
+                ..
             } => {
                 self.calls.gone(stream);
                 self.serve(ServedCall {
@@ -180,7 +182,9 @@ impl Talk {
                 headers,
                 ended,
             } => {
-                let event = self.calls.head(self.alloc, stream, headers.as_slice(), ended)?;
+                let event = self
+                    .calls
+                    .head(self.alloc, stream, headers.as_slice(), ended)?;
                 self.heed(stream, event)
             }
             Happening::Body {
@@ -265,7 +269,11 @@ impl Talk {
 
     /// Frames in turn, each with what is written behind it, and the first fault.
     #[tactic(auto, using(crate::proofs::Running::said_more))]
-    pub fn frames(&mut self, frames: Row<Frame>, out: &mut Octets) -> Result<Option<ConnFault>, Memory>
+    pub fn frames(
+        &mut self,
+        frames: Row<Frame>,
+        out: &mut Octets,
+    ) -> Result<Option<ConnFault>, Memory>
         requires { AllByRecursion Fits frames }
         ensures after { OnOk result (self.new ≡ (frames_said frames self.old).after) }
         ensures bytes { OnOk result (out.new ≡ out.old ++ (frames_said frames self.old).bytes) }

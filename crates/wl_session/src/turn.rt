@@ -18,7 +18,9 @@ use wl_health::{SERVICE_UNKNOWN, encode_health, state};
 use wl_match::Index;
 use wl_octets::{Memory, Octets, Row};
 use wl_selector::Selectors;
-use wl_snapshot::{Answer, Method3, Snapshot, View, Wanted, framed_answer, jwt_asks, same_view, view, view_of};
+use wl_snapshot::{
+    Answer, Method3, Snapshot, View, Wanted, framed_answer, jwt_asks, same_view, view, view_of,
+};
 
 /// A caller's view of a publication, by the index of its entries where there is one.
 #[tactic(auto, using(crate::proofs::Views::by_places))]
@@ -237,11 +239,7 @@ fn turn_stage(
 }
 
 /// What became of a call stays, if it goes on.
-fn add_kept(
-    kept: &mut Row<ServedCall>,
-    stream: u32,
-    stage: Option<Stage>,
-) -> Result<(), Memory>
+fn add_kept(kept: &mut Row<ServedCall>, stream: u32, stage: Option<Stage>) -> Result<(), Memory>
     ensures { OnOk result (kept.new ≡ kept.old ++ kept_of stream stage) }
 {
     if let Some(stage) = stage {

@@ -17,4 +17,4 @@ returns c =
     let there : drop c.in-Some.place c.args.served ≡ call ∷ behind = ap (λ (cs : List ServedCall). drop c.in-Some.place cs) (sym c.into_vec-served.ensures) ∙ c.in_ok-front.ensures.there in
     let front : take c.in-Some.place c.args.served ≡ c.in_ok-front.field-0.front.items = ap (λ (cs : List ServedCall). take c.in-Some.place cs) (sym c.into_vec-served.ensures) ∙ sym c.in_ok-front.ensures.front in
     first_found is_unnamed (name_on c.args.selectors) c.args.served c.args.conn.now phase c.in-Some.place call behind kept is there c.in_ok-kept.ensures
-      ∙ ap (λ (cs : List ServedCall). record { phase = phase; kept = cs }) (ap (λ (cs : List ServedCall). cs ++ (kept ++ behind)) front ∙ sym c.in_ok-joined.ensures)
+    ∙ ap (λ (cs : List ServedCall). record { phase = phase; kept = cs }) (ap (λ (cs : List ServedCall). cs ++ (kept ++ behind)) front ∙ sym c.in_ok-joined.ensures)

@@ -14,7 +14,7 @@ loop-frame-init c = record { whole = sym (c.into_iter-frame-iterator.ensures.int
 pub returns-in_err-step-clause-front : goal.returns-in_err-step-clause-front
 returns-in_err-step-clause-front c =
     let front : GainsFront (frame_said c.in-Some.frame (frames_said c.loop-frame.yielded c.args.self.now).after).bytes c.loop-frame.out c.step.new.out =
-      subst (λ (t : Talking). GainsFront (frame_said c.in-Some.frame t).bytes c.loop-frame.out c.step.new.out) c.loop-frame.invariant.after c.step.ensures.front in
+    subst (λ (t : Talking). GainsFront (frame_said c.in-Some.frame t).bytes c.loop-frame.out c.step.new.out) c.loop-frame.invariant.after c.step.ensures.front in
     let whole : c.args.frames ≡ c.loop-frame.yielded ++ c.in-Some.frame ∷ c.next.new.self.rest.items = c.loop-frame.invariant.whole ∙ ap (λ (fs : List Frame). c.loop-frame.yielded ++ fs) c.in-Some.ensures.steps.0 in
     rw whole (part_said c.loop-frame.yielded c.in-Some.frame c.next.new.self.rest.items c.args.self.now c.args.out.now c.loop-frame.out c.step.new.out c.loop-frame.invariant.bytes front)
 
@@ -25,13 +25,13 @@ loop-frame-preserved c =
       whole = c.loop-frame.invariant.whole ∙ (ap (λ (fs : List Frame). c.loop-frame.yielded ++ fs) c.in-Some.ensures.steps.0 ∙ sym (append_assoc c.loop-frame.yielded (c.in-Some.frame ∷ []) c.next.new.self.rest.items));
       after = c.in_ok-step.ensures.after ∙ (ap (λ (t : Talking). (frame_said c.in-Some.frame t).after) c.loop-frame.invariant.after ∙ sym (ap (λ (s : Said). s.after) more));
       bytes = c.in_ok-step.ensures.bytes
-        ∙ (ap (λ (t : Talking). c.loop-frame.out ++ (frame_said c.in-Some.frame t).bytes) c.loop-frame.invariant.after
-        ∙ (ap (λ (xs : List ℕ). xs ++ (frame_said c.in-Some.frame (frames_said c.loop-frame.yielded c.args.self.now).after).bytes) c.loop-frame.invariant.bytes
-        ∙ (append_assoc c.args.out.now (frames_said c.loop-frame.yielded c.args.self.now).bytes (frame_said c.in-Some.frame (frames_said c.loop-frame.yielded c.args.self.now).after).bytes
-        ∙ sym (ap (λ (s : Said). c.args.out.now ++ s.bytes) more))));
+          ∙ (ap (λ (t : Talking). c.loop-frame.out ++ (frame_said c.in-Some.frame t).bytes) c.loop-frame.invariant.after
+          ∙ (ap (λ (xs : List ℕ). xs ++ (frame_said c.in-Some.frame (frames_said c.loop-frame.yielded c.args.self.now).after).bytes) c.loop-frame.invariant.bytes
+          ∙ (append_assoc c.args.out.now (frames_said c.loop-frame.yielded c.args.self.now).bytes (frame_said c.in-Some.frame (frames_said c.loop-frame.yielded c.args.self.now).after).bytes
+          ∙ sym (ap (λ (s : Said). c.args.out.now ++ s.bytes) more))));
       fault = c.first_of-first.ensures
-        ∙ (ap (λ (first : Option ConnFault). first_of first c.in_ok-step.field-0) c.loop-frame.invariant.fault
-        ∙ (ap (λ (second : Option ConnFault). first_of (frames_said c.loop-frame.yielded c.args.self.now).fault second) c.in_ok-step.ensures.fault
-        ∙ (ap (λ (t : Talking). first_of (frames_said c.loop-frame.yielded c.args.self.now).fault (frame_said c.in-Some.frame t).fault) c.loop-frame.invariant.after
-        ∙ sym (ap (λ (s : Said). s.fault) more))));
+          ∙ (ap (λ (first : Option ConnFault). first_of first c.in_ok-step.field-0) c.loop-frame.invariant.fault
+          ∙ (ap (λ (second : Option ConnFault). first_of (frames_said c.loop-frame.yielded c.args.self.now).fault second) c.in_ok-step.ensures.fault
+          ∙ (ap (λ (t : Talking). first_of (frames_said c.loop-frame.yielded c.args.self.now).fault (frame_said c.in-Some.frame t).fault) c.loop-frame.invariant.after
+          ∙ sym (ap (λ (s : Said). s.fault) more))));
     }
