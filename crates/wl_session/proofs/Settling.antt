@@ -1,0 +1,280 @@
+-- What holds of a session between its calls is kept by each.
+use Rattle.std.proofs.Common.{◌≡◌, ℕ, ◌==◌, ◌||◌, Bool, true, false, not, nat_lt, if◌then◌else◌, List, [], ◌∷◌, ◌++◌, filter, take, drop, length, Option, Some, None, Ok, zero, suc, refl, sym, ap, subst, arith}
+use Rattle.std.proofs.lemmas.List.{append-nil}
+use Rattle.std.specs.List.{list_any, position_or_len}
+use Rattle.h2_frame.specs.Reading.{End, Opening, Rest, Fault, Reading}
+use Rattle.grpc_wire.specs.declared.refusal.Refusal.TheVariants.{LongResponse}
+use Rattle.workload_proto.specs.declared.message.JwtItem.{JwtItem}
+use Rattle.workload_proto.specs.Spelling.{spell_jwt, capped}
+use Rattle.wl_snapshot.specs.declared.token_asks.Wanted.{Wanted}
+use Rattle.wl_session.specs.declared.asks.JwtAsk.{JwtAsk}
+use Rattle.wl_session.specs.declared.asks.JwtOutcome.{JwtOutcome}
+use Rattle.wl_session.specs.declared.asks.JwtOutcome.TheVariants as outcomes
+use Rattle.wl_session.specs.declared.served.CallKind.{CallKind}
+use Rattle.wl_session.specs.Answering.{Turned, has_ended, with_refusal, with_last_message, calls_turn}
+use Rattle.wl_session.specs.Tokens.{change_in, change_first, is_unnamed, name_call, name_stage, name_on, name_first, is_asking, item_for, token_message, next_ask, give_call, give_stage, give_on, give_first}
+use Rattle.wl_session.specs.Sessions.{ended_by, feed_said, with_turned, turn_said, name_said, given_said, SessionState, Running, state_by, Turns}
+use Rattle.wl_session.specs.declared.asks.SessionFault.{SessionFault}
+use Rattle.std.proofs.lemmas.Bool.Decides.{nat_tests}
+use Rattle.h2_frame.specs.declared.fault.FrameFault.{FrameFault}
+use Rattle.h2_frame.specs.declared.frame.Frame.{Frame}
+use Rattle.h2_conn.specs.declared.fault.ConnFault.{ConnFault}
+use Rattle.h2_conn.specs.declared.happening.Happening.{Happening}
+use Rattle.h2_conn.specs.declared.happening.Happening.TheVariants as happening
+use Rattle.h2_conn.specs.declared.phase.Phase.{Phase}
+use Rattle.h2_conn.specs.declared.phase.Phase.TheVariants.{Open}
+use Rattle.h2_flow.specs.Outboxes.{pulled}
+use Rattle.h2_flow.specs.Pulls.{all_rounds, rounds, round}
+use Rattle.h2_conn.specs.Conns.{fresh, heard, flushed, after_pull, frame_fault_on, after_frame_fault}
+use Rattle.grpc_conn.specs.declared.event.CallEvent.{CallEvent}
+use Rattle.grpc_conn.specs.declared.event.CallEvent.TheVariants.{Nothing, Malformed, Refuse}
+use Rattle.grpc_conn.specs.declared.event.CallEvent.TheVariants as events
+use Rattle.grpc_conn.specs.Verdicts.{verdict}
+use Rattle.grpc_conn.specs.Calls.{standing_of_head, standing_at, event_at, calls_after, with_call}
+use Rattle.wl_snapshot.specs.Snapshots.{Publication}
+use Rattle.wl_session.specs.declared.served.Stage.{Stage}
+use Rattle.wl_session.specs.declared.served.Stage.TheVariants.{Unnamed, Ready, Asking}
+use Rattle.wl_session.specs.declared.served.ServedCall.{ServedCall}
+use Rattle.wl_session.specs.Talks.{Talking, fresh_talk, silent, written, with_served, after_event, after_body, after_happening, after_happenings, after_frame, frame_said, frames_said, break_said}
+use Rattle.wl_session.specs.Agreeing.{HasSeen, HaveSeen}
+use Rattle.wl_session.specs.Settled.{is_new, is_new_stage, WasSeen, WereSeen, SettledOn, IsSettled, is_number, MayFollow, MayTurn}
+use Rattle.wl_session.proofs.Agreements.{written_quiet, again, calls_seen}
+
+-- ---- the ready calls
+
+were_filtered : (x : Publication) (test : ServedCall → Bool) (cs : List ServedCall) → WereSeen x cs → WereSeen x (filter test cs)
+were_filtered x test [] were = tt
+were_filtered x test (c ∷ cs) were = go (test c) (were_filtered x test cs were.1)
+  where
+    go : (b : Bool) → WereSeen x (filter test cs) → WereSeen x (if b then c ∷ filter test cs else filter test cs)
+    go true rest = (were.0, rest)
+    go false rest = rest
+
+were_served : (x : Publication) (c : ServedCall) (cs : List ServedCall) → WasSeen x c.stage → WereSeen x cs → WereSeen x (with_served c cs)
+were_served x c [] was were = (was, tt)
+were_served x c (d ∷ ds) was were = go (nat_lt c.stream d.stream) (were_served x c ds was were.1)
+  where
+    go : (b : Bool) → WereSeen x (with_served c ds) → WereSeen x (if b then c ∷ d ∷ ds else d ∷ with_served c ds)
+    go true rest = (was, were)
+    go false rest = (were.0, rest)
+
+-- ---- a frame
+
+event_were : (x : Publication) (n : ℕ) (e : CallEvent) (t : Talking) → WereSeen x t.served → WereSeen x (after_event n e t).served
+unfolding after_event
+event_were x n Nothing t were = were
+event_were x n Malformed t were = were
+event_were x n (Refuse r) t were = were
+event_were x n (events.Ready method message request) t were = were_served x _ t.served tt were
+
+happening_were : (x : Publication) (h : Happening) (t : Talking) → WereSeen x t.served → WereSeen x (after_happening h t).served
+unfolding after_happening after_body
+happening_were x (happening.Head n headers ended) t were = event_were x n (verdict headers [] ended) (record t { calls = with_call n (standing_of_head headers ended) t.calls }) were
+happening_were x (happening.Body n bytes ended) t were = event_were x n (event_at (standing_at n t.calls) bytes ended) (record t { calls = calls_after n bytes ended t.calls }) were
+happening_were x (happening.End n) t were = event_were x n (event_at (standing_at n t.calls) [] true) (record t { calls = calls_after n [] true t.calls }) were
+happening_were x (happening.Gone n) t were = were_filtered x (λ c. not (c.stream == n)) t.served were
+
+happenings_were : (x : Publication) (hs : List Happening) (t : Talking) → WereSeen x t.served → WereSeen x (after_happenings hs t).served
+happenings_were x [] t were = were
+happenings_were x (h ∷ hs) t were = happenings_were x hs (after_happening h t) (happening_were x h t were)
+
+frame_were : (x : Publication) (f : Frame) (t : Talking) → WereSeen x t.served → WereSeen x (after_frame f t).served
+unfolding after_frame
+frame_were x f t were = happenings_were x (heard t.phase f).told (record t { phase = (heard t.phase f).after }) were
+
+-- what is written behind an item leaves nothing to be written
+pub settled_writing : (shown : Option Publication) (number : Option ℕ) (fault : Option ConnFault) (old t : Talking) → SettledOn shown number old → ((x : Publication) → WereSeen x old.served → WereSeen x t.served) → SettledOn shown number (written fault t).after
+unfolding written
+settled_writing None number fault old t settled were = (settled.0, (written_quiet fault t).quiet)
+settled_writing (Some x) number fault old t settled were = (settled.0, refl, (written_quiet fault t).quiet, were x settled.3)
+
+settled_frame : (shown : Option Publication) (number : Option ℕ) (f : Frame) (t : Talking) → SettledOn shown number t → SettledOn shown number (frame_said f t).after
+unfolding frame_said
+settled_frame shown number f t settled = settled_writing shown number (heard t.phase f).fault t (after_frame f t) settled (λ x were. frame_were x f t were)
+
+pub settled_frames : (shown : Option Publication) (number : Option ℕ) (fs : List Frame) (t : Talking) → SettledOn shown number t → SettledOn shown number (frames_said fs t).after
+unfolding frames_said
+settled_frames shown number [] t settled = settled
+settled_frames shown number (f ∷ fs) t settled = settled_frames shown number fs (frame_said f t).after (settled_frame shown number f t settled)
+
+settled_break : (shown : Option Publication) (number : Option ℕ) (why : FrameFault) (t : Talking) → SettledOn shown number t → SettledOn shown number (break_said why t).after
+unfolding break_said
+settled_break shown number why t settled = settled_writing shown number (frame_fault_on why t.phase) t (record t { phase = after_frame_fault why t.phase }) settled (λ x were. were)
+
+-- ---- a turn
+
+seen_was : (x : Publication) (s : Stage) → HasSeen x s → WasSeen x s
+seen_was x (Unnamed kind) seen = tt
+seen_was x (Ready kind sel None headed) seen = tt
+seen_was x (Ready kind sel (Some old) headed) seen = seen
+seen_was x (Asking first rest got) seen = tt
+
+pub seen_were : (x : Publication) (cs : List ServedCall) → HaveSeen x cs → WereSeen x cs
+seen_were x [] seen = tt
+seen_were x (c ∷ cs) seen = (seen_was x c.stage seen.0, seen_were x cs seen.1)
+
+was_has : (x : Publication) (s : Stage) → WasSeen x s → is_new_stage s ≡ false → HasSeen x s
+was_has x (Unnamed kind) was old = tt
+was_has x (Ready kind sel None headed) was old = absurd (cc old)
+was_has x (Ready kind sel (Some v) headed) was old = was
+was_has x (Asking first rest got) was old = tt
+
+none_new : (a b : Bool) → (a || b) ≡ false → (a ≡ false) × (b ≡ false)
+none_new true b is = absurd (cc is)
+none_new false b is = (refl, is)
+
+-- calls that a turn answered, on a publication on which they were
+pub were_have : (x : Publication) (cs : List ServedCall) → WereSeen x cs → list_any is_new cs ≡ false → HaveSeen x cs
+were_have x [] were old = tt
+were_have x (c ∷ cs) were old =
+    let parts = none_new (is_new c) (list_any is_new cs) old in
+    (was_has x c.stage were.0 parts.0, were_have x cs were.1 parts.1)
+
+-- ---- the first of a kind
+
+were_take : (x : Publication) (n : ℕ) (cs : List ServedCall) → WereSeen x cs → WereSeen x (take n cs)
+were_take x zero cs were = tt
+were_take x (suc n) [] were = tt
+were_take x (suc n) (c ∷ cs) were = (were.0, were_take x n cs were.1)
+
+were_drop : (x : Publication) (n : ℕ) (cs : List ServedCall) → WereSeen x cs → WereSeen x (drop n cs)
+were_drop x zero cs were = were
+were_drop x (suc n) [] were = tt
+were_drop x (suc n) (c ∷ cs) were = were_drop x n cs were.1
+
+were_append : (x : Publication) (cs ds : List ServedCall) → WereSeen x cs → WereSeen x ds → WereSeen x (cs ++ ds)
+were_append x [] ds a b = b
+were_append x (c ∷ cs) ds a b = (a.0, were_append x cs ds a.1 b)
+
+were_changed : (x : Publication) (change : ServedCall → Phase → Turned) (front rest : List ServedCall) (p : Phase) → ((c : ServedCall) (q : Phase) → WasSeen x c.stage → WereSeen x (change c q).kept)
+    → WereSeen x front → WereSeen x rest → WereSeen x (change_in change front rest p).kept
+were_changed x change front [] p keeps a b = a
+were_changed x change front (c ∷ rest) p keeps a b = were_append x front ((change c p).kept ++ rest) a (were_append x (change c p).kept rest (keeps c p b.0) b.1)
+
+were_first : (x : Publication) (test : ServedCall → Bool) (change : ServedCall → Phase → Turned) (cs : List ServedCall) (p : Phase) → ((c : ServedCall) (q : Phase) → WasSeen x c.stage → WereSeen x (change c q).kept)
+    → WereSeen x cs → WereSeen x (change_first test change cs p).kept
+unfolding change_first
+were_first x test change cs p keeps were =
+    let n = position_or_len test cs in were_changed x change (take n cs) (drop n cs) p keeps (were_take x n cs were) (were_drop x n cs were)
+
+-- ---- names
+
+call_named : (x : Publication) (n : ℕ) (kind : CallKind) (sel : Option (List (List ℕ))) (p : Phase) → WereSeen x (name_call n kind sel p).kept
+call_named x n kind (Some sel) p = (tt, tt)
+call_named x n kind None p = tt
+
+stage_named : (x : Publication) (sel : Option (List (List ℕ))) (n : ℕ) (s : Stage) (p : Phase) → WasSeen x s → WereSeen x (name_stage sel n s p).kept
+stage_named x sel n (Unnamed kind) p was = call_named x n kind sel p
+stage_named x sel n (Ready kind own seen headed) p was = (was, tt)
+stage_named x sel n (Asking first rest got) p was = (tt, tt)
+
+were_named : (x : Publication) (sel : Option (List (List ℕ))) (cs : List ServedCall) (p : Phase) → WereSeen x cs → WereSeen x (name_first sel cs p).kept
+unfolding name_first
+were_named x sel cs p were = were_first x is_unnamed (name_on sel) cs p (λ c q was. stage_named x sel c.stream c.stage q was) were
+
+-- a name does nothing to the connection
+stage_phase : (sel : List (List ℕ)) (n : ℕ) (s : Stage) (p : Phase) → (name_stage (Some sel) n s p).phase ≡ p
+stage_phase sel n (Unnamed kind) p = refl
+stage_phase sel n (Ready kind own seen headed) p = refl
+stage_phase sel n (Asking first rest got) p = refl
+
+changed_phase : (sel : List (List ℕ)) (front rest : List ServedCall) (p : Phase) → (change_in (name_on (Some sel)) front rest p).phase ≡ p
+changed_phase sel front [] p = refl
+changed_phase sel front (c ∷ rest) p = stage_phase sel c.stream c.stage p
+
+name_phase : (sel : List (List ℕ)) (cs : List ServedCall) (p : Phase) → (name_first (Some sel) cs p).phase ≡ p
+unfolding name_first change_first
+name_phase sel cs p = changed_phase sel _ _ p
+
+moved_settled : (shown : Option Publication) (number : Option ℕ) (t : Talking) (r : Turned) → r.phase ≡ t.phase → ((x : Publication) → WereSeen x t.served → WereSeen x r.kept) → SettledOn shown number t → SettledOn shown number (with_turned t r)
+moved_settled None number t r same were settled = (settled.0, subst (λ (p : Phase). flushed p ≡ record { bytes = []; after = p }) (sym same) settled.1)
+moved_settled (Some x) number t r same were settled = (settled.0, settled.1, subst (λ (p : Phase). flushed p ≡ record { bytes = []; after = p }) (sym same) settled.2, were x settled.3)
+
+pub settled_name : (shown : Option Publication) (number : Option ℕ) (sel : Option (List (List ℕ))) (t : Talking) → SettledOn shown number t → SettledOn shown number (name_said sel t).after
+unfolding name_said
+settled_name shown number (Some sel) t settled = moved_settled shown number t (name_first (Some sel) t.served t.phase) (name_phase sel t.served t.phase) (λ x were. were_named x (Some sel) t.served t.phase were) settled
+settled_name shown number None t settled = settled_writing shown number None t (with_turned t (name_first None t.served t.phase)) settled (λ x were. were_named x None t.served t.phase were)
+
+-- ---- tokens
+
+message_given : (x : Publication) (n : ℕ) (m : List ℕ) (p : Phase) → WereSeen x (token_message n m p).kept
+message_given x n m p = go (nat_lt 4194304 (capped (length m)))
+  where
+    go : (b : Bool) → WereSeen x (if b then has_ended (with_refusal n false LongResponse p) else has_ended (with_last_message n false m p)).kept
+    go true = tt
+    go false = tt
+
+next_given : (x : Publication) (n : ℕ) (audience : List (List ℕ)) (ws : List Wanted) (got : List JwtItem) (p : Phase) → WereSeen x (next_ask n audience ws got p).kept
+next_given x n audience [] got p = message_given x n (spell_jwt (record { svids = got })) p
+next_given x n audience (w ∷ ws) got p = (tt, tt)
+
+call_given : (x : Publication) (n : ℕ) (first : JwtAsk) (rest : List Wanted) (got : List JwtItem) (o : JwtOutcome) (p : Phase) → WereSeen x (give_call n first rest got o p).kept
+unfolding give_call
+call_given x n first rest got (outcomes.Token t) p = next_given x n first.audience rest (got ++ item_for first t ∷ []) p
+call_given x n first rest got outcomes.Failed p = tt
+call_given x n first rest got (outcomes.Unfit u) p = tt
+
+stage_given : (x : Publication) (o : JwtOutcome) (n : ℕ) (s : Stage) (p : Phase) → WasSeen x s → WereSeen x (give_stage o n s p).kept
+stage_given x o n (Unnamed kind) p was = (tt, tt)
+stage_given x o n (Ready kind sel seen headed) p was = (was, tt)
+stage_given x o n (Asking first rest got) p was = call_given x n first rest got o p
+
+were_given : (x : Publication) (o : JwtOutcome) (cs : List ServedCall) (p : Phase) → WereSeen x cs → WereSeen x (give_first o cs p).kept
+unfolding give_first
+were_given x o cs p were = were_first x is_asking (give_on o) cs p (λ c q was. stage_given x o c.stream c.stage q was) were
+
+pub settled_given : (shown : Option Publication) (number : Option ℕ) (o : JwtOutcome) (t : Talking) → SettledOn shown number t → SettledOn shown number (given_said o t).after
+unfolding given_said
+settled_given shown number o t settled = settled_writing shown number None t (with_turned t (give_first o t.served t.phase)) settled (λ x were. were_given x o t.served t.phase were)
+
+-- ---- a session
+
+-- a turn settles on its publication
+pub settled_turn : (x : Publication) (t : Talking) → SettledOn (Some x) (Some x.number) (turn_said x t).after
+unfolding turn_said written
+settled_turn x t =
+    let quiet = written_quiet None (with_turned t (calls_turn x t.served t.phase)) in
+    (refl, refl, quiet.quiet, seen_were x (calls_turn x t.served t.phase).kept (calls_seen x t.served t.phase))
+
+some_same : (a b : ℕ) (number : Option ℕ) → number ≡ Some a → number ≡ Some b → a ≡ b
+some_same a b number p q = cc (p, q)
+
+-- a turn on the last turn's publication in which no call is new writes nothing
+turn_skips : (x : Publication) (number : Option ℕ) (t : Talking) → SettledOn (Some x) number t → list_any is_new t.served ≡ false → turn_said x t ≡ silent t
+turn_skips x number t settled old = again x t (record { greeted = settled.1; quiet = settled.2 }) (were_have x t.served settled.3 old)
+
+pub stays_on : (x : Publication) (shown : Option Publication) (number : Option ℕ) (e : End) (t : Talking) (out : List ℕ) → SettledOn shown number t → number ≡ Some x.number → list_any is_new t.served ≡ false → MayFollow x shown → Turns x (Running e t shown) (Ok tt) out out (Running e t shown)
+stays_on x None number e t out settled is old may = absurd (cc (settled.0, is))
+stays_on x (Some last) number e t out settled is old may =
+    let same : last ≡ x = may.1 (some_same last.number x.number number settled.0 is) in
+    rw (turn_skips x number t (subst (λ (y : Publication). SettledOn (Some y) number t) same settled) old) (sym (append-nil out), ap (λ (y : Publication). Running e t (Some y)) same)
+
+pub settled_feed : (shown : Option Publication) (number : Option ℕ) (r : Reading) (t : Talking) → (feed_said r t).fault ≡ None → SettledOn shown number t → SettledOn shown number (feed_said r t).after
+unfolding feed_said
+settled_feed shown number r t none settled = go r.ending none
+  where
+    go : (e : End) → (ended_by e (frames_said r.frames t)).fault ≡ None → SettledOn shown number (ended_by e (frames_said r.frames t)).after
+    go (Opening left) is = settled_frames shown number r.frames t settled
+    go (Rest rest) is = settled_frames shown number r.frames t settled
+    go (Fault why) is = settled_break shown number why (frames_said r.frames t).after (settled_frames shown number r.frames t settled)
+
+-- a connection of which nothing came has nothing to write
+pub fresh_quiet : flushed (Open fresh) ≡ record { bytes = []; after = Open fresh }
+unfolding flushed pulled after_pull all_rounds rounds round
+fresh_quiet = refl
+
+pub settled_fresh : SettledOn None None fresh_talk
+settled_fresh = (refl, fresh_quiet)
+
+numbered_is : (last : Option ℕ) (n : ℕ) → is_number last n ≡ true → last ≡ Some n
+numbered_is None n is = absurd (cc is)
+numbered_is (Some m) n is = let e : m ≡ n = grind (arith, nat_tests, is) in ap (λ (k : ℕ). Some k) e
+
+-- a session that has not failed stays as it is at a turn on the last turn's publication in which no call is new
+pub stays_here : (x : Publication) (s : SessionState) (failed : Option SessionFault) (e : End) (t : Talking) (shown : Option Publication) (number : Option ℕ) (out : List ℕ)
+    → state_by failed e t shown ≡ s → failed ≡ None → IsSettled failed shown number t → is_number number x.number ≡ true → list_any is_new t.served ≡ false → MayTurn x s → Turns x s (Ok tt) out out s
+stays_here x s failed e t shown number out view none settled numbered old may =
+    let running : Running e t shown ≡ s = subst (λ (f : Option SessionFault). state_by f e t shown ≡ s) none view in
+    let on : SettledOn shown number t = subst (λ (f : Option SessionFault). IsSettled f shown number t) none settled in
+    subst (λ (u : SessionState). Turns x u (Ok tt) out out u) running
+    (stays_on x shown number e t out on (numbered_is number x.number numbered) old (subst (λ (u : SessionState). MayTurn x u) (sym running) may))

@@ -1,0 +1,9 @@
+use Rattle.std.proofs.Common.{subst, None}
+use Rattle.list_laws.specs.Lists.{GainsFront}
+use Rattle.wl_session.specs.Talks.{Talking, written}
+use Rattle.wl_session.specs.Sessions.{given_said}
+use Rattle.wl_session.proofs.talk.Talk.give.Goals as goal
+
+pub returns-clause-front : goal.returns-clause-front
+unfolding given_said
+returns-clause-front c = subst (λ (t : Talking). GainsFront (written None t).bytes c.args.out.now c.write.new.out) c.in_ok-take_outcome.ensures (c.write.ensures.front None)

@@ -1,0 +1,14 @@
+use Rattle.std.proofs.Common.{ap, subst, ◌∙◌}
+use Rattle.list_laws.specs.Lists.{GainsFront}
+use Rattle.h2_conn.specs.declared.phase.Phase.{Phase}
+use Rattle.h2_conn.specs.Conns.{flushed}
+use Rattle.wl_session.proofs.Running.{greet_front, flush_front}
+use Rattle.wl_session.proofs.talk.Talk.write.Goals as goal
+
+pub returns-in_err-greet-clause-front : goal.returns-in_err-greet-clause-front
+returns-in_err-greet-clause-front c fault = greet_front fault c.args.self.now c.args.out.now c.greet.new.out c.greet.ensures.front
+
+pub returns-clause-front : goal.returns-clause-front
+returns-clause-front c fault =
+    let same = ap (λ t. t.phase) c.self.view_is ∙ c.greet.ensures.phase in
+    flush_front fault c.args.self.now c.args.out.now c.greet.new.out c.flush.new.out c.in_ok-greet.ensures.bytes (subst (λ (p : Phase). GainsFront (flushed p).bytes c.greet.new.out c.flush.new.out) same c.flush.ensures.front)

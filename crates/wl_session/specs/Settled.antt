@@ -1,0 +1,64 @@
+-- What holds of a session between its calls.
+use Rattle.std.specs.Prelude.{◌≡◌, ℕ, ◌≤◌, ◌==◌, Bool, true, false, List, [], ◌∷◌, Option, Some, None}
+use Rattle.h2_conn.specs.Conns.{flushed}
+use Rattle.wl_snapshot.specs.Same.{same_sight}
+use Rattle.wl_snapshot.specs.Snapshots.{Publication}
+use Rattle.wl_snapshot.specs.Views.{Sight, view_in}
+use Rattle.wl_session.specs.declared.asks.SessionFault.{SessionFault}
+use Rattle.wl_session.specs.declared.served.Stage.{Stage}
+use Rattle.wl_session.specs.declared.served.Stage.TheVariants.{Unnamed, Ready, Asking}
+use Rattle.wl_session.specs.declared.served.ServedCall.{ServedCall}
+use Rattle.wl_session.specs.Talks.{Talking}
+use Rattle.wl_session.specs.Sessions.{SessionState, Running, Fallen, OutOfMemory}
+
+-- a call that no turn answered yet
+abbrev pub is_new_view : Option Sight → Bool
+is_new_view None = true
+is_new_view (Some v) = false
+
+abbrev pub is_new_stage : Stage → Bool
+is_new_stage (Unnamed kind) = false
+is_new_stage (Ready kind sel seen headed) = is_new_view seen
+is_new_stage (Asking first rest got) = false
+
+abbrev pub is_new : ServedCall → Bool
+is_new c = is_new_stage c.stage
+
+abbrev pub WasSeenOn : Sight → Option Sight → Type 0
+WasSeenOn v None = Unit {0}
+WasSeenOn v (Some old) = same_sight old v ≡ true
+
+abbrev pub WasSeen : Publication → Stage → Type 0
+WasSeen x (Unnamed kind) = Unit {0}
+WasSeen x (Ready kind sel seen headed) = WasSeenOn (view_in x sel) seen
+WasSeen x (Asking first rest got) = Unit {0}
+
+-- what a turn answered, it answered on the view in this publication
+abbrev pub WereSeen : Publication → List ServedCall → Type 0
+WereSeen x [] = Unit {0}
+WereSeen x (c ∷ cs) = WasSeen x c.stage × WereSeen x cs
+
+-- nothing more may be written; and, once a turn was taken, this side's SETTINGS were, and what was answered was answered on
+-- the last turn's publication
+abbrev pub SettledOn : Option Publication → Option ℕ → Talking → Type 0
+SettledOn None number t = (number ≡ None) × (flushed t.phase ≡ record { bytes = []; after = t.phase })
+SettledOn (Some x) number t = (number ≡ Some x.number) × (t.greeted ≡ true) × (flushed t.phase ≡ record { bytes = []; after = t.phase }) × WereSeen x t.served
+
+abbrev pub IsSettled : Option SessionFault → Option Publication → Option ℕ → Talking → Type 0
+IsSettled None shown number t = SettledOn shown number t
+IsSettled (Some f) shown number t = Unit {0}
+
+-- the last turn's publication had this number
+abbrev pub is_number : Option ℕ → ℕ → Bool
+is_number None n = false
+is_number (Some m) n = m == n
+
+-- a turn may be taken on this publication: it is not older than the last turn's, and the same where its number is
+abbrev pub MayFollow : Publication → Option Publication → Type 0
+MayFollow x None = Unit {0}
+MayFollow x (Some last) = (last.number ≤ x.number) × (last.number ≡ x.number → last ≡ x)
+
+abbrev pub MayTurn : Publication → SessionState → Type 0
+MayTurn x (Running e t last) = MayFollow x last
+MayTurn x (Fallen f begun) = Unit {0}
+MayTurn x OutOfMemory = Unit {0}

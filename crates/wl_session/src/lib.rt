@@ -1,0 +1,23 @@
+//! A connection of the SPIFFE Workload API: its bytes, attested call by call, become messages.
+//!
+//! A session is fed the bytes of a peer, is told the selectors of each call that became ready, and takes its turns: a turn
+//! reads one publication and answers each ready call from what its own selectors are entitled to there, and from nothing
+//! else. What is written is a function of these alone.
+#![tactic(auto)]
+
+mod asks;
+mod giving;
+mod laws;
+mod naming;
+mod queue;
+mod replies;
+mod served;
+mod session;
+mod talk;
+#[cfg(test)]
+mod tests;
+mod turn;
+
+pub use asks::{JwtAsk, JwtOutcome, SessionFault};
+pub use laws::{cut_anywhere, turns_agree};
+pub use session::Session;
