@@ -88,7 +88,7 @@ def check_pages(files):
 def contract(text, name):
     """What stands between a function's name and its body, for each function of this name."""
     for found in re.finditer(rf"\bfn {re.escape(name)}\b", text):
-        end = re.search(r"^\s*\{|;\s*$|\{\}\s*$", text[found.end():], flags=re.M)
+        end = re.search(r"^\s*\{|[})]\s*;\s*$|\{\}\s*$", text[found.end():], flags=re.M)
         yield text[found.end():found.end() + end.start()] if end else text[found.end():]
 
 
