@@ -257,6 +257,7 @@ fn sixty_four_items(rt: HostRuntime) -> Result<(), Fail> {
         svids: x509_svids(alloc, &items)?,
         federated: Row::empty(alloc),
     };
+    assert_eq!(rt; size_x509(&response), 64 * 14);
     assert_eq!(rt; encode_x509(alloc, &response)?.len(), 64 * 14);
     Ok(())
 }
