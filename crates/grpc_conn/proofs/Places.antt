@@ -6,7 +6,7 @@ use Rattle.std.proofs.lemmas.List.Quantifiers.{position-Some}
 use Rattle.std.specs.List.{prefix_len}
 use Rattle.grpc_conn.specs.declared.standing.Call.{Call}
 use Rattle.grpc_conn.specs.declared.standing.Standing.{Standing}
-use Rattle.grpc_conn.specs.Calls.{moved, standing_at, moved_at, with_call, without}
+use Rattle.grpc_conn.specs.Calls.{standing_after, standing_at, calls_after, with_call, without}
 
 -- the call is on the stream
 abbrev pub is_on : ℕ → Call → Bool
@@ -20,7 +20,7 @@ standing_here stream (c ∷ calls) zero d lt here first = rw here refl
 standing_here stream (c ∷ calls) (suc i) d lt here first =
     rw (first 0 (omega arith)) (standing_here stream calls i d (omega arith) here (λ k less. first (suc k) (omega arith)))
 
-moved_here : (stream : ℕ) (bytes : List ℕ) (ended : Bool) (calls : List Call) (i : ℕ) (d : Call) → i < length calls → is_on stream (get_or calls i d) ≡ true → ((k : ℕ) → k < i → is_on stream (get_or calls k d) ≡ false) → moved_at stream bytes ended calls ≡ set calls i (record { stream = (get_or calls i d).stream; standing = moved (get_or calls i d).standing bytes ended })
+moved_here : (stream : ℕ) (bytes : List ℕ) (ended : Bool) (calls : List Call) (i : ℕ) (d : Call) → i < length calls → is_on stream (get_or calls i d) ≡ true → ((k : ℕ) → k < i → is_on stream (get_or calls k d) ≡ false) → calls_after stream bytes ended calls ≡ set calls i (record { stream = (get_or calls i d).stream; standing = standing_after (get_or calls i d).standing bytes ended })
 moved_here stream bytes ended [] i d lt here first = absurd (omega arith)
 moved_here stream bytes ended (c ∷ calls) zero d lt here first = rw here refl
 moved_here stream bytes ended (c ∷ calls) (suc i) d lt here first =
@@ -31,7 +31,7 @@ standing_placed stream calls i d found =
     let there = position-Some (is_on stream) calls i d found in
     standing_here stream calls i d there.0 there.1 there.2
 
-pub moved_placed : (stream : ℕ) (bytes : List ℕ) (ended : Bool) (calls : List Call) (i : ℕ) (d : Call) → position (is_on stream) calls ≡ Some i → moved_at stream bytes ended calls ≡ set calls i (record { stream = (get_or calls i d).stream; standing = moved (get_or calls i d).standing bytes ended })
+pub moved_placed : (stream : ℕ) (bytes : List ℕ) (ended : Bool) (calls : List Call) (i : ℕ) (d : Call) → position (is_on stream) calls ≡ Some i → calls_after stream bytes ended calls ≡ set calls i (record { stream = (get_or calls i d).stream; standing = standing_after (get_or calls i d).standing bytes ended })
 moved_placed stream bytes ended calls i d found =
     let there = position-Some (is_on stream) calls i d found in
     moved_here stream bytes ended calls i d there.0 there.1 there.2
@@ -46,7 +46,7 @@ none_there stream (c ∷ calls) all =
       | inr other ↦ rw other (none_there stream calls (omega (arith, rw other at all)))
     ]
 
-pub none_moved : (stream : ℕ) (bytes : List ℕ) (ended : Bool) (calls : List Call) → length calls ≤ prefix_len (λ c. not (is_on stream c)) calls → moved_at stream bytes ended calls ≡ calls
+pub none_moved : (stream : ℕ) (bytes : List ℕ) (ended : Bool) (calls : List Call) → length calls ≤ prefix_len (λ c. not (is_on stream c)) calls → calls_after stream bytes ended calls ≡ calls
 none_moved stream bytes ended [] all = refl
 none_moved stream bytes ended (c ∷ calls) all =
     elim (cases_Bool (is_on stream c)) [
@@ -77,7 +77,7 @@ added_elsewhere other stream standing (c ∷ calls) apart =
       | inr there ↦ rw there (added_elsewhere other stream standing calls apart)
     ]
 
-pub moved_elsewhere : (other stream : ℕ) (bytes : List ℕ) (ended : Bool) (calls : List Call) → stream ≢ other → standing_at other (moved_at stream bytes ended calls) ≡ standing_at other calls
+pub moved_elsewhere : (other stream : ℕ) (bytes : List ℕ) (ended : Bool) (calls : List Call) → stream ≢ other → standing_at other (calls_after stream bytes ended calls) ≡ standing_at other calls
 moved_elsewhere other stream bytes ended [] apart = refl
 moved_elsewhere other stream bytes ended (c ∷ calls) apart =
     elim (cases_Bool (c.stream == stream)) [
@@ -91,7 +91,7 @@ moved_elsewhere other stream bytes ended (c ∷ calls) apart =
       ]
     ]
 
-pub moved_length : (stream : ℕ) (bytes : List ℕ) (ended : Bool) (calls : List Call) → length (moved_at stream bytes ended calls) ≡ length calls
+pub moved_length : (stream : ℕ) (bytes : List ℕ) (ended : Bool) (calls : List Call) → length (calls_after stream bytes ended calls) ≡ length calls
 moved_length stream bytes ended [] = refl
 moved_length stream bytes ended (c ∷ calls) =
     elim (cases_Bool (c.stream == stream)) [
@@ -100,12 +100,12 @@ moved_length stream bytes ended (c ∷ calls) =
     ]
 
 -- a stream that is gone isn't there
-pub gone_there : (stream : ℕ) (calls : List Call) → standing_at stream (without stream calls) ≡ None
-gone_there stream [] = refl
-gone_there stream (c ∷ calls) =
+pub removed_there : (stream : ℕ) (calls : List Call) → standing_at stream (without stream calls) ≡ None
+removed_there stream [] = refl
+removed_there stream (c ∷ calls) =
     elim (cases_Bool (c.stream == stream)) [
-      | inl here ↦ rw here (gone_there stream calls)
-      | inr there ↦ rw (there, there) (gone_there stream calls)
+      | inl here ↦ rw here (removed_there stream calls)
+      | inr there ↦ rw (there, there) (removed_there stream calls)
     ]
 
 pub gone_elsewhere : (other stream : ℕ) (calls : List Call) → stream ≢ other → standing_at other (without stream calls) ≡ standing_at other calls

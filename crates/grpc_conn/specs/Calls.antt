@@ -15,26 +15,26 @@ use Rattle.grpc_conn.specs.Verdicts.{body_verdict, verdict, is_decided_event}
 -- ---- one call
 
 -- what is kept of a call whose verdict is this so far
-abbrev pub kept : CallEvent → Method → List ℕ → Standing
-kept event method body = if is_decided_event event then Decided else Waiting method body
+abbrev pub standing_of : CallEvent → Method → List ℕ → Standing
+standing_of event method body = if is_decided_event event then Decided else Waiting method body
 
 -- more bytes of a body: what they come to, and what is kept
-unfoldable pub told : Standing → List ℕ → Bool → CallEvent
-told (Waiting method body) bytes ended = body_verdict method (body ++ bytes) ended
-told Decided bytes ended = Nothing
+unfoldable pub event_of : Standing → List ℕ → Bool → CallEvent
+event_of (Waiting method body) bytes ended = body_verdict method (body ++ bytes) ended
+event_of Decided bytes ended = Nothing
 
-unfoldable pub moved : Standing → List ℕ → Bool → Standing
-moved (Waiting method body) bytes ended = kept (body_verdict method (body ++ bytes) ended) method (body ++ bytes)
-moved Decided bytes ended = Decided
+unfoldable pub standing_after : Standing → List ℕ → Bool → Standing
+standing_after (Waiting method body) bytes ended = standing_of (body_verdict method (body ++ bytes) ended) method (body ++ bytes)
+standing_after Decided bytes ended = Decided
 
--- a head: what is kept behind it
-abbrev pub begun_by : HeadVerdict → Bool → Standing
-begun_by (heads.Call method) ended = kept (body_verdict method [] ended) method []
-begun_by heads.Malformed ended = Decided
-begun_by (heads.Refused refusal) ended = Decided
+-- a head: what is kept after it
+abbrev pub standing_by_head : HeadVerdict → Bool → Standing
+standing_by_head (heads.Call method) ended = standing_of (body_verdict method [] ended) method []
+standing_by_head heads.Malformed ended = Decided
+standing_by_head (heads.Refused refusal) ended = Decided
 
-unfoldable pub begun : List Header → Bool → Standing
-begun headers ended = begun_by (head_verdict headers) ended
+unfoldable pub standing_of_head : List Header → Bool → Standing
+standing_of_head headers ended = standing_by_head (head_verdict headers) ended
 
 -- What is kept stands for this head and these bytes of a body that goes on.
 abbrev pub StandsFor : Standing → List Header → List ℕ → Type 0
@@ -49,16 +49,16 @@ standing_at stream [] = None
 standing_at stream (c ∷ calls) = if c.stream == stream then Some c.standing else standing_at stream calls
 
 -- what more bytes of a body come to, on a stream; nothing where no call is
-abbrev pub told_at : Option Standing → List ℕ → Bool → CallEvent
-told_at None bytes ended = Nothing
-told_at (Some standing) bytes ended = told standing bytes ended
+abbrev pub event_at : Option Standing → List ℕ → Bool → CallEvent
+event_at None bytes ended = Nothing
+event_at (Some standing) bytes ended = event_of standing bytes ended
 
--- the calls behind more bytes of a body on a stream
-abbrev pub moved_at : ℕ → List ℕ → Bool → List Call → List Call
-moved_at stream bytes ended [] = []
-moved_at stream bytes ended (c ∷ calls) =
-    if c.stream == stream then record { stream = c.stream; standing = moved c.standing bytes ended } ∷ calls
-    else c ∷ moved_at stream bytes ended calls
+-- the calls after more bytes of a body on a stream
+abbrev pub calls_after : ℕ → List ℕ → Bool → List Call → List Call
+calls_after stream bytes ended [] = []
+calls_after stream bytes ended (c ∷ calls) =
+    if c.stream == stream then record { stream = c.stream; standing = standing_after c.standing bytes ended } ∷ calls
+    else c ∷ calls_after stream bytes ended calls
 
 -- the calls on other streams
 abbrev pub without : ℕ → List Call → List Call
@@ -73,6 +73,6 @@ abbrev pub CallStandsFor : ℕ → List Call → List Header → List ℕ → Ty
 CallStandsFor stream calls headers fed = IsSomeAnd (standing_at stream calls) (λ standing. StandsFor standing headers fed)
 
 -- the calls of a connection, and whether memory ran out: from then on each call that can answer so does
-pub record Calling : Type 0 where
+pub record CallTable : Type 0 where
   pub calls : List Call
-  pub lost : Bool
+  pub failed : Bool

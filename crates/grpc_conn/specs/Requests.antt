@@ -2,9 +2,8 @@
 use Rattle.std.specs.Prelude.{◌≡◌, ℕ, ◌==◌, is_some, if◌then◌else◌, List, length, Option, Some, None, Result, Ok, Err}
 use Rattle.spiffe_id.specs.Faults.{id_fault}
 use Rattle.workload_proto.specs.declared.message.JwtRequest.{JwtRequest}
-use Rattle.workload_proto.specs.declared.fault.ProtoFault.{ProtoFault}
+use Rattle.pb_wire.specs.declared.fault.FieldFault.{FieldFault}
 use Rattle.workload_proto.specs.Requests.{jwt_request_of, empty_of}
-use Rattle.wl_health.specs.declared.fault.HealthFault.{HealthFault}
 use Rattle.wl_health.specs.Messages.{service_of}
 use Rattle.grpc_wire.specs.declared.method.Method.{Method}
 use Rattle.grpc_wire.specs.declared.method.Method.TheVariants.{X509Svid, X509Bundles, JwtBundles, JwtSvid, HealthCheck, HealthWatch}
@@ -30,21 +29,21 @@ jwt_with audience (Err refusal) = Err refusal
 abbrev pub jwt_judged : JwtRequest → Result Request Refusal
 jwt_judged r = if length r.audience == 0 then Err NoAudience else jwt_with r.audience (named_id r.spiffe_id)
 
-abbrev pub jwt_read : Result JwtRequest ProtoFault → Result Request Refusal
+abbrev pub jwt_read : Result JwtRequest FieldFault → Result Request Refusal
 jwt_read (Ok r) = jwt_judged r
 jwt_read (Err fault) = Err Undecodable
 
 abbrev pub jwt_said : List ℕ → Result Request Refusal
 jwt_said m = jwt_read (jwt_request_of m)
 
-abbrev pub health_read : Result (List ℕ) HealthFault → Result Request Refusal
+abbrev pub health_read : Result (List ℕ) FieldFault → Result Request Refusal
 health_read (Ok service) = Ok (Health service)
 health_read (Err fault) = Err Undecodable
 
 abbrev pub health_said : List ℕ → Result Request Refusal
 health_said m = health_read (service_of m)
 
-abbrev pub empty_read : Result (Unit {0}) ProtoFault → Result Request Refusal
+abbrev pub empty_read : Result (Unit {0}) FieldFault → Result Request Refusal
 empty_read (Ok x) = Ok Plain
 empty_read (Err fault) = Err Undecodable
 

@@ -11,6 +11,7 @@ use Rattle.grpc_wire.specs.declared.refusal.Refusal.{Refusal}
 use Rattle.grpc_wire.specs.declared.refusal.Refusal.TheVariants.{Flag, LongRequest, Count}
 use Rattle.grpc_wire.specs.Heads.{head_verdict}
 use Rattle.grpc_wire.specs.Messages.{prefix_of}
+use Rattle.workload_proto.specs.declared.limits.TheConstants.{MAX_REQUEST_LEN}
 use Rattle.grpc_conn.specs.declared.event.CallEvent.{CallEvent}
 use Rattle.grpc_conn.specs.declared.event.CallEvent.TheVariants.{Nothing, Malformed, Refuse, Ready}
 use Rattle.grpc_conn.specs.declared.request.Request.{Request}
@@ -18,19 +19,15 @@ use Rattle.grpc_conn.specs.Requests.{request_of}
 
 -- ---- the body
 
--- own rule: the most bytes of a request's message
-abbrev pub request_limit : ℕ
-request_limit = 32768
-
-abbrev pub decoded : Method → List ℕ → Result Request Refusal → CallEvent
-decoded method m (Ok request) = Ready method m request
-decoded method m (Err refusal) = Refuse refusal
+abbrev pub verdict_of_request : Method → List ℕ → Result Request Refusal → CallEvent
+verdict_of_request method m (Ok request) = Ready method m request
+verdict_of_request method m (Err refusal) = Refuse refusal
 
 -- the one message is there, and the request has ended
 abbrev pub whole_verdict : Method → List ℕ → CallEvent
-whole_verdict method m = decoded method m (request_of method m)
+whole_verdict method m = verdict_of_request method m (request_of method m)
 
--- behind a prefix that says this length: a byte behind the first whole message, or an end before it is whole
+-- after a prefix that says this length: a byte after the first whole message, or an end before it is whole
 abbrev pub sized_verdict : Method → ℕ → List ℕ → Bool → CallEvent
 sized_verdict method n after ended =
     if nat_lt n (length after) then Refuse Count
@@ -54,19 +51,19 @@ prefix_verdict method (Ok None) after ended = part_verdict ended
 prefix_verdict method (Ok (Some n)) after ended = sized_verdict method n after ended
 
 unfoldable pub body_verdict : Method → List ℕ → Bool → CallEvent
-body_verdict method body ended = prefix_verdict method (prefix_of request_limit body) (drop 5 body) ended
+body_verdict method body ended = prefix_verdict method (prefix_of MAX_REQUEST_LEN body) (drop 5 body) ended
 
 -- ---- head and body
 
-abbrev pub verdict_behind : HeadVerdict → List ℕ → Bool → CallEvent
-verdict_behind heads.Malformed body ended = Malformed
-verdict_behind (heads.Refused refusal) body ended = Refuse refusal
-verdict_behind (heads.Call method) body ended = body_verdict method body ended
+abbrev pub verdict_of_call : HeadVerdict → List ℕ → Bool → CallEvent
+verdict_of_call heads.Malformed body ended = Malformed
+verdict_of_call (heads.Refused refusal) body ended = Refuse refusal
+verdict_of_call (heads.Call method) body ended = body_verdict method body ended
 
 unfoldable pub verdict : List Header → List ℕ → Bool → CallEvent
-verdict headers body ended = verdict_behind (head_verdict headers) body ended
+verdict headers body ended = verdict_of_call (head_verdict headers) body ended
 
--- ---- what is told of it
+-- ---- what is answered of it
 
 -- the verdict is there
 abbrev pub is_decided_event : CallEvent → Bool
@@ -75,7 +72,7 @@ is_decided_event Malformed = true
 is_decided_event (Refuse refusal) = true
 is_decided_event (Ready method m request) = true
 
--- a verdict is told once
+-- a verdict is given once
 abbrev pub news : CallEvent → CallEvent → CallEvent
 news Nothing now = now
 news Malformed now = Nothing

@@ -1,33 +1,29 @@
 //! One call's body, as it comes.
 
-ghost use Rattle.std.specs.Prelude.{◌≡◌, ◌≤◌, ◌++◌, drop, length, IfOk, OnOk};
+ghost use Rattle.std.specs.Prelude.{◌≡◌, ◌≢◌, ◌≤◌, ◌++◌, drop, length, IfOk, OnOk};
 ghost use Rattle.grpc_conn.specs.declared.event.CallEvent.TheVariants.{Nothing};
 ghost use Rattle.grpc_conn.specs.Verdicts.{sized_verdict, whole_verdict, part_verdict, refused_by, body_verdict};
-ghost use Rattle.grpc_conn.specs.Calls.{told, moved};
+ghost use Rattle.grpc_conn.specs.Calls.{event_of, standing_after};
 
 use crate::event::CallEvent;
 use crate::request::{RequestFault, read_request};
 use crate::standing::Standing;
-use grpc_wire::{MessageFault, Method, Refusal, judge_prefix};
+use grpc_wire::{MessageFault, Method, PREFIX_LEN, Refusal, judge_prefix};
 use std::alloc::Global;
+use std::mem;
 use wl_octets::{Memory, Octets};
-
-/// The most bytes of a request's message (own rule).
-const LIMIT: u32 = 32_768;
-
-/// How many bytes stand before a message.
-const PREFIX: usize = 5;
+use workload_proto::MAX_REQUEST_LEN;
 
 /// More bytes of a call's body.
-#[tactic(auto, unfolding(crate::specs::Calls::told, crate::specs::Calls::moved))]
-pub(crate) fn go_on(
+#[tactic(auto, unfolding(crate::specs::Calls::event_of, crate::specs::Calls::standing_after))]
+pub(crate) fn advance(
     alloc: Global,
     standing: &mut Standing,
     bytes: &[u8],
     ended: bool,
 ) -> Result<CallEvent, Memory>
-    ensures event { IfOk result (λ event. event ≡ told standing.old bytes.now ended) }
-    ensures kept { OnOk result (standing.new ≡ moved standing.old bytes.now ended) }
+    ensures event { IfOk result (λ event. event ≡ event_of standing.old bytes.now ended) }
+    ensures kept { OnOk result (standing.new ≡ standing_after standing.old bytes.now ended) }
 {
     match standing {
         Standing::Waiting { method, body } => {
@@ -54,17 +50,17 @@ fn take_in(
     ensures event { IfOk result (λ event. event ≡ body_verdict method (body.old ++ bytes.now) ended) }
     ensures kept { IfOk result (λ event. event ≡ Nothing → body.new ≡ body.old ++ bytes.now) }
 {
-    let lacking = PREFIX.saturating_sub(body.len());
+    let lacking = PREFIX_LEN.saturating_sub(body.len());
     let (front, rest) = bytes.split_at(lacking.min(bytes.len()));
     body.push_slice(front)?;
-    match judge_prefix(LIMIT, body.as_slice()) {
+    match judge_prefix(MAX_REQUEST_LEN, body.as_slice()) {
         Err(fault) => Ok(refuse(fault)),
         Ok(None) => Ok(judge_part(ended)),
         Ok(Some(said)) => take_rest(alloc, method, said, body, rest, ended),
     }
 }
 
-/// The same behind a prefix that says this length.
+/// The same after a prefix that says this length.
 fn take_rest(
     alloc: Global,
     method: Method,
@@ -78,7 +74,7 @@ fn take_rest(
     ensures kept { IfOk result (λ event. event ≡ Nothing → body.new ≡ body.old ++ rest.now) }
 {
     let due = said as usize;
-    let come = (body.len() - PREFIX).saturating_add(rest.len());
+    let come = (body.len() - PREFIX_LEN).saturating_add(rest.len());
     if come > due {
         return Ok(CallEvent::Refuse(Refusal::Count));
     }
@@ -89,8 +85,7 @@ fn take_rest(
     if come < due {
         return Ok(CallEvent::Refuse(Refusal::Count));
     }
-    let (_, message) = body.as_slice().split_at(PREFIX);
-    decide(alloc, method, message)
+    decide(alloc, method, body)
 }
 
 /// A request that has ended within its prefix, or goes on.
@@ -114,20 +109,32 @@ fn refuse(fault: MessageFault) -> CallEvent
     }
 }
 
-/// A request that has ended, with its one message.
-fn decide(alloc: Global, method: Method, message: &[u8]) -> Result<CallEvent, Memory>
-    ensures { IfOk result (λ event. event ≡ whole_verdict method message.now) }
+/// A request that has ended, with its one message after its prefix. The message of a call that is ready is moved out
+/// of the body.
+fn decide(alloc: Global, method: Method, body: &mut Octets) -> Result<CallEvent, Memory>
+    requires { 5 ≤ length body.old }
+    ensures event { IfOk result (λ event. event ≡ whole_verdict method (drop 5 body.old)) }
+    ensures decided { IfOk result (λ event. event ≢ Nothing) }
 {
+    let (_, message) = body.as_slice().split_at(PREFIX_LEN);
     match read_request(alloc, method, message) {
-        Ok(request) => {
-            let message = Octets::from_slice(alloc, message)?;
-            Ok(CallEvent::Ready {
-                method,
-                message,
-                request,
-            })
-        }
+        Ok(request) => Ok(CallEvent::Ready {
+            method,
+            message: take_message(alloc, body),
+            request,
+        }),
         Err(RequestFault::Refused(refusal)) => Ok(CallEvent::Refuse(refusal)),
         Err(RequestFault::Memory) => Err(Memory),
     }
+}
+
+/// The bytes after the prefix. They are moved, and take no memory.
+fn take_message(alloc: Global, body: &mut Octets) -> Octets
+    requires { 5 ≤ length body.old }
+    ensures { result ≡ drop 5 body.old }
+{
+    let mut bytes = mem::replace(body, Octets::empty(alloc)).into_vec();
+    bytes.rotate_left(PREFIX_LEN);
+    bytes.truncate(bytes.len() - PREFIX_LEN);
+    Octets::from_vec(bytes)
 }

@@ -335,7 +335,7 @@ fn in_order(alloc: Global, number: usize) -> Result<(Row<Header>, bool), Memory>
     Ok((headers, is_last))
 }
 
-/// Pseudo-headers may stand in any order, and not behind another field.
+/// Pseudo-headers may stand in any order, and not after another field.
 #[test]
 fn orders_of_a_head(rt: HostRuntime) -> Result<(), Fail> {
     let alloc = rt.alloc();

@@ -3,7 +3,7 @@ use Rattle.std.proofs.Common.{◌≡◌, ◌⊎◌, inl, inr, ℕ, zero, suc, �
 use Rattle.std.proofs.lemmas.List.{drop-drop}
 use Rattle.grpc_wire.specs.declared.fault.MessageFault.{MessageFault}
 use Rattle.grpc_wire.specs.declared.fault.MessageFault.TheVariants as faults
-use Rattle.grpc_wire.specs.Messages.{Step, partial, whole, wrong, prefix_of, first_message, End, Rest, Fault, Reading, after_step, messages_in, messages_of, resumed, read_on, Refuses}
+use Rattle.grpc_wire.specs.Messages.{Step, partial, whole, wrong, prefix_of, first_message, End, Rest, Fault, Reading, after_step, messages_in, messages_of, reading_from, read_on, Refuses}
 use Rattle.list_laws.proofs.Gains.{GainsUpTo, gains_more}
 use Rattle.grpc_wire.proofs.Fronts.{IsShorter, first_shorter, with_more, first_more}
 
@@ -26,7 +26,7 @@ enough limit zero m (x ∷ b) p q = absurd (omega arith)
 enough limit (suc n) zero (x ∷ b) p q = absurd (omega arith)
 enough limit (suc n) (suc m) (x ∷ b) p q = after_same (length (x ∷ b)) (first_message limit (x ∷ b)) (x ∷ b) (messages_in limit n) (messages_in limit m) (first_shorter limit (x ∷ b)) (λ rest lt. enough limit n m rest (omega arith) (omega arith))
 
--- the messages are the first one and those behind it
+-- the messages are the first one and those after it
 pub messages_step : (limit : ℕ) (b : List ℕ) → messages_of limit b ≡ after_step (first_message limit b) b (messages_of limit)
 unfolding messages_of messages_in first_message prefix_of
 messages_step limit [] = refl
@@ -35,7 +35,7 @@ messages_step limit (x ∷ b) = after_same (length (x ∷ b)) (first_message lim
 -- ---- more bytes
 
 on_step : (limit n : ℕ) (s : Step) (b more : List ℕ) → IsShorter n s → (s ≡ partial) ⊎ (first_message limit (b ++ more) ≡ with_more s more) → first_message limit b ≡ s → ((rest : List ℕ) → length rest < n → messages_of limit (rest ++ more) ≡ read_on limit (messages_of limit rest) more) → messages_of limit (b ++ more) ≡ read_on limit (after_step s b (messages_of limit)) more
-unfolding resumed
+unfolding reading_from
 on_step limit n partial b more short c e ih = refl
 on_step limit n (whole m rest) b more short (inl c) e ih = absurd (cc c)
 on_step limit n (whole m rest) b more short (inr c) e ih = rw (messages_step limit (b ++ more), c, ih rest short) refl
@@ -47,8 +47,8 @@ below limit zero b more lt = absurd (omega arith)
 below limit (suc n) b more lt = rw (messages_step limit b) (on_step limit (length b) (first_message limit b) b more (first_shorter limit b) (first_more limit b more) refl (λ rest less. below limit n rest more (omega arith)))
 
 -- reading on from any end
-pub reads_on : (limit : ℕ) (ending : End) (b more : List ℕ) → resumed limit ending (b ++ more) ≡ read_on limit (resumed limit ending b) more
-unfolding resumed
+pub reads_on : (limit : ℕ) (ending : End) (b more : List ℕ) → reading_from limit ending (b ++ more) ≡ read_on limit (reading_from limit ending b) more
+unfolding reading_from
 reads_on limit (Rest rest) b more = rw (← append_assoc rest b more) (below limit (suc (length (rest ++ b))) (rest ++ b) more (omega arith))
 reads_on limit (Fault fault) b more = refl
 

@@ -7,7 +7,7 @@ use Rattle.percent_encoding.proofs.PercentLemmas.{IsByte}
 use Rattle.percent_encoding.specs.declared.ascii_set.AsciiSet.{AsciiSet}
 use Rattle.percent_encoding.specs.AsciiSet.{should_percent_encode}
 use Rattle.percent_encoding.specs.Percent.{percent_encode, encode_byte, percent_encode_byte}
-use Rattle.grpc_wire.specs.Answers.{is_plain_byte, escaped_byte, escaped}
+use Rattle.grpc_wire.specs.Answers.{is_plain_byte, percent_encoded_byte, percent_encoded}
 
 -- ---- a test of every number below
 
@@ -59,16 +59,16 @@ turned : {X : Type 0} (t : Bool) (x y : X) → (if not t then x else y) ≡ (if 
 turned true x y = refl
 turned false x y = refl
 
-byte_same : (b : ℕ) → b < 256 → encode_byte messages_set b ≡ escaped_byte b
+byte_same : (b : ℕ) → b < 256 → encode_byte messages_set b ≡ percent_encoded_byte b
 byte_same b lt = rw (escapes b lt) (turned (is_plain_byte b) (percent_encode_byte b) (b ∷ []))
 
-text_same : (text : List ℕ) → All IsByte text → percent_encode messages_set text ≡ escaped text
-unfolding percent_encode escaped
+text_same : (text : List ℕ) → All IsByte text → percent_encode messages_set text ≡ percent_encoded text
+unfolding percent_encode percent_encoded
 text_same [] small = refl
 text_same (b ∷ text) small =
-    rw (byte_same b (All-head IsByte b text small)) (ap (λ rest. escaped_byte b ++ rest) (text_same text (All-tail IsByte b text small)))
+    rw (byte_same b (All-head IsByte b text small)) (ap (λ rest. percent_encoded_byte b ++ rest) (text_same text (All-tail IsByte b text small)))
 
-pub encodes : (set : AsciiSet) (text : List ℕ) → IsOfMessages set → ((i : ℕ) → slice_index text i < 256) → percent_encode set text ≡ escaped text
+pub encodes : (set : AsciiSet) (text : List ℕ) → IsOfMessages set → ((i : ℕ) → slice_index text i < 256) → percent_encode set text ≡ percent_encoded text
 encodes set text is small =
     let same_set : set ≡ messages_set = ap (λ m. let s : AsciiSet = record { mask = m } in s) is in
     rw same_set (text_same text (All-from_get_or IsByte text 0 (λ i within. small i)))

@@ -1,11 +1,11 @@
--- One message at the front, and the bytes behind it.
+-- One message at the front, and the bytes after it.
 use Rattle.std.proofs.Common.{◌≡◌, ◌⊎◌, inl, inr, ℕ, ◌+◌, ◌<◌, ◌≤◌, ◌==◌, not, false, List, ◌++◌, length, take, drop, slice_index, Result, Ok, Err, Option, Some, None, refl, arith, nat_lt, ltb-false, ltb-true, le-ltb, length-drop, length-append}
 use Rattle.std.proofs.lemmas.Bool.{cases_Bool}
 use Rattle.std.proofs.lemmas.List.{drop-drop, take-append-le, drop-append-le}
 use Rattle.std.specs.Int.{w32, from_be_bytes}
 use Rattle.grpc_wire.specs.declared.fault.MessageFault.{MessageFault}
 use Rattle.grpc_wire.proofs.Prefixes.{prefix_more, prefix_long}
-use Rattle.grpc_wire.specs.Messages.{within, prefix_of, Step, partial, whole, wrong, behind, first_message}
+use Rattle.grpc_wire.specs.Messages.{length_within, prefix_of, Step, partial, whole, wrong, step_of_prefix, first_message}
 
 -- the length that five bytes say
 abbrev said_by : List ℕ → ℕ
@@ -13,13 +13,13 @@ said_by b = from_be_bytes w32 (take 4 (drop 1 b))
 
 -- ---- a message takes bytes
 
--- what is left behind a message is shorter than this
+-- what is left after a message is shorter than this
 abbrev pub IsShorter : ℕ → Step → Type 0
 IsShorter n partial = Unit {0}
 IsShorter n (whole m rest) = length rest < n
 IsShorter n (wrong fault) = Unit {0}
 
-sized_shorter : (limit n k : ℕ) (after : List ℕ) → length after < k → IsShorter k (behind (within limit n) after)
+sized_shorter : (limit n k : ℕ) (after : List ℕ) → length after < k → IsShorter k (step_of_prefix (length_within limit n) after)
 sized_shorter limit n k after lt =
     elim (cases_Bool (nat_lt limit n)) [
       | inl large ↦ rw large tt
@@ -45,15 +45,15 @@ first_shorter limit b =
       ]
     ]
 
--- ---- more bytes behind it
+-- ---- more bytes after it
 
--- the same with more bytes behind
+-- the same with more bytes after
 abbrev pub with_more : Step → List ℕ → Step
 with_more partial more = partial
 with_more (whole m rest) more = whole m (rest ++ more)
 with_more (wrong fault) more = wrong fault
 
-behind_more : (said : Result (Option ℕ) MessageFault) (b more : List ℕ) → ((n : ℕ) → said ≡ Ok (Some n) → 5 ≤ length b) → (behind said (drop 5 b) ≡ partial) ⊎ (behind said (drop 5 (b ++ more)) ≡ with_more (behind said (drop 5 b)) more)
+behind_more : (said : Result (Option ℕ) MessageFault) (b more : List ℕ) → ((n : ℕ) → said ≡ Ok (Some n) → 5 ≤ length b) → (step_of_prefix said (drop 5 b) ≡ partial) ⊎ (step_of_prefix said (drop 5 (b ++ more)) ≡ with_more (step_of_prefix said (drop 5 b)) more)
 behind_more (Err fault) b more long = inr refl
 behind_more (Ok None) b more long = inl refl
 behind_more (Ok (Some n)) b more long =
@@ -81,7 +81,7 @@ unfolding first_message
 first_whole limit n b after long said behind fits =
     rw (said, ← behind, le-ltb (length after) n fits, ← drop-drop n 5 b, behind) refl
 
-sized_small : (limit n : ℕ) (after : List ℕ) → behind (within limit n) after ≡ partial → length after < limit + 1
+sized_small : (limit n : ℕ) (after : List ℕ) → step_of_prefix (length_within limit n) after ≡ partial → length after < limit + 1
 sized_small limit n after part =
     elim (cases_Bool (nat_lt limit n)) [
       | inl large ↦ absurd (cc (rw large at part))

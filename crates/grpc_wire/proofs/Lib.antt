@@ -4,3 +4,4 @@ pub mod Cuts
 pub mod Feeding
 pub mod Framed
 pub mod Escapes
+mod Bodies

@@ -1,10 +1,10 @@
--- The prefix of a message does not change with more bytes behind it.
+-- The prefix of a message does not change with more bytes after it.
 use Rattle.std.proofs.Common.{◌≡◌, ◌⊎◌, inl, inr, ℕ, ◌<◌, ◌≤◌, ◌==◌, not, false, List, ◌++◌, length, take, drop, slice_index, Ok, Err, Some, None, refl, arith, nat_lt, ltb-false, ltb-true, le-ltb, length-drop, length-append}
 use Rattle.std.proofs.lemmas.Bool.{cases_Bool}
 use Rattle.std.proofs.lemmas.List.{take-append-le, drop-append-le, get_or_append_left}
 use Rattle.std.specs.Int.{w32, from_be_bytes}
 use Rattle.grpc_wire.specs.declared.fault.MessageFault.TheVariants as faults
-use Rattle.grpc_wire.specs.Messages.{within, prefix_of}
+use Rattle.grpc_wire.specs.Messages.{length_within, prefix_of}
 
 pub prefix_more : (limit : ℕ) (b more : List ℕ) → (prefix_of limit b ≡ Ok None) ⊎ (prefix_of limit (b ++ more) ≡ prefix_of limit b)
 unfolding prefix_of
@@ -29,14 +29,14 @@ prefix_more limit b more =
     ]
 
 -- a length always says whether it is within the limit
-sized : (limit n : ℕ) → within limit n ≡ Ok None → ⊥
+sized : (limit n : ℕ) → length_within limit n ≡ Ok None → ⊥
 sized limit n said =
     elim (cases_Bool (nat_lt limit n)) [
       | inl large ↦ cc (rw large at said)
       | inr large ↦ cc (rw large at said)
     ]
 
-sized_memory : (limit n : ℕ) → within limit n ≡ Err faults.Memory → ⊥
+sized_memory : (limit n : ℕ) → length_within limit n ≡ Err faults.Memory → ⊥
 sized_memory limit n said =
     elim (cases_Bool (nat_lt limit n)) [
       | inl large ↦ cc (rw large at said)

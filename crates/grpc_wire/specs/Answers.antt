@@ -10,11 +10,11 @@ abbrev pub is_plain_byte : ℕ → Bool
 is_plain_byte b = nat_le 32 b && nat_le b 126 && not (b == 37)
 
 -- every other byte is a `%` and two hexadecimal digits
-abbrev pub escaped_byte : ℕ → List ℕ
-escaped_byte b = if is_plain_byte b then b ∷ [] else percent_encode_byte b
+abbrev pub percent_encoded_byte : ℕ → List ℕ
+percent_encoded_byte b = if is_plain_byte b then b ∷ [] else percent_encode_byte b
 
-unfoldable pub escaped : List ℕ → List ℕ
-escaped text = flat_map escaped_byte text
+unfoldable pub percent_encoded : List ℕ → List ℕ
+percent_encoded text = flat_map percent_encoded_byte text
 
 abbrev pub field : List ℕ → List ℕ → Header
 field name value = record { name = name; value = value }
@@ -25,7 +25,7 @@ response_fields = field (codes ":status") (codes "200") ∷ field (codes "conten
 
 -- nothing is said of an empty text
 abbrev pub message_fields : List ℕ → List Header
-message_fields text = if length text == 0 then [] else field (codes "grpc-message") (escaped text) ∷ []
+message_fields text = if length text == 0 then [] else field (codes "grpc-message") (percent_encoded text) ∷ []
 
 abbrev pub status_fields : ℕ → List ℕ → List Header
 status_fields status text = field (codes "grpc-status") (decimal status) ∷ message_fields text

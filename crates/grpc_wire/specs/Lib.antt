@@ -4,3 +4,4 @@ pub mod Heads
 pub mod Messages
 pub mod Answers
 pub mod Cutting
+pub mod Bodies

@@ -11,8 +11,8 @@ unfoldable pub framed : List ℕ → List ℕ
 framed m = 0 ∷ to_be_bytes w32 (length m) ++ m
 
 -- own rule: no message is above the limit
-abbrev pub within : ℕ → ℕ → Result (Option ℕ) MessageFault
-within limit n = if nat_lt limit n then Err (faults.TooLong n) else Ok (Some n)
+abbrev pub length_within : ℕ → ℕ → Result (Option ℕ) MessageFault
+length_within limit n = if nat_lt limit n then Err (faults.TooLong n) else Ok (Some n)
 
 -- The length that the five bytes at the front say, once they have come. Each is judged as soon as it can be: the flag at
 -- the first byte. Own rule: no message is compressed, so the flag is 0.
@@ -21,7 +21,7 @@ prefix_of limit b =
     if nat_lt (length b) 1 then Ok None
     else if not (slice_index b 0 == 0) then Err (faults.Flag (slice_index b 0))
     else if nat_lt (length b) 5 then Ok None
-    else within limit (from_be_bytes w32 (take 4 (drop 1 b)))
+    else length_within limit (from_be_bytes w32 (take 4 (drop 1 b)))
 
 -- what stands at the front: less than a message, a message and the bytes after it, or a fault
 pub data Step : Type 0 where
@@ -29,13 +29,13 @@ pub data Step : Type 0 where
   whole : List ℕ → List ℕ → Step
   wrong : MessageFault → Step
 
-abbrev pub behind : Result (Option ℕ) MessageFault → List ℕ → Step
-behind (Err fault) after = wrong fault
-behind (Ok None) after = partial
-behind (Ok (Some n)) after = if nat_lt (length after) n then partial else whole (take n after) (drop n after)
+abbrev pub step_of_prefix : Result (Option ℕ) MessageFault → List ℕ → Step
+step_of_prefix (Err fault) after = wrong fault
+step_of_prefix (Ok None) after = partial
+step_of_prefix (Ok (Some n)) after = if nat_lt (length after) n then partial else whole (take n after) (drop n after)
 
 unfoldable pub first_message : ℕ → List ℕ → Step
-first_message limit b = behind (prefix_of limit b) (drop 5 b)
+first_message limit b = step_of_prefix (prefix_of limit b) (drop 5 b)
 
 -- ---- a whole body
 
@@ -44,7 +44,7 @@ pub data End : Type 0 where
   Rest : List ℕ → End
   Fault : MessageFault → End
 
--- the messages of a body, and how it ends behind them
+-- the messages of a body, and how it ends after them
 pub record Reading : Type 0 where
   pub messages : List (List ℕ)
   pub ending : End
@@ -64,13 +64,13 @@ unfoldable pub messages_of : ℕ → List ℕ → Reading
 messages_of limit b = messages_in limit (length b) b
 
 -- Reading on from an end. From `Rest []` it reads a whole body.
-unfoldable pub resumed : ℕ → End → List ℕ → Reading
-resumed limit (Rest rest) b = messages_of limit (rest ++ b)
-resumed limit (Fault fault) b = record { messages = []; ending = Fault fault }
+unfoldable pub reading_from : ℕ → End → List ℕ → Reading
+reading_from limit (Rest rest) b = messages_of limit (rest ++ b)
+reading_from limit (Fault fault) b = record { messages = []; ending = Fault fault }
 
 -- what a reading is with more bytes
 abbrev pub read_on : ℕ → Reading → List ℕ → Reading
-read_on limit r more = record { messages = r.messages ++ (resumed limit r.ending more).messages; ending = (resumed limit r.ending more).ending }
+read_on limit r more = record { messages = r.messages ++ (reading_from limit r.ending more).messages; ending = (reading_from limit r.ending more).ending }
 
 -- ---- what the code keeps and gives
 
@@ -100,7 +100,7 @@ abbrev pub IsOpen : End → Type 0
 IsOpen (Rest rest) = Unit {0}
 IsOpen (Fault fault) = ⊥
 
--- What a call answered, of which this was due: all of it, or the fault after all of it, or want of memory.
+-- What a call answered, of which this was due: all of it, or the fault after all of it, or running out of memory.
 abbrev pub Feeds : {T : Type 0} → Result T MessageFault → Reading → List (List ℕ) → List (List ℕ) → End → Type 0
 Feeds (Ok x) due old new ending = (new ≡ old ++ due.messages) × (ending ≡ due.ending) × IsOpen ending
 Feeds (Err fault) due old new ending = (ending ≡ Fault fault) × Refuses fault ((new ≡ old ++ due.messages) × (due.ending ≡ Fault fault))

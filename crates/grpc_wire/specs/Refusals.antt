@@ -2,25 +2,26 @@
 use Rattle.std.specs.Prelude.{ℕ, Bool, ◌==◌, ◌||◌, List, [], codes}
 use Rattle.grpc_wire.specs.declared.refusal.Refusal.{Refusal}
 use Rattle.grpc_wire.specs.declared.refusal.Refusal.TheVariants.{BadMethod, BadContent, UnknownPath, Compressed, Insecure, Flag, LongRequest, Count, Undecodable, NoAudience, BadId, NoIdentity, LongResponse, Unsigned, Unattested, UnknownService}
+use Rattle.grpc_wire.specs.declared.status.TheConstants.{INVALID_ARGUMENT, NOT_FOUND, PERMISSION_DENIED, RESOURCE_EXHAUSTED, UNIMPLEMENTED, INTERNAL, UNAVAILABLE, HTTP_METHOD_NOT_ALLOWED, HTTP_UNSUPPORTED_MEDIA_TYPE}
 
 -- the status of gRPC, or of HTTP for the two refusals that HTTP gives
 abbrev pub status_of : Refusal → ℕ
-status_of BadMethod = 405
-status_of BadContent = 415
-status_of UnknownPath = 12
-status_of Compressed = 12
-status_of Insecure = 3
-status_of Flag = 13
-status_of LongRequest = 8
-status_of Count = 13
-status_of Undecodable = 13
-status_of NoAudience = 3
-status_of BadId = 3
-status_of NoIdentity = 7
-status_of LongResponse = 8
-status_of Unsigned = 14
-status_of Unattested = 14
-status_of UnknownService = 5
+status_of BadMethod = HTTP_METHOD_NOT_ALLOWED
+status_of BadContent = HTTP_UNSUPPORTED_MEDIA_TYPE
+status_of UnknownPath = UNIMPLEMENTED
+status_of Compressed = UNIMPLEMENTED
+status_of Insecure = INVALID_ARGUMENT
+status_of Flag = INTERNAL
+status_of LongRequest = RESOURCE_EXHAUSTED
+status_of Count = INTERNAL
+status_of Undecodable = INTERNAL
+status_of NoAudience = INVALID_ARGUMENT
+status_of BadId = INVALID_ARGUMENT
+status_of NoIdentity = PERMISSION_DENIED
+status_of LongResponse = RESOURCE_EXHAUSTED
+status_of Unsigned = UNAVAILABLE
+status_of Unattested = UNAVAILABLE
+status_of UnknownService = NOT_FOUND
 
 abbrev pub text_of : Refusal → List ℕ
 text_of BadMethod = []
@@ -42,4 +43,4 @@ text_of UnknownService = codes "unknown service"
 
 -- HTTP says it, and not gRPC
 abbrev pub is_http_refusal : Refusal → Bool
-is_http_refusal r = status_of r == 405 || status_of r == 415
+is_http_refusal r = status_of r == HTTP_METHOD_NOT_ALLOWED || status_of r == HTTP_UNSUPPORTED_MEDIA_TYPE

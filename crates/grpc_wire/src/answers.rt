@@ -1,7 +1,7 @@
 //! The header lists of answers.
 
 ghost use Rattle.std.specs.Prelude.{◌≡◌, ◌++◌, ◌∷◌, [], IfOk, OnOk, decimal};
-ghost use Rattle.grpc_wire.specs.Answers.{escaped, field, response_fields, message_fields, status_fields, trailer_fields, refused_fields};
+ghost use Rattle.grpc_wire.specs.Answers.{percent_encoded, field, response_fields, message_fields, status_fields, trailer_fields, refused_fields};
 
 use crate::refusal::Refusal;
 use percent_encoding::{AsciiSet, CONTROLS, ascii_set, percent_encode};
@@ -84,7 +84,7 @@ pub fn refusal_fields(alloc: Global, refusal: Refusal, only: bool) -> Result<Row
     Ok(fields)
 }
 
-/// Puts a field behind the others.
+/// Puts a field after the others.
 fn add(alloc: Global, fields: &mut Row<Header>, name: &[u8], value: Octets) -> Result<(), Memory>
     ensures { OnOk result (fields.new ≡ fields.old ++ field name.now value ∷ []) }
 {
@@ -103,9 +103,9 @@ fn number(alloc: Global, number: u32) -> Result<Octets, Memory>
 
 /// A text as `grpc-message` has it.
 fn escape(alloc: Global, text: &[u8]) -> Result<Octets, Memory>
-    ensures { IfOk result (λ o. o ≡ escaped text.now) }
+    ensures { IfOk result (λ o. o ≡ percent_encoded text.now) }
 {
-    let mut escaped = String::new(alloc);
-    percent_encode(text, ESCAPES).append_to(&mut escaped)?;
-    Ok(Octets::from_vec(escaped.into_bytes()))
+    let mut percent_encoded = String::new(alloc);
+    percent_encode(text, ESCAPES).append_to(&mut percent_encoded)?;
+    Ok(Octets::from_vec(percent_encoded.into_bytes()))
 }

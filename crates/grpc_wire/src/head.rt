@@ -37,7 +37,7 @@ pub fn judge_head(headers: &[Header]) -> HeadVerdict
     if !has_grpc(headers) {
         return HeadVerdict::Refused(Refusal::BadContent);
     }
-    judge_method(called(headers), headers)
+    judge_method(called_method(headers), headers)
 }
 
 #[tactic(auto, unfolding(crate::specs::Heads::method_verdict))]
@@ -85,7 +85,7 @@ fn has_grpc(headers: &[Header]) -> bool
 }
 
 /// The method that the head calls.
-fn called(headers: &[Header]) -> Option<Method>
+fn called_method(headers: &[Header]) -> Option<Method>
     ensures { result ≡ method_at (only_value (codes ":path") headers.now) }
 {
     match value_once(headers, b":path") {

@@ -1,14 +1,14 @@
-//! Cutting a body that comes in pieces, and spelling a message.
+//! Cutting a body that comes in pieces, and encoding a message.
 
 ghost use Rattle.std.specs.Prelude.{◌≡◌, ◌≤◌, ◌<◌, ◌^◌, ℕ, List, [], ◌∷◌, ◌++◌, length, Option, None, OnOk, IfErr, Err};
 ghost use Rattle.std.specs.Int.{w32, to_be_bytes};
 ghost use Rattle.grpc_wire.specs.declared.fault.MessageFault.{MessageFault};
-ghost use Rattle.grpc_wire.specs.Messages.{Cutting, Rest, Fault, framed, first_message, whole, messages_of, resumed, rest_of, Refuses, Feeds, StandsFor};
+ghost use Rattle.grpc_wire.specs.Messages.{Cutting, Rest, Fault, framed, first_message, whole, messages_of, reading_from, rest_of, Refuses, Feeds, StandsFor};
 ghost use Rattle.grpc_wire.specs.Cutting.{ending_of, IsCut};
 ghost use Rattle.list_laws.specs.Lists.{GainsFront};
 
 use crate::fault::MessageFault;
-use crate::prefix::{PREFIX, judge_prefix};
+use crate::prefix::{PREFIX_LEN, judge_prefix};
 use crate::reading::messages;
 use std::alloc::Global;
 use std::marker::Model;
@@ -59,7 +59,7 @@ impl Messages {
         }
     }
 
-    /// Goes on with more bytes of the body, and puts each message that is whole behind what `into` holds. After a fault,
+    /// Goes on with more bytes of the body, and puts each message that is whole after what `into` holds. After a fault,
     /// each later call answers that fault again; the messages before it are in `into`.
     ///
     /// A byte is copied once into its message, and once before that if its message comes in several pieces.
@@ -70,47 +70,48 @@ impl Messages {
         piece: &[u8],
         into: &mut Row<Octets>,
     ) -> Result<(), MessageFault>
-        ensures fed { Feeds result (resumed self.old.limit self.old.ending piece.now) into.old into.new self.new.ending }
+        ensures fed { Feeds result (reading_from self.old.limit self.old.ending piece.now) into.old into.new self.new.ending }
         ensures limit { self.new.limit ≡ self.old.limit }
-        ensures front { GainsFront (resumed self.old.limit self.old.ending piece.now).messages into.old into.new }
+        ensures front { GainsFront (reading_from self.old.limit self.old.ending piece.now).messages into.old into.new }
         ensures again { (fault : MessageFault) → self.old.ending ≡ Fault fault → result ≡ Err fault }
         ensures stands { (fed : List ℕ) → StandsFor self.old.limit self.old.ending fed → StandsFor self.new.limit self.new.ending (fed ++ piece.now) }
     {
-        self.feed_parts(alloc, piece, into)
+        // The public clauses follow from those of the inner call.
+        self.feed_inner(alloc, piece, into)
     }
 
-    /// What completes a message that was begun goes behind its other bytes; all else is cut where it lies.
-    fn feed_parts(
+    /// What completes a message that was begun goes after its other bytes; all else is cut where it lies.
+    fn feed_inner(
         &mut self,
         alloc: Global,
         piece: &[u8],
         into: &mut Row<Octets>,
     ) -> Result<(), MessageFault>
-        ensures fed { Feeds result (resumed self.old.limit self.old.ending piece.now) into.old into.new self.new.ending }
+        ensures fed { Feeds result (reading_from self.old.limit self.old.ending piece.now) into.old into.new self.new.ending }
         ensures limit { self.new.limit ≡ self.old.limit }
-        ensures front { GainsFront (resumed self.old.limit self.old.ending piece.now).messages into.old into.new }
+        ensures front { GainsFront (reading_from self.old.limit self.old.ending piece.now).messages into.old into.new }
         ensures again { (fault : MessageFault) → self.old.ending ≡ Fault fault → result ≡ Err fault }
     {
-        let (head, rest) = piece.split_at(self.lacking().min(piece.len()));
+        let (head, rest) = piece.split_at(self.missing_bytes().min(piece.len()));
         match self.advance(alloc, head, into) {
-            Ok(()) => self.feed_behind(alloc, rest, into),
+            Ok(()) => self.feed_content(alloc, rest, into),
             Err(fault) => Err(fault),
         }
     }
 
     /// As `feed`, where the prefix of a message that was begun is whole.
-    fn feed_behind(
+    fn feed_content(
         &mut self,
         alloc: Global,
         piece: &[u8],
         into: &mut Row<Octets>,
     ) -> Result<(), MessageFault>
-        ensures fed { Feeds result (resumed self.old.limit self.old.ending piece.now) into.old into.new self.new.ending }
+        ensures fed { Feeds result (reading_from self.old.limit self.old.ending piece.now) into.old into.new self.new.ending }
         ensures limit { self.new.limit ≡ self.old.limit }
-        ensures front { GainsFront (resumed self.old.limit self.old.ending piece.now).messages into.old into.new }
+        ensures front { GainsFront (reading_from self.old.limit self.old.ending piece.now).messages into.old into.new }
         ensures again { (fault : MessageFault) → self.old.ending ≡ Fault fault → result ≡ Err fault }
     {
-        let (content, rest) = piece.split_at(self.lacking().min(piece.len()));
+        let (content, rest) = piece.split_at(self.missing_bytes().min(piece.len()));
         match self.advance(alloc, content, into) {
             Ok(()) => self.advance(alloc, rest, into),
             Err(fault) => Err(fault),
@@ -118,20 +119,20 @@ impl Messages {
     }
 
     /// How many bytes complete what was begun: a prefix, or a message.
-    fn lacking(&self) -> usize {
-        lacking_of(self.limit, self.pending.as_slice())
+    fn missing_bytes(&self) -> usize {
+        count_missing(self.limit, self.pending.as_slice())
     }
 
-    #[tactic(auto, unfolding(crate::specs::Messages::resumed))]
+    #[tactic(auto, unfolding(crate::specs::Messages::reading_from))]
     fn advance(
         &mut self,
         alloc: Global,
         piece: &[u8],
         into: &mut Row<Octets>,
     ) -> Result<(), MessageFault>
-        ensures fed { Feeds result (resumed self.old.limit self.old.ending piece.now) into.old into.new self.new.ending }
+        ensures fed { Feeds result (reading_from self.old.limit self.old.ending piece.now) into.old into.new self.new.ending }
         ensures limit { self.new.limit ≡ self.old.limit }
-        ensures front { GainsFront (resumed self.old.limit self.old.ending piece.now).messages into.old into.new }
+        ensures front { GainsFront (reading_from self.old.limit self.old.ending piece.now).messages into.old into.new }
         ensures again { (fault : MessageFault) → self.old.ending ≡ Fault fault → result ≡ Err fault }
     {
         match self.fault {
@@ -148,20 +149,21 @@ impl Messages {
     }
 }
 
-/// How many bytes complete a prefix or a message of which these are the first.
-fn lacking_of(limit: u32, pending: &[u8]) -> usize {
+/// How many bytes complete a prefix or a message of which these are the first. It has no clause, since any answer cuts
+/// the same messages: it only decides how many bytes are copied into `pending` and how many are cut where they lie.
+fn count_missing(limit: u32, pending: &[u8]) -> usize {
     if pending.is_empty() {
         return 0;
     }
     match judge_prefix(limit, pending) {
-        Ok(Some(length)) => (PREFIX + length as usize).saturating_sub(pending.len()),
-        Ok(None) => PREFIX.saturating_sub(pending.len()),
+        Ok(Some(length)) => (PREFIX_LEN + length as usize).saturating_sub(pending.len()),
+        Ok(None) => PREFIX_LEN.saturating_sub(pending.len()),
         Err(_) => 0,
     }
 }
 
 /// Cuts messages, and keeps the fault.
-#[tactic(auto, using(crate::proofs::Cuts::left_part), unfolding(crate::specs::Messages::resumed))]
+#[tactic(auto, using(crate::proofs::Cuts::left_part), unfolding(crate::specs::Messages::reading_from))]
 fn cut(
     alloc: Global,
     limit: u32,
@@ -172,9 +174,9 @@ fn cut(
 ) -> Result<(), MessageFault>
     requires small { limit ≤ 2 ^ 31 }
     requires open { fault.old ≡ None }
-    ensures fed { Feeds result (resumed limit (Rest pending.old.items) piece.now) into.old into.new (ending_of fault.new pending.new.items) }
+    ensures fed { Feeds result (reading_from limit (Rest pending.old.items) piece.now) into.old into.new (ending_of fault.new pending.new.items) }
     ensures cut { IsCut limit fault.new pending.new.items }
-    ensures front { GainsFront (resumed limit (Rest pending.old.items) piece.now).messages into.old into.new }
+    ensures front { GainsFront (reading_from limit (Rest pending.old.items) piece.now).messages into.old into.new }
 {
     match take_in(alloc, limit, pending, piece, into) {
         Ok(()) => Ok(()),
@@ -185,7 +187,7 @@ fn cut(
     }
 }
 
-/// Cuts messages out of the bytes that were kept and a piece behind them, and keeps the rest.
+/// Cuts messages out of the bytes that were kept and a piece after them, and keeps the rest.
 fn take_in(
     alloc: Global,
     limit: u32,
@@ -221,7 +223,7 @@ fn keep(pending: &mut Vec<u8>, bytes: &[u8]) -> Result<(), MessageFault>
     }
 }
 
-/// Writes a message behind what `out` holds: a flag of 0, its length in four bytes, the highest first, and its bytes.
+/// Writes a message after what `out` holds: a flag of 0, its length in four bytes, the highest first, and its bytes.
 #[tactic(auto, using(crate::proofs::Framed::read_again), unfolding(crate::specs::Messages::framed))]
 pub fn put_message(out: &mut Octets, message: &[u8]) -> Result<(), Memory>
     requires { length message.now < 2 ^ 32 }

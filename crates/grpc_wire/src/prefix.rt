@@ -1,13 +1,12 @@
 //! The five bytes before a message.
 
-ghost use Rattle.std.specs.Prelude.{◌≡◌, ◌⊎◌, ℕ, ◌<◌, ◌≤◌, ◌++◌, List, length, Ok, Err, None, IfOk, OnSome, IfSome};
-ghost use Rattle.grpc_wire.specs.declared.fault.MessageFault.TheVariants as faults;
+ghost use Rattle.std.specs.Prelude.{◌≡◌, ◌≤◌, length, IfOk, OnSome, IfSome};
 ghost use Rattle.grpc_wire.specs.Messages.{prefix_of};
 
 use crate::fault::MessageFault;
 
 /// How many bytes a prefix has: a flag, and a length of four bytes.
-pub const PREFIX: usize = 5;
+pub const PREFIX_LEN: usize = 5;
 
 /// The length of the message that begins here, once the five bytes before it have come. A flag other than 0 is refused
 /// at the first byte, and a length above the limit with the fifth. It takes no memory and never answers Memory.
@@ -23,7 +22,7 @@ pub fn judge_prefix(limit: u32, bytes: &[u8]) -> Result<Option<u32>, MessageFaul
     if bytes[0] != 0 {
         return Err(MessageFault::Flag(bytes[0]));
     }
-    if bytes.len() < PREFIX {
+    if bytes.len() < PREFIX_LEN {
         return Ok(None);
     }
     let length = u32::from_be_bytes([bytes[1], bytes[2], bytes[3], bytes[4]]);
@@ -32,12 +31,3 @@ pub fn judge_prefix(limit: u32, bytes: &[u8]) -> Result<Option<u32>, MessageFaul
     }
     Ok(Some(length))
 }
-
-/// What a prefix says stays with more bytes behind it, until then fewer than five bytes have come, and it never says
-/// that memory ran out.
-#[tactic(auto, using(crate::proofs::Prefixes::prefix_more, crate::proofs::Prefixes::prefix_short, crate::proofs::Prefixes::prefix_memory))]
-pub fn prefixes_stay()
-    ensures stays { (limit : ℕ) (bytes more : List ℕ) → (prefix_of limit bytes ≡ Ok None) ⊎ (prefix_of limit (bytes ++ more) ≡ prefix_of limit bytes) }
-    ensures short { (limit : ℕ) (bytes : List ℕ) → prefix_of limit bytes ≡ Ok None → length bytes < 5 }
-    ensures memory { (limit : ℕ) (bytes : List ℕ) → prefix_of limit bytes ≡ Err faults.Memory → ⊥ }
-{}

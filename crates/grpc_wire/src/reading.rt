@@ -6,7 +6,7 @@ ghost use Rattle.grpc_wire.specs.Messages.{Steps, Refuses, Rest, Fault, messages
 ghost use Rattle.list_laws.specs.Lists.{GainsFront};
 
 use crate::fault::MessageFault;
-use crate::prefix::{PREFIX, judge_prefix};
+use crate::prefix::{PREFIX_LEN, judge_prefix};
 use std::alloc::Global;
 use wl_octets::{Octets, Row};
 
@@ -20,13 +20,13 @@ fn first(alloc: Global, limit: u32, bytes: &[u8]) -> Result<Option<(Octets, usiz
         return Ok(None);
     };
     let length = length as usize;
-    let (_, after) = bytes.split_at(PREFIX);
+    let (_, after) = bytes.split_at(PREFIX_LEN);
     if after.len() < length {
         return Ok(None);
     }
     let (message, _) = after.split_at(length);
     let message = Octets::from_slice(alloc, message)?;
-    Ok(Some((message, PREFIX + length)))
+    Ok(Some((message, PREFIX_LEN + length)))
 }
 
 /// Cuts all whole messages, and tells how many bytes they take.

@@ -3,6 +3,8 @@
 ghost use Rattle.std.specs.Prelude.{◌≡◌};
 ghost use Rattle.grpc_wire.specs.Refusals.{status_of, text_of, is_http_refusal};
 
+use crate::status;
+
 /// Why a call ends without what it asked for. Which status and text a cause has is this project's choice.
 #[derive(Clone, Copy, Debug, PartialEq, Eq)]
 pub enum Refusal {
@@ -46,15 +48,15 @@ impl Refusal {
         ensures { result ≡ status_of self.now }
     {
         match self {
-            Refusal::BadMethod => 405,
-            Refusal::BadContent => 415,
-            Refusal::UnknownPath | Refusal::Compressed => 12,
-            Refusal::Insecure | Refusal::NoAudience | Refusal::BadId => 3,
-            Refusal::Flag | Refusal::Count | Refusal::Undecodable => 13,
-            Refusal::LongRequest | Refusal::LongResponse => 8,
-            Refusal::NoIdentity => 7,
-            Refusal::Unsigned | Refusal::Unattested => 14,
-            Refusal::UnknownService => 5,
+            Refusal::BadMethod => status::HTTP_METHOD_NOT_ALLOWED,
+            Refusal::BadContent => status::HTTP_UNSUPPORTED_MEDIA_TYPE,
+            Refusal::UnknownPath | Refusal::Compressed => status::UNIMPLEMENTED,
+            Refusal::Insecure | Refusal::NoAudience | Refusal::BadId => status::INVALID_ARGUMENT,
+            Refusal::Flag | Refusal::Count | Refusal::Undecodable => status::INTERNAL,
+            Refusal::LongRequest | Refusal::LongResponse => status::RESOURCE_EXHAUSTED,
+            Refusal::NoIdentity => status::PERMISSION_DENIED,
+            Refusal::Unsigned | Refusal::Unattested => status::UNAVAILABLE,
+            Refusal::UnknownService => status::NOT_FOUND,
         }
     }
 

@@ -8,16 +8,16 @@ use Rattle.h2_frame.specs.declared.frame.Body.TheVariants.{Bytes, Headers, Prior
 use Rattle.h2_frame.specs.declared.frame.Frame.{Frame}
 use Rattle.h2_conn.specs.declared.fault.ConnCause.TheVariants as cause
 use Rattle.h2_conn.specs.declared.fault.ConnError.{ConnError}
-use Rattle.h2_conn.specs.declared.fault.ConnFault.{ConnFault}
+use Rattle.h2_conn.specs.declared.fault.ConnError.TheVariants as refusal
 use Rattle.h2_conn.specs.declared.happening.Happening.{Happening}
 use Rattle.h2_conn.specs.declared.state.State.{State}
-use Rattle.h2_conn.specs.Peer.{Outcome, fails, fault, nothing, or_else, first_row, table, peer, even_stream, continuation_flood, Gathered, started, continued, if_gathered, too_long, grows, is_wrong, if_wrong, if_right, with_headers, decoding, code_of, tabled, head_in, closed_in, ended_in, trailers_in}
+use Rattle.h2_conn.specs.Peer.{Outcome, fails, fault, nothing, or_else, first_row, table, peer, even_stream, continuation_flood, Gathered, started, continued, if_gathered, too_long, grows, is_wrong, if_wrong, if_right, with_headers, decoding, tabled, head_in, closed_in, ended_in, trailers_in}
 use Rattle.h2_conn.specs.Kinds.{Steps, guarded, Guards, kind_rows, decoded_rows, gathered_rows}
 
 -- the rows of a whole block, in the order in which a decoding decides
 abbrev whole_chain : State → Gathered → Result (List Header) HpackFault → Standing → Outcome
 whole_chain q g r d =
-    or_else (if_wrong r (λ f. fault g.state (code_of f) (cause.Hpack f)))
+    or_else (if_wrong r (λ f. fault g.state (cause.Hpack f)))
     (or_else (if_right r (head_in (tabled d g.state) g.block))
     (or_else (if_right r (closed_in (tabled d g.state) g.block))
     (or_else (if_right r (ended_in (tabled d g.state) g.block))
@@ -49,15 +49,16 @@ by_kind q n (Ping true word) = refl
 by_kind q n (Ping false word) = refl
 by_kind q n (GoAway last code) = refl
 by_kind q n (WindowUpdate step) = refl
-by_kind q n (Continuation bytes whole) = ap (λ (o : Outcome). guarded q n (Continuation bytes whole) (or_else (continuation_flood q n (Continuation bytes whole)) o)) (chain_is q (continued q q.unfinished bytes whole))
+by_kind q n (Continuation bytes whole) = ap (λ (o : Outcome). guarded q n (Continuation bytes whole) (or_else (continuation_flood q n (Continuation bytes whole)) o)) (chain_is q (continued q q.open_block bytes whole))
 by_kind q n (Unknown kind) = refl
 
 pub peer_is : (q : State) (f : Frame) → peer q f ≡ guarded q f.stream f.body (kind_rows q f.stream f.body)
 unfolding peer
 peer_is q f = by_kind q f.stream f.body
 
-pub guard_stops : (q : State) (f : Frame) (fault : ConnFault) → Guards (Some fault) q f.stream f.body → peer q f ≡ fails q.outbox.control fault
-guard_stops q f fault g = peer_is q f ∙ g _
+pub guard_stops : (q : State) (f : Frame) (error : ConnError) → Guards (Err error) q f.stream f.body → Steps (peer q f) (Err error) q
+guard_stops q f (refusal.Fault fault) g = peer_is q f ∙ g _
+guard_stops q f refusal.Memory g = tt
 
-pub guard_passes : (q : State) (f : Frame) (result : Result (Option Happening) ConnError) (new : State) → Guards None q f.stream f.body → Steps (kind_rows q f.stream f.body) result new → Steps (peer q f) result new
+pub guard_passes : (q : State) (f : Frame) (result : Result (Option Happening) ConnError) (new : State) → Guards (Ok tt) q f.stream f.body → Steps (kind_rows q f.stream f.body) result new → Steps (peer q f) result new
 guard_passes q f result new g s = rw (peer_is q f, g (kind_rows q f.stream f.body)) s

@@ -4,13 +4,13 @@ use Rattle.std.proofs.lemmas.Bool.Decides.{nat_tests}
 use Rattle.h2_flow.specs.Outboxes.{Pulled, pulled, IsQuiet, is_open}
 use Rattle.h2_flow.proofs.Quiet.{pulls_once, removes_quietly}
 use Rattle.h2_conn.specs.declared.fault.ConnFault.{ConnFault}
-use Rattle.h2_conn.specs.declared.link.Link.{Link}
-use Rattle.h2_conn.specs.declared.link.Link.TheVariants.{Open, Failed, Broken}
-use Rattle.h2_conn.specs.declared.link.Past.{Past}
+use Rattle.h2_conn.specs.declared.phase.Phase.{Phase}
+use Rattle.h2_conn.specs.declared.phase.Phase.TheVariants.{Open, Failed, OutOfMemory}
+use Rattle.h2_conn.specs.declared.phase.Totals.{Totals}
 use Rattle.h2_conn.specs.declared.state.State.{State}
-use Rattle.h2_conn.specs.Streams.{is_live, has_ended, answering}
+use Rattle.h2_conn.specs.Streams.{is_live, is_remote_closed, with_local_closed}
 use Rattle.h2_conn.specs.Peer.{closed}
-use Rattle.h2_conn.specs.Conns.{is_live_on, on_open, given_head, given_last, given_message, left_message, reset_by, answer_ends, answers_end, moved, after_pull, flushed}
+use Rattle.h2_conn.specs.Conns.{is_live_on, on_open, headed_on, finished_on, offered_on, withdrawn_on, reset_by, answer_ends, answers_end, moved, after_pull, flushed}
 
 -- ---- two flushes are one
 
@@ -24,7 +24,7 @@ quiet_cond false q r x y = y
 
 quiet_answer : (n : ℕ) (q : State) → IsQuiet q.outbox → IsQuiet (answer_ends n q).outbox
 unfolding answer_ends
-quiet_answer n q h = quiet_cond (has_ended n q.streams) (closed n q) (record q { streams = answering n q.streams }) (quiet_closed n q h) h
+quiet_answer n q h = quiet_cond (is_remote_closed n q.streams) (closed n q) (record q { streams = with_local_closed n q.streams }) (quiet_closed n q h) h
 
 quiet_answers : (ns : List ℕ) (q : State) → IsQuiet q.outbox → IsQuiet (answers_end ns q).outbox
 quiet_answers [] q h = h
@@ -32,12 +32,12 @@ quiet_answers (n ∷ ns) q h = quiet_answers ns (answer_ends n q) (quiet_answer 
 
 quiet_after : (q : State) (p : Pulled) → IsQuiet p.left → IsQuiet (after_pull q p).outbox
 unfolding after_pull
-quiet_after q p h = quiet_answers p.ended (record q { outbox = p.left; resets = cond (moved q p) 0 q.resets }) h
+quiet_after q p h = quiet_answers p.ended (record q { outbox = p.left; rapid_reset_count = cond (moved q p) 0 q.rapid_reset_count }) h
 
 same_number : (n : ℕ) → (n == n) ≡ true
 same_number n = grind (arith, nat_tests)
 
-still : (b : Bool) (q : State) → b ≡ true → record q { resets = cond (not b || false) 0 q.resets } ≡ q
+still : (b : Bool) (q : State) → b ≡ true → record q { rapid_reset_count = cond (not b || false) 0 q.rapid_reset_count } ≡ q
 still b q e = rw e refl
 
 after_quiet : (q : State) → after_pull q (record { sent = []; bytes = []; ended = []; left = q.outbox }) ≡ q
@@ -48,56 +48,56 @@ flush_quiet : (q : State) → IsQuiet q.outbox → flushed (Open q) ≡ record {
 unfolding flushed
 flush_quiet q h = ap (λ (p : Pulled). record { bytes = p.bytes; after = Open (after_pull q p) }) h ∙ ap (λ (r : State). record { bytes = []; after = Open r }) (after_quiet q)
 
-pub flushes_once : (l : Link) → flushed (flushed l).after ≡ record { bytes = []; after = (flushed l).after }
+pub flushes_once : (l : Phase) → flushed (flushed l).after ≡ record { bytes = []; after = (flushed l).after }
 unfolding flushed
 flushes_once (Open q) = flush_quiet (after_pull q (pulled q.outbox)) (quiet_after q (pulled q.outbox) (pulls_once q.outbox))
-flushes_once (Failed fault left past) = refl
-flushes_once (Broken past) = refl
+flushes_once (Failed fault left totals) = refl
+flushes_once (OutOfMemory totals) = refl
 
 -- ---- a stream that is not live takes nothing
 
 none : (b c : Bool) (q r : State) → b ≡ false → cond (b && c) r q ≡ q
 none b c q r e = rw e refl
 
-pub dead_head : (n : ℕ) (block : List ℕ) (l : Link) → is_live_on l n ≡ false → on_open (given_head n block) l ≡ l
-unfolding given_head
+pub dead_head : (n : ℕ) (block : List ℕ) (l : Phase) → is_live_on l n ≡ false → on_open (headed_on n block) l ≡ l
+unfolding headed_on
 dead_head n block (Open q) e = ap (λ (r : State). Open r) (none (is_live n q.streams) (is_open n q.outbox) q _ e)
-dead_head n block (Failed fault left past) e = refl
-dead_head n block (Broken past) e = refl
+dead_head n block (Failed fault left totals) e = refl
+dead_head n block (OutOfMemory totals) e = refl
 
-pub dead_last : (n : ℕ) (block : List ℕ) (l : Link) → is_live_on l n ≡ false → on_open (given_last n block) l ≡ l
-unfolding given_last
+pub dead_last : (n : ℕ) (block : List ℕ) (l : Phase) → is_live_on l n ≡ false → on_open (finished_on n block) l ≡ l
+unfolding finished_on
 dead_last n block (Open q) e = ap (λ (r : State). Open r) (none (is_live n q.streams) (is_open n q.outbox) q _ e)
-dead_last n block (Failed fault left past) e = refl
-dead_last n block (Broken past) e = refl
+dead_last n block (Failed fault left totals) e = refl
+dead_last n block (OutOfMemory totals) e = refl
 
-pub dead_message : (n : ℕ) (message : List ℕ) (l : Link) → is_live_on l n ≡ false → on_open (given_message n message) l ≡ l
-unfolding given_message
+pub dead_message : (n : ℕ) (message : List ℕ) (l : Phase) → is_live_on l n ≡ false → on_open (offered_on n message) l ≡ l
+unfolding offered_on
 dead_message n message (Open q) e = ap (λ (r : State). Open r) (none (is_live n q.streams) (is_open n q.outbox) q _ e)
-dead_message n message (Failed fault left past) e = refl
-dead_message n message (Broken past) e = refl
+dead_message n message (Failed fault left totals) e = refl
+dead_message n message (OutOfMemory totals) e = refl
 
-pub dead_withdrawal : (n : ℕ) (l : Link) → is_live_on l n ≡ false → on_open (left_message n) l ≡ l
-unfolding left_message
+pub dead_withdrawal : (n : ℕ) (l : Phase) → is_live_on l n ≡ false → on_open (withdrawn_on n) l ≡ l
+unfolding withdrawn_on
 dead_withdrawal n (Open q) e = ap (λ (r : State). Open r) (none (is_live n q.streams) (is_open n q.outbox) q _ e)
-dead_withdrawal n (Failed fault left past) e = refl
-dead_withdrawal n (Broken past) e = refl
+dead_withdrawal n (Failed fault left totals) e = refl
+dead_withdrawal n (OutOfMemory totals) e = refl
 
 none_reset : (b : Bool) (q r : State) → b ≡ false → cond b r q ≡ q
 none_reset b q r e = rw e refl
 
-pub dead_reset : (n code : ℕ) (l : Link) → is_live_on l n ≡ false → on_open (reset_by n code) l ≡ l
+pub dead_reset : (n code : ℕ) (l : Phase) → is_live_on l n ≡ false → on_open (reset_by n code) l ≡ l
 unfolding reset_by
 dead_reset n code (Open q) e = ap (λ (r : State). Open r) (none_reset (is_live n q.streams) q _ e)
-dead_reset n code (Failed fault left past) e = refl
-dead_reset n code (Broken past) e = refl
+dead_reset n code (Failed fault left totals) e = refl
+dead_reset n code (OutOfMemory totals) e = refl
 
 -- ---- after a fault
 
-pub fault_flush : (fault : ConnFault) (left : List ℕ) (past : Past) → flushed (Failed fault left past) ≡ record { bytes = left; after = Failed fault [] past }
+pub fault_flush : (fault : ConnFault) (left : List ℕ) (totals : Totals) → flushed (Failed fault left totals) ≡ record { bytes = left; after = Failed fault [] totals }
 unfolding flushed
-fault_flush fault left past = refl
+fault_flush fault left totals = refl
 
-pub fault_quiet : (fault : ConnFault) (past : Past) → flushed (Failed fault [] past) ≡ record { bytes = []; after = Failed fault [] past }
+pub fault_quiet : (fault : ConnFault) (totals : Totals) → flushed (Failed fault [] totals) ≡ record { bytes = []; after = Failed fault [] totals }
 unfolding flushed
-fault_quiet fault past = refl
+fault_quiet fault totals = refl

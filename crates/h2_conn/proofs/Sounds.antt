@@ -16,23 +16,23 @@ use Rattle.h2_frame.specs.declared.frame.Setting.{Setting}
 use Rattle.h2_frame.specs.Writing.{spelling}
 use Rattle.h2_flow.specs.declared.overflow.Overflow.{Overflow}
 use Rattle.h2_flow.specs.declared.stream.Stream as other
-use Rattle.h2_flow.specs.Outboxes.{Out, has, is_number, is_written, is_shrunk, numbers, IsAbove, added, controlled, shrunk, grown, initialed, headed, offered, withdrawn, closed_by, pulled}
+use Rattle.h2_flow.specs.Outboxes.{Out, has, is_number, is_written, is_shrunk, numbers, IsAbove, added, controlled, shrunk, grown, initialed, headed, offered, withdrawn, finished_by, pulled}
 use Rattle.h2_flow.proofs.Numbers.{KeepsNumbers, numbers_added, numbers_removed, numbers_controlled, numbers_shrunk, numbers_grown, numbers_initialed, numbers_headed, numbers_offered, numbers_withdrawn, numbers_closed, numbers_pulled}
 use Rattle.h2_conn.specs.declared.fault.ConnCause.TheVariants as cause
 use Rattle.h2_conn.specs.declared.fault.ConnFault.{ConnFault}
 use Rattle.h2_conn.specs.declared.fault.ConnError.{ConnError}
 use Rattle.h2_conn.specs.declared.happening.Happening.{Happening}
 use Rattle.h2_conn.specs.declared.happening.Happening.TheVariants as happening
-use Rattle.h2_conn.specs.declared.link.Link.{Link}
-use Rattle.h2_conn.specs.declared.link.Link.TheVariants.{Open, Failed, Broken}
+use Rattle.h2_conn.specs.declared.phase.Phase.{Phase}
+use Rattle.h2_conn.specs.declared.phase.Phase.TheVariants.{Open, Failed, OutOfMemory}
 use Rattle.h2_conn.specs.declared.state.State.{State}
-use Rattle.h2_conn.specs.declared.state.Unfinished.{Unfinished}
+use Rattle.h2_conn.specs.declared.state.OpenBlock.{OpenBlock}
 use Rattle.h2_conn.specs.declared.streams.Stream.{Stream}
-use Rattle.h2_conn.specs.Streams.{is_live, has_ended, is_answered, without, ended_if, ending, answered_if, answering}
-use Rattle.h2_conn.specs.Peer.{Outcome, goes, fails, fault, nothing, queued, closed, reset_with, request_ends, given_back, with_window, is_idle, has_come, is_settings, is_continuation, interrupts, is_none, is_misplaced, pieces_of, is_empty_data, is_rapid, is_frame_size, noted, set_one, after_setting, set_all, set_frame, reset_frame, data_on, data_counted, Gathered, started, continued, grows, decoding, opened, tabled, closed_in, ended_in, trailed, when, or_else, peer}
+use Rattle.h2_conn.specs.Streams.{is_live, is_remote_closed, is_local_closed, without, remote_closed_if, with_remote_closed, local_closed_if, with_local_closed}
+use Rattle.h2_conn.specs.Peer.{Outcome, goes, fails, fault, nothing, queued, closed, reset_with, request_ends, replenished, with_window, is_idle, has_come, is_settings, is_continuation, interrupts, is_none, is_misplaced, continuations_of, is_empty_data, is_rapid, is_frame_size, noted, set_one, after_setting, set_all, set_frame, reset_frame, data_on, data_counted, Gathered, started, continued, grows, decoding, opened, tabled, closed_in, ended_in, trailed, when, or_else, peer}
 use Rattle.h2_conn.specs.Kinds.{Steps, guarded, headers_rows, decoded_rows, block_rows, gathered_rows, kind_rows, data_rows, reset_rows, settings_rows, ping_rows, window_rows, head_rows, continuation_rows, Fits}
-use Rattle.h2_conn.specs.Conns.{takes, given_head, given_last, given_message, left_message, reset_by}
-use Rattle.h2_conn.specs.Sound.{number_of, IsLow, Ties, Sound, SoundLink, SoundAfter}
+use Rattle.h2_conn.specs.Conns.{takes, headed_on, finished_on, offered_on, withdrawn_on, reset_by}
+use Rattle.h2_conn.specs.Sound.{number_of, IsLow, Ties, Sound, SoundPhase, SoundAfter}
 use Rattle.h2_conn.specs.Naming.{Names, NamesAfter, NamesOn}
 use Rattle.h2_conn.proofs.Choice.{peer_is}
 
@@ -92,8 +92,8 @@ or_true : (b : Bool) → (b || true) ≡ true
 or_true true = refl
 or_true false = refl
 
-comes : (n : ℕ) (ended answered : Bool) (ss : List Stream) → is_live n (ss ++ record { number = n; ended = ended; answered = answered } ∷ []) ≡ true
-comes n ended answered ss = list_any-append (λ (s : Stream). s.number == n) ss (record { number = n; ended = ended; answered = answered } ∷ []) ∙ rw (same_number n) (or_true (is_live n ss))
+comes : (n : ℕ) (ended answered : Bool) (ss : List Stream) → is_live n (ss ++ record { number = n; remote_closed = ended; local_closed = answered } ∷ []) ≡ true
+comes n ended answered ss = list_any-append (λ (s : Stream). s.number == n) ss (record { number = n; remote_closed = ended; local_closed = answered } ∷ []) ∙ rw (same_number n) (or_true (is_live n ss))
 
 -- ---- what an outbox asks for
 
@@ -116,8 +116,8 @@ above_by_numbers : (n : ℕ) (os : List other.Stream) → AllByRecursion (λ m. 
 above_by_numbers n [] h = tt
 above_by_numbers n (o ∷ os) h = (h.0, above_by_numbers n os h.1)
 
-pub is_above : (q : State) (n : ℕ) → q.highest < n → Sound q → IsAbove n q.outbox.streams
-is_above q n above s = above_by_numbers n q.outbox.streams (all_below (q.highest + 1) n (omega (arith, above)) (numbers q.outbox) s.below)
+pub is_above : (q : State) (n : ℕ) → q.last_stream_id < n → Sound q → IsAbove n q.outbox.streams
+is_above q n above s = above_by_numbers n q.outbox.streams (all_below (q.last_stream_id + 1) n (omega (arith, above)) (numbers q.outbox) s.below)
 
 -- ---- states
 
@@ -131,41 +131,41 @@ pub s_closed : (n : ℕ) (q : State) → Sound q → Sound (closed n q)
 unfolding closed
 s_closed n q s = record {
   same = numbers_removed n q.outbox ∙ (ap (λ (ns : List ℕ). filter (λ m. not (m == n)) ns) s.same ∙ without_numbers n q.streams);
-  below = rw (numbers_removed n q.outbox) (all_filter (λ m. m < q.highest + 1) (λ m. not (m == n)) (numbers q.outbox) s.below);
+  below = rw (numbers_removed n q.outbox) (all_filter (λ m. m < q.last_stream_id + 1) (λ m. not (m == n)) (numbers q.outbox) s.below);
   low = s.low;
 }
 
 s_streams : (f : Stream → Stream) → ((s : Stream) → (f s).number ≡ s.number) → (q : State) → Sound q → Sound (record q { streams = map f q.streams })
 s_streams f keeps q s = record { same = s.same ∙ sym (kept_numbers f keeps q.streams); below = s.below; low = s.low }
 
-s_ending : (n : ℕ) (q : State) → Sound q → Sound (record q { streams = ending n q.streams })
-s_ending n q s = s_streams (ended_if n) (λ x. number_cond (x.number == n) (record x { ended = true }) x refl) q s
+s_ending : (n : ℕ) (q : State) → Sound q → Sound (record q { streams = with_remote_closed n q.streams })
+s_ending n q s = s_streams (remote_closed_if n) (λ x. number_cond (x.number == n) (record x { remote_closed = true }) x refl) q s
 
-pub s_answering : (n : ℕ) (q : State) → Sound q → Sound (record q { streams = answering n q.streams })
-s_answering n q s = s_streams (answered_if n) (λ x. number_cond (x.number == n) (record x { answered = true }) x refl) q s
+pub s_answering : (n : ℕ) (q : State) → Sound q → Sound (record q { streams = with_local_closed n q.streams })
+s_answering n q s = s_streams (local_closed_if n) (λ x. number_cond (x.number == n) (record x { local_closed = true }) x refl) q s
 
-s_raised : (q : State) (n : ℕ) → q.highest < n → Sound q → Sound (record q { highest = n })
-s_raised q n above s = record { same = s.same; below = all_below (q.highest + 1) (n + 1) (omega (arith, above)) (numbers q.outbox) s.below; low = s.low }
+s_raised : (q : State) (n : ℕ) → q.last_stream_id < n → Sound q → Sound (record q { last_stream_id = n })
+s_raised q n above s = record { same = s.same; below = all_below (q.last_stream_id + 1) (n + 1) (omega (arith, above)) (numbers q.outbox) s.below; low = s.low }
 
-s_added : (q : State) (n : ℕ) (ended : Bool) → q.highest < n → Sound q → Sound (record q { highest = n; streams = q.streams ++ record { number = n; ended = ended; answered = false } ∷ []; outbox = added n q.outbox })
+s_added : (q : State) (n : ℕ) (ended : Bool) → q.last_stream_id < n → Sound q → Sound (record q { last_stream_id = n; streams = q.streams ++ record { number = n; remote_closed = ended; local_closed = false } ∷ []; outbox = added n q.outbox })
 s_added q n ended above s = record {
-  same = numbers_added n q.outbox ∙ (ap (λ (ns : List ℕ). ns ++ n ∷ []) s.same ∙ sym (map-append number_of q.streams (record { number = n; ended = ended; answered = false } ∷ [])));
-  below = rw (numbers_added n q.outbox) (all_push (λ m. m < n + 1) (numbers q.outbox) n (all_below (q.highest + 1) (n + 1) (omega (arith, above)) (numbers q.outbox) s.below) (omega arith));
+  same = numbers_added n q.outbox ∙ (ap (λ (ns : List ℕ). ns ++ n ∷ []) s.same ∙ sym (map-append number_of q.streams (record { number = n; remote_closed = ended; local_closed = false } ∷ [])));
+  below = rw (numbers_added n q.outbox) (all_push (λ m. m < n + 1) (numbers q.outbox) n (all_below (q.last_stream_id + 1) (n + 1) (omega (arith, above)) (numbers q.outbox) s.below) (omega arith));
   low = s.low;
 }
 
 -- the state without its unfinished block, or with another
-pub s_unblocked : (highest : ℕ) (streams : List Stream) (others : List ℕ) (u : Option Unfinished) → Ties highest streams others u → Ties highest streams others None
-s_unblocked highest streams others u s = record { same = s.same; below = s.below; low = tt }
+pub s_unblocked : (last_stream_id : ℕ) (streams : List Stream) (others : List ℕ) (u : Option OpenBlock) → Ties last_stream_id streams others u → Ties last_stream_id streams others None
+s_unblocked last_stream_id streams others u s = record { same = s.same; below = s.below; low = tt }
 
-pub s_blocked : (q : State) (u : Unfinished) → u.stream < 2 ^ 31 → Sound q → Sound (record q { unfinished = Some u })
+pub s_blocked : (q : State) (u : OpenBlock) → u.stream < 2 ^ 31 → Sound q → Sound (record q { open_block = Some u })
 s_blocked q u low s = record { same = s.same; below = s.below; low = low }
 
-low_of : (h : Option Unfinished) (u : Unfinished) → h ≡ Some u → IsLow h → u.stream < 2 ^ 31
+low_of : (h : Option OpenBlock) (u : OpenBlock) → h ≡ Some u → IsLow h → u.stream < 2 ^ 31
 low_of h u e l = rw e at l
 
-pub is_low : (q : State) (u : Unfinished) → q.unfinished ≡ Some u → Sound q → u.stream < 2 ^ 31
-is_low q u e s = low_of q.unfinished u e s.low
+pub is_low : (q : State) (u : OpenBlock) → q.open_block ≡ Some u → Sound q → u.stream < 2 ^ 31
+is_low q u e s = low_of q.open_block u e s.low
 
 at_cond : (P : State → Type 0) (b : Bool) (x y : State) → P x → P y → P (cond b x y)
 at_cond P true x y h k = h
@@ -173,50 +173,50 @@ at_cond P false x y h k = k
 
 s_request : (n : ℕ) (q : State) → Sound q → Sound (request_ends n q)
 unfolding request_ends
-s_request n q s = at_cond (λ (r : State). Sound r) (is_answered n q.streams) (closed n q) (record q { streams = ending n q.streams }) (s_closed n q s) (s_ending n q s)
+s_request n q s = at_cond (λ (r : State). Sound r) (is_local_closed n q.streams) (closed n q) (record q { streams = with_remote_closed n q.streams }) (s_closed n q s) (s_ending n q s)
 
 -- ---- answers and a pull
 
 s_cond : (b : Bool) (q : State) (o : Out) → numbers o ≡ numbers q.outbox → Sound q → Sound (cond b (record q { outbox = o }) q)
 s_cond b q o e s = at_cond (λ (r : State). Sound r) b (record q { outbox = o }) q (s_outbox q o e s) s
 
-pub s_given_head : (n : ℕ) (block : List ℕ) (q : State) → Sound q → Sound (given_head n block q)
-unfolding given_head
-s_given_head n block q s = s_cond (takes n q) q (headed n block q.outbox) (numbers_headed n block q.outbox) s
+pub s_headed_on : (n : ℕ) (block : List ℕ) (q : State) → Sound q → Sound (headed_on n block q)
+unfolding headed_on
+s_headed_on n block q s = s_cond (takes n q) q (headed n block q.outbox) (numbers_headed n block q.outbox) s
 
-pub s_given_last : (n : ℕ) (block : List ℕ) (q : State) → Sound q → Sound (given_last n block q)
-unfolding given_last
-s_given_last n block q s = s_cond (takes n q) q (closed_by n block q.outbox) (numbers_closed n block q.outbox) s
+pub s_finished_on : (n : ℕ) (block : List ℕ) (q : State) → Sound q → Sound (finished_on n block q)
+unfolding finished_on
+s_finished_on n block q s = s_cond (takes n q) q (finished_by n block q.outbox) (numbers_closed n block q.outbox) s
 
-pub s_given_message : (n : ℕ) (message : List ℕ) (q : State) → Sound q → Sound (given_message n message q)
-unfolding given_message
-s_given_message n message q s = s_cond (takes n q) q (offered n message q.outbox) (numbers_offered n message q.outbox) s
+pub s_offered_on : (n : ℕ) (message : List ℕ) (q : State) → Sound q → Sound (offered_on n message q)
+unfolding offered_on
+s_offered_on n message q s = s_cond (takes n q) q (offered n message q.outbox) (numbers_offered n message q.outbox) s
 
-pub s_left_message : (n : ℕ) (q : State) → Sound q → Sound (left_message n q)
-unfolding left_message
-s_left_message n q s = s_cond (takes n q) q (withdrawn n q.outbox) (numbers_withdrawn n q.outbox) s
+pub s_withdrawn_on : (n : ℕ) (q : State) → Sound q → Sound (withdrawn_on n q)
+unfolding withdrawn_on
+s_withdrawn_on n q s = s_cond (takes n q) q (withdrawn n q.outbox) (numbers_withdrawn n q.outbox) s
 
 pub s_reset_by : (n code : ℕ) (q : State) → Sound q → Sound (reset_by n code q)
 unfolding reset_by
 s_reset_by n code q s = at_cond (λ (r : State). Sound r) (is_live n q.streams) (closed n (queued n (Reset code) q)) q (s_closed n (queued n (Reset code) q) (s_queued n (Reset code) q s)) s
 
-pub s_pulled : (highest : ℕ) (streams : List Stream) (o left : Out) (u : Option Unfinished) → left ≡ (pulled o).left → Ties highest streams (numbers o) u → Ties highest streams (numbers left) u
-s_pulled highest streams o left u e s = rw (e, numbers_pulled o) s
+pub s_pulled : (last_stream_id : ℕ) (streams : List Stream) (o left : Out) (u : Option OpenBlock) → left ≡ (pulled o).left → Ties last_stream_id streams (numbers o) u → Ties last_stream_id streams (numbers left) u
+s_pulled last_stream_id streams o left u e s = rw (e, numbers_pulled o) s
 
 -- ---- outcomes
 
 -- the state holds, and what was told names streams that were live, by what was live before
-pub data Good (highest : ℕ) (before : List Stream) : Outcome → Type 0 where
-  silent : (q : State) → Sound q → Good highest before (goes q None)
-  tells : (q : State) (told : Happening) → Sound q → Names highest before told q.streams → Good highest before (goes q (Some told))
-  fell : (control : List ℕ) (f : ConnFault) → Good highest before (fails control f)
+pub data Good (last_stream_id : ℕ) (before : List Stream) : Outcome → Type 0 where
+  silent : (q : State) → Sound q → Good last_stream_id before (goes q None)
+  tells : (q : State) (told : Happening) → Sound q → Names last_stream_id before told q.streams → Good last_stream_id before (goes q (Some told))
+  fell : (control : List ℕ) (f : ConnFault) → Good last_stream_id before (fails control f)
 
-good_sound : (highest : ℕ) (before : List Stream) (o : Outcome) → Good highest before o → SoundAfter o
-good_sound highest before _ (silent q s) = s
-good_sound highest before _ (tells q told s n) = s
-good_sound highest before _ (fell control f) = tt
+good_sound : (last_stream_id : ℕ) (before : List Stream) (o : Outcome) → Good last_stream_id before o → SoundAfter o
+good_sound last_stream_id before _ (silent q s) = s
+good_sound last_stream_id before _ (tells q told s n) = s
+good_sound last_stream_id before _ (fell control f) = tt
 
-good_names : (q : State) (o : Outcome) → Good q.highest q.streams o → NamesAfter q o
+good_names : (q : State) (o : Outcome) → Good q.last_stream_id q.streams o → NamesAfter q o
 good_names q _ (silent r s) = tt
 good_names q _ (tells r told s n) = n
 good_names q _ (fell control f) = tt
@@ -233,61 +233,61 @@ g_window : (h : ℕ) (ss : List Stream) (q : State) (r : Result Out Overflow) (o
 g_window h ss q (Err e) over k s g = g
 g_window h ss q (Ok o) over k s g = silent (record q { outbox = o }) (s_outbox q o k s)
 
-g_reset : (q : State) (n code : ℕ) → Sound q → Good q.highest q.streams (reset_with q n code)
+g_reset : (q : State) (n code : ℕ) → Sound q → Good q.last_stream_id q.streams (reset_with q n code)
 unfolding reset_with closed
 g_reset q n code s =
     let t : Sound (queued n (Reset code) q) = s_queued n (Reset code) q s in
-    g_if q.highest q.streams (is_live n q.streams) _ _
+    g_if q.last_stream_id q.streams (is_live n q.streams) _ _
     (λ live. tells (closed n (queued n (Reset code) q)) (happening.Gone n) (s_closed n (queued n (Reset code) q) t) (live, gone n q.streams))
     (λ live. silent (queued n (Reset code) q) t)
 
 -- ---- DATA and RST_STREAM
 
-g_given : (P : State → Type 0) (n size : ℕ) (q : State) → P q → P (queued n (WindowUpdate size) q) → P (given_back n size q)
-unfolding given_back
+g_given : (P : State → Type 0) (n size : ℕ) (q : State) → P q → P (queued n (WindowUpdate size) q) → P (replenished n size q)
+unfolding replenished
 g_given P n size q x y = at_cond P (size == 0) q (queued n (WindowUpdate size) q) x y
 
-s_given : (n size : ℕ) (q : State) → Sound q → Sound (given_back n size q)
+s_given : (n size : ℕ) (q : State) → Sound q → Sound (replenished n size q)
 s_given n size q s = g_given (λ (r : State). Sound r) n size q s (s_queued n (WindowUpdate size) q s)
 
-g_on : (q : State) (n : ℕ) (bytes : List ℕ) (size : ℕ) (ended : Bool) → Sound q → Good q.highest q.streams (data_on q n bytes size ended)
+g_on : (q : State) (n : ℕ) (bytes : List ℕ) (size : ℕ) (ended : Bool) → Sound q → Good q.last_stream_id q.streams (data_on q n bytes size ended)
 unfolding data_on
 g_on q n bytes size ended s =
-    g_if q.highest q.streams (not (is_live n q.streams)) _ _ (λ dead. silent q s) (λ live.
-    g_if q.highest q.streams (has_ended n q.streams) _ _ (λ over. g_reset q n 5 s) (λ over.
-    tells _ (happening.Body n bytes ended) (at_cond (λ (r : State). Sound r) ended (request_ends n q) (given_back n size q) (s_request n q s) (s_given n size q s)) (lift_true (is_live n q.streams) live)))
+    g_if q.last_stream_id q.streams (not (is_live n q.streams)) _ _ (λ dead. silent q s) (λ live.
+    g_if q.last_stream_id q.streams (is_remote_closed n q.streams) _ _ (λ over. g_reset q n 5 s) (λ over.
+    tells _ (happening.Body n bytes ended) (at_cond (λ (r : State). Sound r) ended (request_ends n q) (replenished n size q) (s_request n q s) (s_given n size q s)) (lift_true (is_live n q.streams) live)))
 
-g_counted : (P : State → Type 0) (bytes : List ℕ) (ended : Bool) (q : State) → P q → P (record q { empty = q.empty + 1 }) → P (record q { settings = 0; empty = 0 }) → P (data_counted bytes ended q)
+g_counted : (P : State → Type 0) (bytes : List ℕ) (ended : Bool) (q : State) → P q → P (record q { empty_data_count = q.empty_data_count + 1 }) → P (record q { settings_count = 0; empty_data_count = 0 }) → P (data_counted bytes ended q)
 unfolding data_counted
 g_counted P bytes ended q x y z =
-    at_cond P (length bytes == 0) (cond ended q (record q { empty = q.empty + 1 })) (record q { settings = 0; empty = 0 })
-    (at_cond P ended q (record q { empty = q.empty + 1 }) x y) z
+    at_cond P (length bytes == 0) (cond ended q (record q { empty_data_count = q.empty_data_count + 1 })) (record q { settings_count = 0; empty_data_count = 0 })
+    (at_cond P ended q (record q { empty_data_count = q.empty_data_count + 1 }) x y) z
 
-g_back : (q : State) (n : ℕ) (bytes : List ℕ) (size : ℕ) (ended : Bool) → Sound q → Good q.highest q.streams (data_on (given_back 0 size q) n bytes size ended)
+g_back : (q : State) (n : ℕ) (bytes : List ℕ) (size : ℕ) (ended : Bool) → Sound q → Good q.last_stream_id q.streams (data_on (replenished 0 size q) n bytes size ended)
 g_back q n bytes size ended s =
-    g_given (λ (r : State). Good q.highest q.streams (data_on r n bytes size ended)) 0 size q (g_on q n bytes size ended s)
+    g_given (λ (r : State). Good q.last_stream_id q.streams (data_on r n bytes size ended)) 0 size q (g_on q n bytes size ended s)
     (g_on (queued 0 (WindowUpdate size) q) n bytes size ended (s_queued 0 (WindowUpdate size) q s))
 
-g_data : (q : State) (n : ℕ) (bytes : List ℕ) (size : ℕ) (ended : Bool) → Sound q → Good q.highest q.streams (data_rows q n bytes size ended)
+g_data : (q : State) (n : ℕ) (bytes : List ℕ) (size : ℕ) (ended : Bool) → Sound q → Good q.last_stream_id q.streams (data_rows q n bytes size ended)
 g_data q n bytes size ended s =
-    g_or q.highest q.streams (is_empty_data bytes ended && has_come 100 q.empty) _ _ (λ e. fell _ _) (λ e.
-    g_or q.highest q.streams (is_idle q n) _ _ (λ e. fell _ _) (λ e.
-    g_counted (λ (r : State). Good q.highest q.streams (data_on (given_back 0 size r) n bytes size ended)) bytes ended q (g_back q n bytes size ended s)
-    (g_back (record q { empty = q.empty + 1 }) n bytes size ended s) (g_back (record q { settings = 0; empty = 0 }) n bytes size ended s)))
+    g_or q.last_stream_id q.streams (is_empty_data bytes ended && has_come 100 q.empty_data_count) _ _ (λ e. fell _ _) (λ e.
+    g_or q.last_stream_id q.streams (is_idle q n) _ _ (λ e. fell _ _) (λ e.
+    g_counted (λ (r : State). Good q.last_stream_id q.streams (data_on (replenished 0 size r) n bytes size ended)) bytes ended q (g_back q n bytes size ended s)
+    (g_back (record q { empty_data_count = q.empty_data_count + 1 }) n bytes size ended s) (g_back (record q { settings_count = 0; empty_data_count = 0 }) n bytes size ended s)))
 
-g_closes : (q : State) (n : ℕ) → Sound q → Good q.highest q.streams (reset_frame q n)
+g_closes : (q : State) (n : ℕ) → Sound q → Good q.last_stream_id q.streams (reset_frame q n)
 unfolding reset_frame closed
 g_closes q n s =
-    g_if q.highest q.streams (is_live n q.streams) _ _
-    (λ live. at_cond (λ (r : State). Good q.highest q.streams (goes (closed n r) (Some (happening.Gone n)))) (is_written n q.outbox) q (record q { resets = q.resets + 1 })
+    g_if q.last_stream_id q.streams (is_live n q.streams) _ _
+    (λ live. at_cond (λ (r : State). Good q.last_stream_id q.streams (goes (closed n r) (Some (happening.Gone n)))) (is_written n q.outbox) q (record q { rapid_reset_count = q.rapid_reset_count + 1 })
     (tells (closed n q) (happening.Gone n) (s_closed n q s) (live, gone n q.streams))
-    (tells (closed n (record q { resets = q.resets + 1 })) (happening.Gone n) (s_closed n (record q { resets = q.resets + 1 }) s) (live, gone n q.streams)))
+    (tells (closed n (record q { rapid_reset_count = q.rapid_reset_count + 1 })) (happening.Gone n) (s_closed n (record q { rapid_reset_count = q.rapid_reset_count + 1 }) s) (live, gone n q.streams)))
     (λ live. silent q s)
 
-g_resets : (q : State) (n code : ℕ) → Sound q → Good q.highest q.streams (reset_rows q n code)
+g_resets : (q : State) (n code : ℕ) → Sound q → Good q.last_stream_id q.streams (reset_rows q n code)
 g_resets q n code s =
-    g_or q.highest q.streams (is_rapid q n && has_come 10000 q.resets) _ _ (λ e. fell _ _) (λ e.
-    g_or q.highest q.streams (is_idle q n) _ _ (λ e. fell _ _) (λ e. g_closes q n s))
+    g_or q.last_stream_id q.streams (is_rapid q n && has_come 10000 q.rapid_reset_count) _ _ (λ e. fell _ _) (λ e.
+    g_or q.last_stream_id q.streams (is_idle q n) _ _ (λ e. fell _ _) (λ e. g_closes q n s))
 
 -- ---- SETTINGS, PING and windows
 
@@ -300,7 +300,7 @@ unfolding set_one
 g_one h ss q p s =
     g_if h ss (p.id == 1) _ _ (λ e. silent (noted p.value q) (s_noted p.value q s)) (λ e.
     g_if h ss (p.id == 2) _ _ (λ e. g_if h ss (nat_lt 1 p.value) _ _ (λ e. fell _ _) (λ e. silent q s)) (λ e.
-    g_if h ss (p.id == 4) _ _ (λ e. g_if h ss (nat_lt 2147483647 p.value) _ _ (λ e. fell _ _) (λ e. g_window h ss q (initialed p.value q.outbox) (fault q 3 cause.Overflow) (numbers_initialed p.value q.outbox) s (fell _ _))) (λ e.
+    g_if h ss (p.id == 4) _ _ (λ e. g_if h ss (nat_lt 2147483647 p.value) _ _ (λ e. fell _ _) (λ e. g_window h ss q (initialed p.value q.outbox) (fault q cause.Overflow) (numbers_initialed p.value q.outbox) s (fell _ _))) (λ e.
     g_if h ss (p.id == 5) _ _ (λ e. g_if h ss (is_frame_size p.value) _ _ (λ e. silent q s) (λ e. fell _ _)) (λ e. silent q s))))
 
 g_after : (h : ℕ) (ss : List Stream) (o : Outcome) (go_on : State → Outcome) → Good h ss o → ((q : State) → Sound q → Good h ss (go_on q)) → Good h ss (after_setting o go_on)
@@ -312,78 +312,78 @@ g_all : (h : ℕ) (ss : List Stream) (ps : List Setting) (q : State) → Sound q
 g_all h ss [] q s = silent (queued 0 SettingsAck q) (s_queued 0 SettingsAck q s)
 g_all h ss (p ∷ ps) q s = g_after h ss (set_one q p) (set_all ps) (g_one h ss q p s) (λ r t. g_all h ss ps r t)
 
-g_settings : (q : State) (n : ℕ) (pairs : List Setting) → Sound q → Good q.highest q.streams (settings_rows q n pairs)
+g_settings : (q : State) (n : ℕ) (pairs : List Setting) → Sound q → Good q.last_stream_id q.streams (settings_rows q n pairs)
 unfolding set_frame
 g_settings q n pairs s =
-    g_or q.highest q.streams (has_come 100 q.settings) _ _ (λ e. fell _ _)
-    (λ e. g_all q.highest q.streams pairs (record q { greeted = true; settings = q.settings + 1 }) s)
+    g_or q.last_stream_id q.streams (has_come 100 q.settings_count) _ _ (λ e. fell _ _)
+    (λ e. g_all q.last_stream_id q.streams pairs (record q { settings_received = true; settings_count = q.settings_count + 1 }) s)
 
-g_ping : (q : State) (n : ℕ) (ack : Bool) (word : ℕ) → Sound q → Good q.highest q.streams (ping_rows q n ack word)
+g_ping : (q : State) (n : ℕ) (ack : Bool) (word : ℕ) → Sound q → Good q.last_stream_id q.streams (ping_rows q n ack word)
 g_ping q n true word s = silent q s
 g_ping q n false word s = silent (queued 0 (Ping true word) q) (s_queued 0 (Ping true word) q s)
 
-g_windows : (q : State) (n step : ℕ) → Sound q → Good q.highest q.streams (window_rows q n step)
+g_windows : (q : State) (n step : ℕ) → Sound q → Good q.last_stream_id q.streams (window_rows q n step)
 g_windows q n step s =
-    g_or q.highest q.streams (n == 0) _ _
-    (λ e. g_if q.highest q.streams (step == 0) _ _ (λ e. fell _ _) (λ e. g_window q.highest q.streams q (grown 0 step q.outbox) (fault q 3 cause.Overflow) (numbers_grown 0 step q.outbox) s (fell _ _))) (λ e.
-    g_or q.highest q.streams (is_idle q n) _ _ (λ e. fell _ _) (λ e.
-    g_if q.highest q.streams (not (is_live n q.streams)) _ _ (λ e. silent q s) (λ e.
-    g_if q.highest q.streams (step == 0) _ _ (λ e. g_reset q n 1 s) (λ e.
-    g_window q.highest q.streams q (grown n step q.outbox) (reset_with q n 3) (numbers_grown n step q.outbox) s (g_reset q n 3 s)))))
+    g_or q.last_stream_id q.streams (n == 0) _ _
+    (λ e. g_if q.last_stream_id q.streams (step == 0) _ _ (λ e. fell _ _) (λ e. g_window q.last_stream_id q.streams q (grown 0 step q.outbox) (fault q cause.Overflow) (numbers_grown 0 step q.outbox) s (fell _ _))) (λ e.
+    g_or q.last_stream_id q.streams (is_idle q n) _ _ (λ e. fell _ _) (λ e.
+    g_if q.last_stream_id q.streams (not (is_live n q.streams)) _ _ (λ e. silent q s) (λ e.
+    g_if q.last_stream_id q.streams (step == 0) _ _ (λ e. g_reset q n 1 s) (λ e.
+    g_window q.last_stream_id q.streams q (grown n step q.outbox) (reset_with q n 3) (numbers_grown n step q.outbox) s (g_reset q n 3 s)))))
 
 -- ---- header blocks
 
-g_opened : (q : State) (u : Unfinished) (headers : List Header) → nat_lt q.highest u.stream ≡ true → Sound q → Good q.highest q.streams (opened q u headers)
+g_opened : (q : State) (u : OpenBlock) (headers : List Header) → nat_lt q.last_stream_id u.stream ≡ true → Sound q → Good q.last_stream_id q.streams (opened q u headers)
 unfolding opened
 g_opened q u headers e s =
-    let above : q.highest < u.stream = ltb-true q.highest u.stream e in
-    g_if q.highest q.streams (nat_lt (length q.streams) 16) _ _
+    let above : q.last_stream_id < u.stream = ltb-true q.last_stream_id u.stream e in
+    g_if q.last_stream_id q.streams (nat_lt (length q.streams) 16) _ _
     (λ room. tells _ (happening.Head u.stream headers u.ended) (s_added q u.stream u.ended above s) (e, comes u.stream u.ended false q.streams))
-    (λ room. silent _ (s_queued u.stream (Reset 7) (record q { highest = u.stream }) (s_raised q u.stream above s)))
+    (λ room. silent _ (s_queued u.stream (Reset 7) (record q { last_stream_id = u.stream }) (s_raised q u.stream above s)))
 
-g_trailed : (q : State) (u : Unfinished) (headers : List Header) → is_live u.stream q.streams ≡ true → Sound q → Good q.highest q.streams (trailed q u headers)
+g_trailed : (q : State) (u : OpenBlock) (headers : List Header) → is_live u.stream q.streams ≡ true → Sound q → Good q.last_stream_id q.streams (trailed q u headers)
 unfolding trailed
 g_trailed q u headers live s =
-    g_if q.highest q.streams (u.ended && are_good_trailers headers) _ _
+    g_if q.last_stream_id q.streams (u.ended && are_good_trailers headers) _ _
     (λ e. tells (request_ends u.stream q) (happening.End u.stream) (s_request u.stream q s) live)
     (λ e. g_reset q u.stream 1 s)
 
-g_headers : (q : State) (u : Unfinished) (headers : List Header) → Sound q → Good q.highest q.streams (headers_rows q u headers)
+g_headers : (q : State) (u : OpenBlock) (headers : List Header) → Sound q → Good q.last_stream_id q.streams (headers_rows q u headers)
 g_headers q u headers s =
-    g_or q.highest q.streams (nat_lt q.highest u.stream) (opened q u headers) (or_else (closed_in q u headers) (or_else (ended_in q u headers) (trailed q u headers))) (λ e. g_opened q u headers e s) (λ e.
-    g_or q.highest q.streams (not (is_live u.stream q.streams)) (nothing q) (or_else (ended_in q u headers) (trailed q u headers)) (λ e. silent q s) (λ live.
-    g_or q.highest q.streams (has_ended u.stream q.streams) (reset_with q u.stream 5) (trailed q u headers) (λ e. g_reset q u.stream 5 s) (λ e.
+    g_or q.last_stream_id q.streams (nat_lt q.last_stream_id u.stream) (opened q u headers) (or_else (closed_in q u headers) (or_else (ended_in q u headers) (trailed q u headers))) (λ e. g_opened q u headers e s) (λ e.
+    g_or q.last_stream_id q.streams (not (is_live u.stream q.streams)) (nothing q) (or_else (ended_in q u headers) (trailed q u headers)) (λ e. silent q s) (λ live.
+    g_or q.last_stream_id q.streams (is_remote_closed u.stream q.streams) (reset_with q u.stream 5) (trailed q u headers) (λ e. g_reset q u.stream 5 s) (λ e.
     g_trailed q u headers (lift_true (is_live u.stream q.streams) live) s)))
 
-g_decoded : (g : Gathered) (r : Result (List Header) HpackFault) (d : Standing) → Sound g.state → Good g.state.highest g.state.streams (decoded_rows g r d)
+g_decoded : (g : Gathered) (r : Result (List Header) HpackFault) (d : Standing) → Sound g.state → Good g.state.last_stream_id g.state.streams (decoded_rows g r d)
 g_decoded g (Err f) d s = fell _ _
 g_decoded g (Ok headers) d s = g_headers (tabled d g.state) g.block headers s
 
-g_block : (g : Gathered) → g.block.stream < 2 ^ 31 → Sound g.state → Good g.state.highest g.state.streams (block_rows g)
+g_block : (g : Gathered) → g.block.stream < 2 ^ 31 → Sound g.state → Good g.state.last_stream_id g.state.streams (block_rows g)
 g_block g low s =
-    g_or g.state.highest g.state.streams (nat_lt 16384 (length g.block.bytes)) (fault g.state 11 cause.BlockTooLong) (or_else (grows g) (decoded_rows g (decoding g).0 (decoding g).1)) (λ e. fell _ _) (λ e.
-    g_or g.state.highest g.state.streams (not g.whole) (nothing (record g.state { unfinished = Some g.block })) (decoded_rows g (decoding g).0 (decoding g).1) (λ e. silent _ (s_blocked g.state g.block low s)) (λ e.
+    g_or g.state.last_stream_id g.state.streams (nat_lt 16384 (length g.block.bytes)) (fault g.state cause.BlockTooLong) (or_else (grows g) (decoded_rows g (decoding g).0 (decoding g).1)) (λ e. fell _ _) (λ e.
+    g_or g.state.last_stream_id g.state.streams (not g.whole) (nothing (record g.state { open_block = Some g.block })) (decoded_rows g (decoding g).0 (decoding g).1) (λ e. silent _ (s_blocked g.state g.block low s)) (λ e.
     g_decoded g (decoding g).0 (decoding g).1 s))
 
-g_head : (q : State) (n : ℕ) (bytes : List ℕ) (ended whole : Bool) → n < 2 ^ 31 → Sound q → Good q.highest q.streams (head_rows q n bytes ended whole)
+g_head : (q : State) (n : ℕ) (bytes : List ℕ) (ended whole : Bool) → n < 2 ^ 31 → Sound q → Good q.last_stream_id q.streams (head_rows q n bytes ended whole)
 g_head q n bytes ended whole low s =
-    g_or q.highest q.streams (n % 2 == 0) _ (block_rows (started q n bytes ended whole)) (λ e. fell _ _)
-    (λ e. g_block (started q n bytes ended whole) low (s_unblocked q.highest q.streams (numbers q.outbox) q.unfinished s))
+    g_or q.last_stream_id q.streams (n % 2 == 0) _ (block_rows (started q n bytes ended whole)) (λ e. fell _ _)
+    (λ e. g_block (started q n bytes ended whole) low (s_unblocked q.last_stream_id q.streams (numbers q.outbox) q.open_block s))
 
-g_gathered : (q : State) (h : Option Unfinished) (bytes : List ℕ) (whole : Bool) → IsLow h → Sound q → Good q.highest q.streams (gathered_rows q (continued q h bytes whole))
+g_gathered : (q : State) (h : Option OpenBlock) (bytes : List ℕ) (whole : Bool) → IsLow h → Sound q → Good q.last_stream_id q.streams (gathered_rows q (continued q h bytes whole))
 g_gathered q None bytes whole low s = silent q s
 g_gathered q (Some u) bytes whole low s =
-    g_block (record { state = record q { unfinished = None }; block = record u { bytes = u.bytes ++ bytes; pieces = u.pieces + 1 }; whole = whole }) low
-    (s_unblocked q.highest q.streams (numbers q.outbox) q.unfinished s)
+    g_block (record { state = record q { open_block = None }; block = record u { bytes = u.bytes ++ bytes; continuations = u.continuations + 1 }; whole = whole }) low
+    (s_unblocked q.last_stream_id q.streams (numbers q.outbox) q.open_block s)
 
-g_continuation : (q : State) (n : ℕ) (bytes : List ℕ) (whole : Bool) → Sound q → Good q.highest q.streams (continuation_rows q n bytes whole)
+g_continuation : (q : State) (n : ℕ) (bytes : List ℕ) (whole : Bool) → Sound q → Good q.last_stream_id q.streams (continuation_rows q n bytes whole)
 g_continuation q n bytes whole s =
-    g_or q.highest q.streams (has_come 64 (pieces_of q.unfinished)) _ (gathered_rows q (continued q q.unfinished bytes whole)) (λ e. fell _ _)
-    (λ e. g_gathered q q.unfinished bytes whole s.low s)
+    g_or q.last_stream_id q.streams (has_come 64 (continuations_of q.open_block)) _ (gathered_rows q (continued q q.open_block bytes whole)) (λ e. fell _ _)
+    (λ e. g_gathered q q.open_block bytes whole s.low s)
 
 -- ---- the table
 
-g_kind : (q : State) (n : ℕ) (body : Body) → n < 2 ^ 31 → Sound q → Good q.highest q.streams (kind_rows q n body)
+g_kind : (q : State) (n : ℕ) (body : Body) → n < 2 ^ 31 → Sound q → Good q.last_stream_id q.streams (kind_rows q n body)
 g_kind q n (Bytes bytes size ended) low s = g_data q n bytes size ended s
 g_kind q n (Headers bytes ended whole) low s = g_head q n bytes ended whole low s
 g_kind q n Priority low s = silent q s
@@ -392,23 +392,23 @@ g_kind q n (Settings pairs) low s = g_settings q n pairs s
 g_kind q n SettingsAck low s = silent q s
 g_kind q n PushPromise low s = fell _ _
 g_kind q n (Ping ack word) low s = g_ping q n ack word s
-g_kind q n (GoAway last code) low s = silent (record q { going = true }) s
+g_kind q n (GoAway last code) low s = silent (record q { goaway_received = true }) s
 g_kind q n (WindowUpdate step) low s = g_windows q n step s
 g_kind q n (Continuation bytes whole) low s = g_continuation q n bytes whole s
 g_kind q n (Unknown kind) low s = silent q s
 
 g_guarded : (h : ℕ) (ss : List Stream) (q : State) (n : ℕ) (body : Body) (rest : Outcome) → Good h ss rest → Good h ss (guarded q n body rest)
 g_guarded h ss q n body rest g =
-    g_or h ss (not (is_settings body) && not q.greeted) _ _ (λ e. fell _ _) (λ e.
-    g_or h ss (interrupts q.unfinished n (is_continuation body)) _ _ (λ e. fell _ _) (λ e.
-    g_or h ss (is_continuation body && is_none q.unfinished) _ _ (λ e. fell _ _) (λ e.
-    g_or h ss (is_misplaced n body) (fault q 1 cause.StreamZero) rest (λ e. fell _ _) (λ e. g))))
+    g_or h ss (not (is_settings body) && not q.settings_received) _ _ (λ e. fell _ _) (λ e.
+    g_or h ss (interrupts q.open_block n (is_continuation body)) _ _ (λ e. fell _ _) (λ e.
+    g_or h ss (is_continuation body && is_none q.open_block) _ _ (λ e. fell _ _) (λ e.
+    g_or h ss (is_misplaced n body) (fault q cause.StreamZero) rest (λ e. fell _ _) (λ e. g))))
 
-good_peer : (q : State) (f : Frame) → f.stream < 2 ^ 31 → Sound q → Good q.highest q.streams (peer q f)
-good_peer q f low s = rw (peer_is q f) (g_guarded q.highest q.streams q f.stream f.body (kind_rows q f.stream f.body) (g_kind q f.stream f.body low s))
+good_peer : (q : State) (f : Frame) → f.stream < 2 ^ 31 → Sound q → Good q.last_stream_id q.streams (peer q f)
+good_peer q f low s = rw (peer_is q f) (g_guarded q.last_stream_id q.streams q f.stream f.body (kind_rows q f.stream f.body) (g_kind q f.stream f.body low s))
 
 pub peer_sound : (q : State) (f : Frame) → f.stream < 2 ^ 31 → Sound q → SoundAfter (peer q f)
-peer_sound q f low s = good_sound q.highest q.streams (peer q f) (good_peer q f low s)
+peer_sound q f low s = good_sound q.last_stream_id q.streams (peer q f) (good_peer q f low s)
 
 pub peer_names : (q : State) (f : Frame) → f.stream < 2 ^ 31 → Sound q → NamesAfter q (peer q f)
 peer_names q f low s = good_names q (peer q f) (good_peer q f low s)
@@ -417,7 +417,7 @@ pub steps_sound : (q : State) (f : Frame) (result : Result (Option Happening) Co
 steps_sound q f (Err e) new h fits s = tt
 steps_sound q f (Ok told) new h fits s = rw h at (peer_sound q f fits.0 s)
 
-pub names_on : (l : Link) (f : Frame) → Fits f → SoundLink l → NamesOn l f
+pub names_on : (l : Phase) (f : Frame) → Fits f → SoundPhase l → NamesOn l f
 names_on (Open q) f fits s = peer_names q f fits.0 s
-names_on (Failed fault left past) f fits s = tt
-names_on (Broken past) f fits s = tt
+names_on (Failed fault left totals) f fits s = tt
+names_on (OutOfMemory totals) f fits s = tt

@@ -11,24 +11,24 @@ use Rattle.h2_frame.specs.declared.frame.Body.TheVariants.{Bytes, Headers, Prior
 use Rattle.h2_frame.specs.declared.frame.Frame.{Frame}
 use Rattle.h2_frame.specs.declared.frame.Setting.{Setting}
 use Rattle.h2_flow.specs.declared.overflow.Overflow.{Overflow}
-use Rattle.h2_flow.specs.Outboxes.{Out, Pulled, pulled, is_written, is_shrunk, shrunk, initialed, grown, headed, offered, withdrawn, closed_by}
+use Rattle.h2_flow.specs.Outboxes.{Out, Pulled, pulled, is_written, is_shrunk, shrunk, initialed, grown, headed, offered, withdrawn, finished_by}
 use Rattle.h2_conn.specs.declared.fault.ConnCause.TheVariants as cause
 use Rattle.h2_conn.specs.declared.fault.ConnFault.{ConnFault}
 use Rattle.h2_conn.specs.declared.happening.Happening.{Happening}
 use Rattle.h2_conn.specs.declared.happening.Happening.TheVariants as happening
 use Rattle.h2_conn.specs.declared.state.State.{State}
-use Rattle.h2_conn.specs.declared.state.Unfinished.{Unfinished}
-use Rattle.h2_conn.specs.Streams.{is_live, has_ended, is_answered, ending, answering}
-use Rattle.h2_conn.specs.Peer.{Outcome, goes, fails, fault, nothing, queued, closed, reset_with, request_ends, given_back, with_window, is_idle, has_come, is_settings, is_continuation, interrupts, is_none, is_misplaced, pieces_of, is_empty_data, is_rapid, is_frame_size, noted, set_one, after_setting, set_all, set_frame, reset_frame, data_on, data_counted, Gathered, started, continued, grows, decoding, opened, tabled, closed_in, ended_in, trailed, when, or_else, peer}
+use Rattle.h2_conn.specs.declared.state.OpenBlock.{OpenBlock}
+use Rattle.h2_conn.specs.Streams.{is_live, is_remote_closed, is_local_closed, with_remote_closed, with_local_closed}
+use Rattle.h2_conn.specs.Peer.{Outcome, goes, fails, fault, nothing, queued, closed, reset_with, request_ends, replenished, with_window, is_idle, has_come, is_settings, is_continuation, interrupts, is_none, is_misplaced, continuations_of, is_empty_data, is_rapid, is_frame_size, noted, set_one, after_setting, set_all, set_frame, reset_frame, data_on, data_counted, Gathered, started, continued, grows, decoding, opened, tabled, closed_in, ended_in, trailed, when, or_else, peer}
 use Rattle.h2_conn.specs.Kinds.{guarded, headers_rows, decoded_rows, block_rows, gathered_rows, kind_rows, data_rows, reset_rows, settings_rows, ping_rows, window_rows, head_rows, continuation_rows}
-use Rattle.h2_conn.specs.Conns.{takes, given_head, given_last, given_message, left_message, reset_by, answer_ends, answers_end, moved, after_pull}
-use Rattle.h2_conn.specs.Counts.{Step, Came, Wrote, Head, Finish, Offer, Withdraw, Refuse, is_early, Leads, Reaches, is_data, is_head, is_empty, came, came_early, ends_resets, restarts, since, PiecesAre, HasCounts}
+use Rattle.h2_conn.specs.Conns.{takes, headed_on, finished_on, offered_on, withdrawn_on, reset_by, answer_ends, answers_end, moved, after_pull}
+use Rattle.h2_conn.specs.Counts.{Step, Came, Wrote, Head, Finish, Offer, Withdraw, Refuse, is_early, Leads, Reaches, is_data, is_head, is_empty, came, came_early, ends_resets, restarts, since, ContinuationsAre, HasCounts}
 use Rattle.h2_conn.proofs.Choice.{peer_is}
 
 -- ---- states with these counts
 
 abbrev Counts : ℕ → ℕ → ℕ → ℕ → State → Type 0
-Counts s e r p q = (q.settings ≡ s) × (q.empty ≡ e) × (q.resets ≡ r) × PiecesAre p q.unfinished
+Counts s e r p q = (q.settings_count ≡ s) × (q.empty_data_count ≡ e) × (q.rapid_reset_count ≡ r) × ContinuationsAre p q.open_block
 
 at_cond : (P : State → Type 0) (b : Bool) (x y : State) → P x → P y → P (cond b x y)
 at_cond P true x y h k = h
@@ -40,10 +40,10 @@ c_closed s e r p n q c = c
 
 c_request : (s e r p n : ℕ) (q : State) → Counts s e r p q → Counts s e r p (request_ends n q)
 unfolding request_ends
-c_request s e r p n q c = at_cond (λ (x : State). Counts s e r p x) (is_answered n q.streams) (closed n q) (record q { streams = ending n q.streams }) (c_closed s e r p n q c) c
+c_request s e r p n q c = at_cond (λ (x : State). Counts s e r p x) (is_local_closed n q.streams) (closed n q) (record q { streams = with_remote_closed n q.streams }) (c_closed s e r p n q c) c
 
-c_given : (s e r p n size : ℕ) (q : State) → Counts s e r p q → Counts s e r p (given_back n size q)
-unfolding given_back
+c_given : (s e r p n size : ℕ) (q : State) → Counts s e r p q → Counts s e r p (replenished n size q)
+unfolding replenished
 c_given s e r p n size q c = at_cond (λ (x : State). Counts s e r p x) (size == 0) q (queued n (WindowUpdate size) q) c c
 
 c_noted : (s e r p value : ℕ) (q : State) → Counts s e r p q → Counts s e r p (noted value q)
@@ -81,8 +81,8 @@ k_on : (s e r p : ℕ) (q : State) (n : ℕ) (bytes : List ℕ) (size : ℕ) (en
 unfolding data_on
 k_on s e r p q n bytes size ended c =
     k_if s e r p (not (is_live n q.streams)) _ _ (kept q None c)
-    (k_if s e r p (has_ended n q.streams) _ _ (k_reset s e r p q n 5 c)
-    (kept _ (Some (happening.Body n bytes ended)) (at_cond (λ (x : State). Counts s e r p x) ended (request_ends n q) (given_back n size q) (c_request s e r p n q c) (c_given s e r p n size q c))))
+    (k_if s e r p (is_remote_closed n q.streams) _ _ (k_reset s e r p q n 5 c)
+    (kept _ (Some (happening.Body n bytes ended)) (at_cond (λ (x : State). Counts s e r p x) ended (request_ends n q) (replenished n size q) (c_request s e r p n q c) (c_given s e r p n size q c))))
 
 -- what DATA makes of the counts
 abbrev after_data : Bool → ℕ → ℕ
@@ -91,7 +91,7 @@ after_data none count = cond none count 0
 abbrev after_empty : Bool → Bool → ℕ → ℕ
 after_empty none ended count = cond none (cond ended count (count + 1)) 0
 
-c_counted : (none ended : Bool) (s e r p : ℕ) (q : State) → Counts s e r p q → Counts (after_data none s) (after_empty none ended e) r p (cond none (cond ended q (record q { empty = q.empty + 1 })) (record q { settings = 0; empty = 0 }))
+c_counted : (none ended : Bool) (s e r p : ℕ) (q : State) → Counts s e r p q → Counts (after_data none s) (after_empty none ended e) r p (cond none (cond ended q (record q { empty_data_count = q.empty_data_count + 1 })) (record q { settings_count = 0; empty_data_count = 0 }))
 c_counted true true s e r p q c = c
 c_counted true false s e r p q c = (c.0, ap (λ (n : ℕ). n + 1) c.1, c.2, c.3)
 c_counted false ended s e r p q c = (refl, refl, c.2, c.3)
@@ -99,25 +99,25 @@ c_counted false ended s e r p q c = (refl, refl, c.2, c.3)
 k_data : (s e r p : ℕ) (q : State) (n : ℕ) (bytes : List ℕ) (size : ℕ) (ended : Bool) → Counts s e r p q → Keeps (after_data (length bytes == 0) s) (after_empty (length bytes == 0) ended e) r p (data_rows q n bytes size ended)
 unfolding data_counted
 k_data s e r p q n bytes size ended c =
-    k_or _ _ r p (is_empty_data bytes ended && has_come 100 q.empty) _ _ (fell _ _)
+    k_or _ _ r p (is_empty_data bytes ended && has_come 100 q.empty_data_count) _ _ (fell _ _)
     (k_or _ _ r p (is_idle q n) _ _ (fell _ _)
-    (k_on (after_data (length bytes == 0) s) (after_empty (length bytes == 0) ended e) r p (given_back 0 size (data_counted bytes ended q)) n bytes size ended
+    (k_on (after_data (length bytes == 0) s) (after_empty (length bytes == 0) ended e) r p (replenished 0 size (data_counted bytes ended q)) n bytes size ended
     (c_given (after_data (length bytes == 0) s) (after_empty (length bytes == 0) ended e) r p 0 size (data_counted bytes ended q) (c_counted (length bytes == 0) ended s e r p q c))))
 
 abbrev after_early : Bool → ℕ → ℕ
 after_early early count = cond early (count + 1) count
 
-k_closes : (live written : Bool) (s e r p n : ℕ) (q : State) → Counts s e r p q → Keeps s e (after_early (live && not written) r) p (cond live (goes (closed n (cond written q (record q { resets = q.resets + 1 }))) (Some (happening.Gone n))) (nothing q))
+k_closes : (live written : Bool) (s e r p n : ℕ) (q : State) → Counts s e r p q → Keeps s e (after_early (live && not written) r) p (cond live (goes (closed n (cond written q (record q { rapid_reset_count = q.rapid_reset_count + 1 }))) (Some (happening.Gone n))) (nothing q))
 k_closes true true s e r p n q c = kept (closed n q) (Some (happening.Gone n)) (c_closed s e r p n q c)
 k_closes true false s e r p n q c =
-    kept (closed n (record q { resets = q.resets + 1 })) (Some (happening.Gone n))
-    (c_closed s e (r + 1) p n (record q { resets = q.resets + 1 }) (c.0, c.1, ap (λ (m : ℕ). m + 1) c.2, c.3))
+    kept (closed n (record q { rapid_reset_count = q.rapid_reset_count + 1 })) (Some (happening.Gone n))
+    (c_closed s e (r + 1) p n (record q { rapid_reset_count = q.rapid_reset_count + 1 }) (c.0, c.1, ap (λ (m : ℕ). m + 1) c.2, c.3))
 k_closes false written s e r p n q c = kept q None c
 
 k_resets : (s e r p : ℕ) (q : State) (n code : ℕ) → Counts s e r p q → Keeps s e (after_early (is_rapid q n) r) p (reset_rows q n code)
 unfolding reset_frame
 k_resets s e r p q n code c =
-    k_or s e (after_early (is_rapid q n) r) p (is_rapid q n && has_come 10000 q.resets) _ _ (fell _ _)
+    k_or s e (after_early (is_rapid q n) r) p (is_rapid q n && has_come 10000 q.rapid_reset_count) _ _ (fell _ _)
     (k_or s e (after_early (is_rapid q n) r) p (is_idle q n) _ _ (fell _ _)
     (k_closes (is_live n q.streams) (is_written n q.outbox) s e r p n q c))
 
@@ -128,7 +128,7 @@ unfolding set_one
 k_one s e r p q pair c =
     k_if s e r p (pair.id == 1) _ _ (kept (noted pair.value q) None (c_noted s e r p pair.value q c))
     (k_if s e r p (pair.id == 2) _ _ (k_if s e r p (nat_lt 1 pair.value) _ _ (fell _ _) (kept q None c))
-    (k_if s e r p (pair.id == 4) _ _ (k_if s e r p (nat_lt 2147483647 pair.value) _ _ (fell _ _) (k_window s e r p q (initialed pair.value q.outbox) (fault q 3 cause.Overflow) c (fell _ _)))
+    (k_if s e r p (pair.id == 4) _ _ (k_if s e r p (nat_lt 2147483647 pair.value) _ _ (fell _ _) (k_window s e r p q (initialed pair.value q.outbox) (fault q cause.Overflow) c (fell _ _)))
     (k_if s e r p (pair.id == 5) _ _ (k_if s e r p (is_frame_size pair.value) _ _ (kept q None c) (fell _ _)) (kept q None c))))
 
 k_after : (s e r p : ℕ) (o : Outcome) (go_on : State → Outcome) → Keeps s e r p o → ((q : State) → Counts s e r p q → Keeps s e r p (go_on q)) → Keeps s e r p (after_setting o go_on)
@@ -142,8 +142,8 @@ k_all s e r p (pair ∷ pairs) q c = k_after s e r p (set_one q pair) (set_all p
 k_settings : (s e r p : ℕ) (q : State) (n : ℕ) (pairs : List Setting) → Counts s e r p q → Keeps (s + 1) e r p (settings_rows q n pairs)
 unfolding set_frame
 k_settings s e r p q n pairs c =
-    k_or (s + 1) e r p (has_come 100 q.settings) _ _ (fell _ _)
-    (k_all (s + 1) e r p pairs (record q { greeted = true; settings = q.settings + 1 }) (ap (λ (m : ℕ). m + 1) c.0, c.1, c.2, c.3))
+    k_or (s + 1) e r p (has_come 100 q.settings_count) _ _ (fell _ _)
+    (k_all (s + 1) e r p pairs (record q { settings_received = true; settings_count = q.settings_count + 1 }) (ap (λ (m : ℕ). m + 1) c.0, c.1, c.2, c.3))
 
 k_ping : (s e r p : ℕ) (q : State) (n : ℕ) (ack : Bool) (word : ℕ) → Counts s e r p q → Keeps s e r p (ping_rows q n ack word)
 k_ping s e r p q n true word c = kept q None c
@@ -152,7 +152,7 @@ k_ping s e r p q n false word c = kept (queued 0 (Ping true word) q) None c
 k_windows : (s e r p : ℕ) (q : State) (n step : ℕ) → Counts s e r p q → Keeps s e r p (window_rows q n step)
 k_windows s e r p q n step c =
     k_or s e r p (n == 0) _ _
-    (k_if s e r p (step == 0) _ _ (fell _ _) (k_window s e r p q (grown 0 step q.outbox) (fault q 3 cause.Overflow) c (fell _ _)))
+    (k_if s e r p (step == 0) _ _ (fell _ _) (k_window s e r p q (grown 0 step q.outbox) (fault q cause.Overflow) c (fell _ _)))
     (k_or s e r p (is_idle q n) _ _ (fell _ _)
     (k_if s e r p (not (is_live n q.streams)) _ _ (kept q None c)
     (k_if s e r p (step == 0) _ _ (k_reset s e r p q n 1 c)
@@ -160,30 +160,30 @@ k_windows s e r p q n step c =
 
 -- ---- header blocks
 
-k_opened : (s e r p : ℕ) (q : State) (u : Unfinished) (headers : List Header) → Counts s e r p q → Keeps s e r p (opened q u headers)
+k_opened : (s e r p : ℕ) (q : State) (u : OpenBlock) (headers : List Header) → Counts s e r p q → Keeps s e r p (opened q u headers)
 unfolding opened
 k_opened s e r p q u headers c = k_if s e r p (nat_lt (length q.streams) 16) _ _ (kept _ (Some (happening.Head u.stream headers u.ended)) c) (kept _ None c)
 
-k_trailed : (s e r p : ℕ) (q : State) (u : Unfinished) (headers : List Header) → Counts s e r p q → Keeps s e r p (trailed q u headers)
+k_trailed : (s e r p : ℕ) (q : State) (u : OpenBlock) (headers : List Header) → Counts s e r p q → Keeps s e r p (trailed q u headers)
 unfolding trailed
 k_trailed s e r p q u headers c =
     k_if s e r p (u.ended && are_good_trailers headers) _ _
     (kept (request_ends u.stream q) (Some (happening.End u.stream)) (c_request s e r p u.stream q c)) (k_reset s e r p q u.stream 1 c)
 
-k_headers : (s e r p : ℕ) (q : State) (u : Unfinished) (headers : List Header) → Counts s e r p q → Keeps s e r p (headers_rows q u headers)
+k_headers : (s e r p : ℕ) (q : State) (u : OpenBlock) (headers : List Header) → Counts s e r p q → Keeps s e r p (headers_rows q u headers)
 k_headers s e r p q u headers c =
-    k_or s e r p (nat_lt q.highest u.stream) (opened q u headers) (or_else (closed_in q u headers) (or_else (ended_in q u headers) (trailed q u headers))) (k_opened s e r p q u headers c)
+    k_or s e r p (nat_lt q.last_stream_id u.stream) (opened q u headers) (or_else (closed_in q u headers) (or_else (ended_in q u headers) (trailed q u headers))) (k_opened s e r p q u headers c)
     (k_or s e r p (not (is_live u.stream q.streams)) (nothing q) (or_else (ended_in q u headers) (trailed q u headers)) (kept q None c)
-    (k_or s e r p (has_ended u.stream q.streams) (reset_with q u.stream 5) (trailed q u headers) (k_reset s e r p q u.stream 5 c) (k_trailed s e r p q u headers c)))
+    (k_or s e r p (is_remote_closed u.stream q.streams) (reset_with q u.stream 5) (trailed q u headers) (k_reset s e r p q u.stream 5 c) (k_trailed s e r p q u headers c)))
 
 k_decoded : (s e r p : ℕ) (g : Gathered) (d : Result (List Header) HpackFault) (after : Standing) → Counts s e r p g.state → Keeps s e r p (decoded_rows g d after)
 k_decoded s e r p g (Err f) after c = fell _ _
 k_decoded s e r p g (Ok headers) after c = k_headers s e r p (tabled after g.state) g.block headers c
 
-k_block : (s e r p : ℕ) (g : Gathered) → g.block.pieces ≡ p → Counts s e r p g.state → Keeps s e r p (block_rows g)
-k_block s e r p g pieces c =
-    k_or s e r p (nat_lt 16384 (length g.block.bytes)) (fault g.state 11 cause.BlockTooLong) (or_else (grows g) (decoded_rows g (decoding g).0 (decoding g).1)) (fell _ _)
-    (k_or s e r p (not g.whole) (nothing (record g.state { unfinished = Some g.block })) (decoded_rows g (decoding g).0 (decoding g).1) (kept (record g.state { unfinished = Some g.block }) None (c.0, c.1, c.2, pieces))
+k_block : (s e r p : ℕ) (g : Gathered) → g.block.continuations ≡ p → Counts s e r p g.state → Keeps s e r p (block_rows g)
+k_block s e r p g continuations c =
+    k_or s e r p (nat_lt 16384 (length g.block.bytes)) (fault g.state cause.BlockTooLong) (or_else (grows g) (decoded_rows g (decoding g).0 (decoding g).1)) (fell _ _)
+    (k_or s e r p (not g.whole) (nothing (record g.state { open_block = Some g.block })) (decoded_rows g (decoding g).0 (decoding g).1) (kept (record g.state { open_block = Some g.block }) None (c.0, c.1, c.2, continuations))
     (k_decoded s e r p g (decoding g).0 (decoding g).1 c))
 
 k_head : (s e r p : ℕ) (q : State) (n : ℕ) (bytes : List ℕ) (ended whole : Bool) → Counts s e r p q → Keeps 0 0 r 0 (head_rows q n bytes ended whole)
@@ -191,15 +191,15 @@ k_head s e r p q n bytes ended whole c =
     k_or 0 0 r 0 (n % 2 == 0) _ (block_rows (started q n bytes ended whole)) (fell _ _)
     (k_block 0 0 r 0 (started q n bytes ended whole) refl (refl, refl, c.2, tt))
 
-k_gathered : (s e r p : ℕ) (q : State) (h : Option Unfinished) (bytes : List ℕ) (whole : Bool) → q.unfinished ≡ h → Counts s e r p q → PiecesAre p h → Keeps s e r (p + 1) (gathered_rows q (continued q h bytes whole))
-k_gathered s e r p q None bytes whole same c pieces = kept q None (c.0, c.1, c.2, rw same tt)
-k_gathered s e r p q (Some u) bytes whole same c pieces =
-    k_block s e r (p + 1) (record { state = record q { unfinished = None }; block = record u { bytes = u.bytes ++ bytes; pieces = u.pieces + 1 }; whole = whole }) (ap (λ (m : ℕ). m + 1) pieces) (c.0, c.1, c.2, tt)
+k_gathered : (s e r p : ℕ) (q : State) (h : Option OpenBlock) (bytes : List ℕ) (whole : Bool) → q.open_block ≡ h → Counts s e r p q → ContinuationsAre p h → Keeps s e r (p + 1) (gathered_rows q (continued q h bytes whole))
+k_gathered s e r p q None bytes whole same c continuations = kept q None (c.0, c.1, c.2, rw same tt)
+k_gathered s e r p q (Some u) bytes whole same c continuations =
+    k_block s e r (p + 1) (record { state = record q { open_block = None }; block = record u { bytes = u.bytes ++ bytes; continuations = u.continuations + 1 }; whole = whole }) (ap (λ (m : ℕ). m + 1) continuations) (c.0, c.1, c.2, tt)
 
 k_continuation : (s e r p : ℕ) (q : State) (n : ℕ) (bytes : List ℕ) (whole : Bool) → Counts s e r p q → Keeps s e r (p + 1) (continuation_rows q n bytes whole)
 k_continuation s e r p q n bytes whole c =
-    k_or s e r (p + 1) (has_come 64 (pieces_of q.unfinished)) _ (gathered_rows q (continued q q.unfinished bytes whole)) (fell _ _)
-    (k_gathered s e r p q q.unfinished bytes whole refl c c.3)
+    k_or s e r (p + 1) (has_come 64 (continuations_of q.open_block)) _ (gathered_rows q (continued q q.open_block bytes whole)) (fell _ _)
+    (k_gathered s e r p q q.open_block bytes whole refl c c.3)
 
 -- ---- the table
 
@@ -231,17 +231,17 @@ k_kind s e r p q n (Settings pairs) c = k_settings s e r p q n pairs c
 k_kind s e r p q n SettingsAck c = kept q None c
 k_kind s e r p q n PushPromise c = fell _ _
 k_kind s e r p q n (Ping ack word) c = k_ping s e r p q n ack word c
-k_kind s e r p q n (GoAway last code) c = kept (record q { going = true }) None c
+k_kind s e r p q n (GoAway last code) c = kept (record q { goaway_received = true }) None c
 k_kind s e r p q n (WindowUpdate step) c = k_windows s e r p q n step c
 k_kind s e r p q n (Continuation bytes whole) c = k_continuation s e r p q n bytes whole c
 k_kind s e r p q n (Unknown kind) c = kept q None c
 
 k_guarded : (s e r p : ℕ) (q : State) (n : ℕ) (body : Body) (rest : Outcome) → Keeps s e r p rest → Keeps s e r p (guarded q n body rest)
 k_guarded s e r p q n body rest k =
-    k_or s e r p (not (is_settings body) && not q.greeted) _ _ (fell _ _)
-    (k_or s e r p (interrupts q.unfinished n (is_continuation body)) _ _ (fell _ _)
-    (k_or s e r p (is_continuation body && is_none q.unfinished) _ _ (fell _ _)
-    (k_or s e r p (is_misplaced n body) (fault q 1 cause.StreamZero) rest (fell _ _) k)))
+    k_or s e r p (not (is_settings body) && not q.settings_received) _ _ (fell _ _)
+    (k_or s e r p (interrupts q.open_block n (is_continuation body)) _ _ (fell _ _)
+    (k_or s e r p (is_continuation body && is_none q.open_block) _ _ (fell _ _)
+    (k_or s e r p (is_misplaced n body) (fault q cause.StreamZero) rest (fell _ _) k)))
 
 keeps_peer : (s e r p : ℕ) (q : State) (f : Frame) → Counts s e r p q → Keeps (next_settings f.body s) (next_empty f.body e) (after_early (is_early q f.stream f.body) r) (next_pieces f.body p) (peer q f)
 keeps_peer s e r p q f c = rw (peer_is q f) (k_guarded _ _ _ _ q f.stream f.body (kind_rows q f.stream f.body) (k_kind s e r p q f.stream f.body c))
@@ -258,7 +258,7 @@ counts_of s e r p _ (fell control f) = tt
 
 c_answer : (s e r p n : ℕ) (q : State) → Counts s e r p q → Counts s e r p (answer_ends n q)
 unfolding answer_ends
-c_answer s e r p n q c = at_cond (λ (x : State). Counts s e r p x) (has_ended n q.streams) (closed n q) (record q { streams = answering n q.streams }) (c_closed s e r p n q c) c
+c_answer s e r p n q c = at_cond (λ (x : State). Counts s e r p x) (is_remote_closed n q.streams) (closed n q) (record q { streams = with_local_closed n q.streams }) (c_closed s e r p n q c) c
 
 c_answers : (s e r p : ℕ) (ns : List ℕ) (q : State) → Counts s e r p q → Counts s e r p (answers_end ns q)
 c_answers s e r p [] q c = c
@@ -267,26 +267,26 @@ c_answers s e r p (n ∷ ns) q c = c_answers s e r p ns (answer_ends n q) (c_ans
 c_after : (s e r p : ℕ) (q : State) (x : Pulled) → Counts s e r p q → Counts s e (cond (moved q x) 0 r) p (after_pull q x)
 unfolding after_pull
 c_after s e r p q x c =
-    c_answers s e (cond (moved q x) 0 r) p x.ended (record q { outbox = x.left; resets = cond (moved q x) 0 q.resets })
+    c_answers s e (cond (moved q x) 0 r) p x.ended (record q { outbox = x.left; rapid_reset_count = cond (moved q x) 0 q.rapid_reset_count })
     (c.0, c.1, ap (λ (m : ℕ). cond (moved q x) 0 m) c.2, c.3)
 
 c_cond : (s e r p : ℕ) (b : Bool) (q : State) (o : Out) → Counts s e r p q → Counts s e r p (cond b (record q { outbox = o }) q)
 c_cond s e r p b q o c = at_cond (λ (x : State). Counts s e r p x) b (record q { outbox = o }) q c c
 
-c_head : (s e r p n : ℕ) (block : List ℕ) (q : State) → Counts s e r p q → Counts s e r p (given_head n block q)
-unfolding given_head
+c_head : (s e r p n : ℕ) (block : List ℕ) (q : State) → Counts s e r p q → Counts s e r p (headed_on n block q)
+unfolding headed_on
 c_head s e r p n block q c = c_cond s e r p (takes n q) q (headed n block q.outbox) c
 
-c_last : (s e r p n : ℕ) (block : List ℕ) (q : State) → Counts s e r p q → Counts s e r p (given_last n block q)
-unfolding given_last
-c_last s e r p n block q c = c_cond s e r p (takes n q) q (closed_by n block q.outbox) c
+c_last : (s e r p n : ℕ) (block : List ℕ) (q : State) → Counts s e r p q → Counts s e r p (finished_on n block q)
+unfolding finished_on
+c_last s e r p n block q c = c_cond s e r p (takes n q) q (finished_by n block q.outbox) c
 
-c_message : (s e r p n : ℕ) (message : List ℕ) (q : State) → Counts s e r p q → Counts s e r p (given_message n message q)
-unfolding given_message
+c_message : (s e r p n : ℕ) (message : List ℕ) (q : State) → Counts s e r p q → Counts s e r p (offered_on n message q)
+unfolding offered_on
 c_message s e r p n message q c = c_cond s e r p (takes n q) q (offered n message q.outbox) c
 
-c_left : (s e r p n : ℕ) (q : State) → Counts s e r p q → Counts s e r p (left_message n q)
-unfolding left_message
+c_left : (s e r p n : ℕ) (q : State) → Counts s e r p q → Counts s e r p (withdrawn_on n q)
+unfolding withdrawn_on
 c_left s e r p n q c = c_cond s e r p (takes n q) q (withdrawn n q.outbox) c
 
 c_refuse : (s e r p n code : ℕ) (q : State) → Counts s e r p q → Counts s e r p (reset_by n code q)
@@ -348,4 +348,4 @@ reached [] q e = rw e (refl, refl, refl, tt)
 reached (step ∷ before) q r = from_nexts step before q (step_nexts step before r.0 q (reached before r.0 r.1) r.2)
 
 pub reached_counts : (steps : List Step) (q : State) → Reaches steps q → HasCounts steps q
-reached_counts steps q r = let c = reached steps q r in record { settings = c.0; empty = c.1; resets = c.2; pieces = c.3 }
+reached_counts steps q r = let c = reached steps q r in record { settings_count = c.0; empty_data_count = c.1; rapid_reset_count = c.2; continuations = c.3 }

@@ -7,9 +7,9 @@ use Rattle.h2_frame.specs.declared.frame.Body.TheVariants.{Bytes, Headers, Reset
 use Rattle.h2_frame.specs.declared.frame.Frame.{Frame}
 use Rattle.h2_conn.specs.declared.happening.Happening.{Happening}
 use Rattle.h2_conn.specs.declared.state.State.{State}
-use Rattle.h2_conn.specs.declared.state.Unfinished.{Unfinished}
+use Rattle.h2_conn.specs.declared.state.OpenBlock.{OpenBlock}
 use Rattle.h2_conn.specs.Peer.{goes, is_settings, is_continuation, is_empty_data, is_rapid, peer}
-use Rattle.h2_conn.specs.Conns.{fresh, given_head, given_last, given_message, left_message, reset_by, moved, after_pull}
+use Rattle.h2_conn.specs.Conns.{fresh, headed_on, finished_on, offered_on, withdrawn_on, reset_by, moved, after_pull}
 
 -- ---- histories
 
@@ -31,10 +31,10 @@ is_early q n body = false
 abbrev pub Leads : Step → State → State → Type 0
 Leads (Came f early) old new = (early ≡ is_early old f.stream f.body) × ((told : Option Happening) × (peer old f ≡ goes new told))
 Leads (Wrote ends) old new = (ends ≡ moved old (pulled old.outbox)) × (new ≡ after_pull old (pulled old.outbox))
-Leads (Head n block) old new = new ≡ given_head n block old
-Leads (Finish n block) old new = new ≡ given_last n block old
-Leads (Offer n message) old new = new ≡ given_message n message old
-Leads (Withdraw n) old new = new ≡ left_message n old
+Leads (Head n block) old new = new ≡ headed_on n block old
+Leads (Finish n block) old new = new ≡ finished_on n block old
+Leads (Offer n message) old new = new ≡ offered_on n message old
+Leads (Withdraw n) old new = new ≡ withdrawn_on n old
 Leads (Refuse n code) old new = new ≡ reset_by n code old
 
 -- these steps, the last one first, took a new connection to this state
@@ -80,13 +80,13 @@ since ends counts steps = count_by counts (take_while (λ step. not (ends step))
 
 -- ---- the counts as sums
 
-abbrev pub PiecesAre : ℕ → Option Unfinished → Type 0
-PiecesAre n None = Unit {0}
-PiecesAre n (Some u) = u.pieces ≡ n
+abbrev pub ContinuationsAre : ℕ → Option OpenBlock → Type 0
+ContinuationsAre n None = Unit {0}
+ContinuationsAre n (Some u) = u.continuations ≡ n
 
 -- own rule: what the flood rows count
 pub record HasCounts (steps : List Step) (q : State) : Type 0 where
-  pub settings : q.settings ≡ since restarts (came is_settings) steps
-  pub empty : q.empty ≡ since restarts (came is_empty) steps
-  pub resets : q.resets ≡ since ends_resets came_early steps
-  pub pieces : PiecesAre (since (came is_head) (came is_continuation) steps) q.unfinished
+  pub settings_count : q.settings_count ≡ since restarts (came is_settings) steps
+  pub empty_data_count : q.empty_data_count ≡ since restarts (came is_empty) steps
+  pub rapid_reset_count : q.rapid_reset_count ≡ since ends_resets came_early steps
+  pub continuations : ContinuationsAre (since (came is_head) (came is_continuation) steps) q.open_block

@@ -1,6 +1,7 @@
 -- The table's rows for each kind of frame, as the code takes them.
 use Rattle.std.specs.Prelude.{◌≡◌, ℕ, ◌<◌, ◌≤◌, ◌^◌, Bool, true, List, [], ◌∷◌, length, Option, Some, None, Result, Ok, Err}
 use Rattle.wl_octets.specs.declared.header.Header.{Header}
+use Rattle.h2_wire.specs.declared.limit.TheConstants.{MAX_FRAME_SIZE}
 use Rattle.hpack.specs.declared.fault.HpackFault.{HpackFault}
 use Rattle.hpack.specs.declared.fault.HpackFault.TheVariants as hpack
 use Rattle.hpack.specs.Decoding.{Standing}
@@ -14,8 +15,9 @@ use Rattle.h2_conn.specs.declared.fault.ConnError.{ConnError}
 use Rattle.h2_conn.specs.declared.fault.ConnError.TheVariants as refusal
 use Rattle.h2_conn.specs.declared.happening.Happening.{Happening}
 use Rattle.h2_conn.specs.declared.state.State.{State}
-use Rattle.h2_conn.specs.declared.state.Unfinished.{Unfinished}
-use Rattle.h2_conn.specs.Peer.{Outcome, goes, fails, fault, nothing, or_else, first_row, first_frame, block_open, no_block, stream_zero, empty_data_flood, idle_stream, data_received, reset_flood, reset_received, settings_flood, settings_received, no_effect, ping_received, connection_window, stream_window, continuation_flood, even_stream, Gathered, started, continued, too_long, grows, decoding, code_of, tabled, head_in, closed_in, ended_in, trailed}
+use Rattle.h2_conn.specs.declared.state.OpenBlock.{OpenBlock}
+use Rattle.h2_conn.specs.Faults.{failure}
+use Rattle.h2_conn.specs.Peer.{Outcome, goes, fails, fault, nothing, or_else, first_row, first_frame, block_open, no_block, stream_zero, empty_data_flood, idle_stream, data_rule, reset_flood, reset_rule, settings_flood, settings_rule, no_effect, ping_rule, connection_window_rule, stream_window_rule, continuation_flood, even_stream, Gathered, started, continued, too_long, grows, decoding, tabled, head_in, closed_in, ended_in, trailed}
 
 -- what was answered is what is due, unless memory ran out
 abbrev pub Steps : Outcome → Result (Option Happening) ConnError → State → Type 0
@@ -28,33 +30,34 @@ Steps due (Err refusal.Memory) new = Unit {0}
 abbrev pub guarded : State → ℕ → Body → Outcome → Outcome
 guarded q n body rest = or_else (first_frame q n body) (or_else (block_open q n body) (or_else (no_block q n body) (or_else (stream_zero q n body) rest)))
 
-abbrev pub Guards : Option ConnFault → State → ℕ → Body → Type 0
-Guards (Some f) q n body = (rest : Outcome) → guarded q n body rest ≡ fails q.outbox.control f
-Guards None q n body = (rest : Outcome) → guarded q n body rest ≡ rest
+abbrev pub Guards : Result (Unit {0}) ConnError → State → ℕ → Body → Type 0
+Guards (Ok x) q n body = (rest : Outcome) → guarded q n body rest ≡ rest
+Guards (Err (refusal.Fault f)) q n body = (rest : Outcome) → guarded q n body rest ≡ fails q.outbox.control f
+Guards (Err refusal.Memory) q n body = ⊥
 
 -- ---- each kind's own rows
 
 abbrev pub data_rows : State → ℕ → List ℕ → ℕ → Bool → Outcome
-data_rows q n bytes size ended = first_row (empty_data_flood ∷ idle_stream ∷ data_received ∷ []) q n (Bytes bytes size ended)
+data_rows q n bytes size ended = first_row (empty_data_flood ∷ idle_stream ∷ data_rule ∷ []) q n (Bytes bytes size ended)
 
 abbrev pub reset_rows : State → ℕ → ℕ → Outcome
-reset_rows q n code = first_row (reset_flood ∷ idle_stream ∷ reset_received ∷ []) q n (Reset code)
+reset_rows q n code = first_row (reset_flood ∷ idle_stream ∷ reset_rule ∷ []) q n (Reset code)
 
 abbrev pub settings_rows : State → ℕ → List Setting → Outcome
-settings_rows q n pairs = first_row (settings_flood ∷ settings_received ∷ []) q n (Settings pairs)
+settings_rows q n pairs = first_row (settings_flood ∷ settings_rule ∷ []) q n (Settings pairs)
 
 abbrev pub ping_rows : State → ℕ → Bool → ℕ → Outcome
-ping_rows q n ack word = first_row (no_effect ∷ ping_received ∷ []) q n (Ping ack word)
+ping_rows q n ack word = first_row (no_effect ∷ ping_rule ∷ []) q n (Ping ack word)
 
 abbrev pub window_rows : State → ℕ → ℕ → Outcome
-window_rows q n step = first_row (connection_window ∷ idle_stream ∷ stream_window ∷ []) q n (WindowUpdate step)
+window_rows q n step = first_row (connection_window_rule ∷ idle_stream ∷ stream_window_rule ∷ []) q n (WindowUpdate step)
 
 -- a whole block's own rows
-abbrev pub headers_rows : State → Unfinished → List Header → Outcome
+abbrev pub headers_rows : State → OpenBlock → List Header → Outcome
 headers_rows q u headers = or_else (head_in q u headers) (or_else (closed_in q u headers) (or_else (ended_in q u headers) (trailed q u headers)))
 
 abbrev pub decoded_rows : Gathered → Result (List Header) HpackFault → Standing → Outcome
-decoded_rows g (Err f) d = fault g.state (code_of f) (cause.Hpack f)
+decoded_rows g (Err f) d = fault g.state (cause.Hpack f)
 decoded_rows g (Ok headers) d = headers_rows (tabled d g.state) g.block headers
 
 abbrev pub block_rows : Gathered → Outcome
@@ -68,7 +71,7 @@ gathered_rows q None = nothing q
 gathered_rows q (Some g) = block_rows g
 
 abbrev pub continuation_rows : State → ℕ → List ℕ → Bool → Outcome
-continuation_rows q n bytes whole = or_else (continuation_flood q n (Continuation bytes whole)) (gathered_rows q (continued q q.unfinished bytes whole))
+continuation_rows q n bytes whole = or_else (continuation_flood q n (Continuation bytes whole)) (gathered_rows q (continued q q.open_block bytes whole))
 
 abbrev pub kind_rows : State → ℕ → Body → Outcome
 kind_rows q n (Bytes bytes size ended) = data_rows q n bytes size ended
@@ -77,28 +80,24 @@ kind_rows q n Priority = nothing q
 kind_rows q n (Reset code) = reset_rows q n code
 kind_rows q n (Settings pairs) = settings_rows q n pairs
 kind_rows q n SettingsAck = nothing q
-kind_rows q n PushPromise = fault q 1 cause.Push
+kind_rows q n PushPromise = fault q cause.Push
 kind_rows q n (Ping ack word) = ping_rows q n ack word
-kind_rows q n (GoAway last code) = nothing (record q { going = true })
+kind_rows q n (GoAway last code) = nothing (record q { goaway_received = true })
 kind_rows q n (WindowUpdate step) = window_rows q n step
 kind_rows q n (Continuation bytes whole) = continuation_rows q n bytes whole
 kind_rows q n (Unknown kind) = nothing q
 
 -- ---- what the code gives
 
-abbrev pub IsFault : ℕ → HpackFault → ConnError → State → Type 0
-IsFault code f e q = e ≡ refusal.Fault (record { code = code; last_stream = q.highest; cause = cause.Hpack f })
-
 -- the refusal of a block
 abbrev pub IsRefusal : HpackFault → ConnError → State → Type 0
 IsRefusal hpack.Memory e q = e ≡ refusal.Memory
-IsRefusal hpack.ListTooLong e q = IsFault 11 hpack.ListTooLong e q
-IsRefusal f e q = IsFault 9 f e q
+IsRefusal f e q = e ≡ refusal.Fault (failure q (cause.Hpack f))
 
 -- what each frame of a connection has: numbers of 31 bits, and a size of DATA that counts its bytes and stays within a frame
 abbrev pub FitsBody : Body → Type 0
 FitsBody (WindowUpdate step) = step < 2 ^ 31
-FitsBody (Bytes bytes size ended) = (length bytes ≤ size) × (size ≤ 16384)
+FitsBody (Bytes bytes size ended) = (length bytes ≤ size) × (size ≤ MAX_FRAME_SIZE)
 FitsBody body = Unit {0}
 
 abbrev pub Fits : Frame → Type 0

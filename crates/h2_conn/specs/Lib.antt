@@ -1,4 +1,5 @@
 pub mod Streams
+pub mod Faults
 pub mod Peer
 pub mod Kinds
 pub mod Conns

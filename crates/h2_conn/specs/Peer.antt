@@ -5,8 +5,11 @@
 use Rattle.std.specs.Prelude.{ℕ, ◌+◌, ◌%◌, ◌==◌, nat_lt, Bool, true, false, not, ◌&&◌, ◌||◌, if◌then◌else◌, List, [], ◌∷◌, ◌++◌, length, Option, Some, None, Result, Ok, Err}
 use Rattle.wl_octets.specs.declared.header.Header.{Header}
 use Rattle.h2_headers.specs.Heads.{are_good_trailers}
+use Rattle.h2_wire.specs.declared.error_code.TheConstants.{PROTOCOL_ERROR, FLOW_CONTROL_ERROR, STREAM_CLOSED, REFUSED_STREAM}
+use Rattle.h2_wire.specs.declared.frame_type.TheConstants.{DATA, RST_STREAM, SETTINGS, CONTINUATION}
+use Rattle.h2_wire.specs.declared.limit.TheConstants.{MAX_FRAME_SIZE, MAX_ALLOWED_FRAME_SIZE, MAX_WINDOW_SIZE, INITIAL_HEADER_TABLE_SIZE, MAX_LIVE_STREAMS}
+use Rattle.h2_wire.specs.declared.setting.TheConstants as setting
 use Rattle.hpack.specs.declared.fault.HpackFault.{HpackFault}
-use Rattle.hpack.specs.declared.fault.HpackFault.TheVariants.{ListTooLong}
 use Rattle.hpack.specs.Decoding.{Standing, decoded}
 use Rattle.h2_frame.specs.declared.frame.Body.{Body}
 use Rattle.h2_frame.specs.declared.frame.Body.TheVariants.{Bytes, Headers, Priority, Reset, Settings, SettingsAck, PushPromise, Ping, GoAway, WindowUpdate, Continuation, Unknown}
@@ -20,9 +23,11 @@ use Rattle.h2_conn.specs.declared.fault.ConnCause.TheVariants as cause
 use Rattle.h2_conn.specs.declared.fault.ConnFault.{ConnFault}
 use Rattle.h2_conn.specs.declared.happening.Happening.{Happening}
 use Rattle.h2_conn.specs.declared.happening.Happening.TheVariants as happening
+use Rattle.h2_conn.specs.declared.limits.TheConstants.{MAX_BLOCK_SIZE, MAX_CONTINUATIONS, MAX_SETTINGS, MAX_EMPTY_DATA, MAX_RAPID_RESETS}
 use Rattle.h2_conn.specs.declared.state.State.{State}
-use Rattle.h2_conn.specs.declared.state.Unfinished.{Unfinished}
-use Rattle.h2_conn.specs.Streams.{is_live, has_ended, is_answered, without, ending}
+use Rattle.h2_conn.specs.declared.state.OpenBlock.{OpenBlock}
+use Rattle.h2_conn.specs.Faults.{failure}
+use Rattle.h2_conn.specs.Streams.{is_live, is_remote_closed, is_local_closed, without, with_remote_closed}
 
 -- ---- what a row gives
 
@@ -31,10 +36,9 @@ pub data Outcome : Type 0 where
   goes : State → Option Happening → Outcome
   fails : List ℕ → ConnFault → Outcome
 
--- RFC 9113, section 5.4.1: a connection error, by its code (section 7): 1 PROTOCOL_ERROR, 3 FLOW_CONTROL_ERROR,
--- 6 FRAME_SIZE_ERROR, 9 COMPRESSION_ERROR, 11 ENHANCE_YOUR_CALM
-abbrev pub fault : State → ℕ → ConnCause → Outcome
-fault q code why = fails q.outbox.control (record { code = code; last_stream = q.highest; cause = why })
+-- RFC 9113, section 5.4.1: a connection error
+abbrev pub fault : State → ConnCause → Outcome
+fault q why = fails q.outbox.control (failure q why)
 
 abbrev pub nothing : State → Outcome
 nothing q = goes q None
@@ -57,11 +61,11 @@ reset_with q n code =
 
 -- RFC 9113, section 5.1: the request ends, and the stream closes if its END_STREAM was written
 unfoldable pub request_ends : ℕ → State → State
-request_ends n q = if is_answered n q.streams then closed n q else record q { streams = ending n q.streams }
+request_ends n q = if is_local_closed n q.streams then closed n q else record q { streams = with_remote_closed n q.streams }
 
 -- own rule: all bytes are taken as they come, so their window is given back at once
-unfoldable pub given_back : ℕ → ℕ → State → State
-given_back n size q = if size == 0 then q else queued n (WindowUpdate size) q
+unfoldable pub replenished : ℕ → ℕ → State → State
+replenished n size q = if size == 0 then q else queued n (WindowUpdate size) q
 
 -- a window moved, or would pass the largest
 abbrev pub with_window : State → Result Out Overflow → Outcome → Outcome
@@ -70,7 +74,7 @@ with_window q (Err e) over = over
 
 -- RFC 9113, section 5.1.1: even and not 0, which a client doesn't open, or above all that were opened
 abbrev pub is_idle : State → ℕ → Bool
-is_idle q n = (n % 2 == 0 && not (n == 0)) || nat_lt q.highest n
+is_idle q n = (n % 2 == 0 && not (n == 0)) || nat_lt q.last_stream_id n
 
 -- so many came already
 abbrev pub has_come : ℕ → ℕ → Bool
@@ -90,27 +94,27 @@ is_settings body = false
 
 -- RFC 9113, section 3.4: the connection's first frame is SETTINGS, and no acknowledgement
 abbrev pub first_frame : Rule
-first_frame q n body = when (not (is_settings body) && not q.greeted) (fault q 1 cause.FirstFrame)
+first_frame q n body = when (not (is_settings body) && not q.settings_received) (fault q cause.FirstFrame)
 
 abbrev pub is_continuation : Body → Bool
 is_continuation (Continuation bytes whole) = true
 is_continuation body = false
 
-abbrev pub interrupts : Option Unfinished → ℕ → Bool → Bool
+abbrev pub interrupts : Option OpenBlock → ℕ → Bool → Bool
 interrupts None n continues = false
 interrupts (Some u) n continues = not (continues && u.stream == n)
 
 -- RFC 9113, section 6.10: nothing comes between the frames of a header block
 abbrev pub block_open : Rule
-block_open q n body = when (interrupts q.unfinished n (is_continuation body)) (fault q 1 cause.BlockOpen)
+block_open q n body = when (interrupts q.open_block n (is_continuation body)) (fault q cause.BlockOpen)
 
-abbrev pub is_none : Option Unfinished → Bool
+abbrev pub is_none : Option OpenBlock → Bool
 is_none None = true
 is_none (Some u) = false
 
 -- RFC 9113, section 6.10: CONTINUATION without a block
 abbrev pub no_block : Rule
-no_block q n body = when (is_continuation body && is_none q.unfinished) (fault q 1 cause.NoBlock)
+no_block q n body = when (is_continuation body && is_none q.open_block) (fault q cause.NoBlock)
 
 -- frames of a stream on the connection, and frames of the connection on a stream
 abbrev pub is_misplaced : ℕ → Body → Bool
@@ -126,27 +130,27 @@ is_misplaced n body = false
 
 -- RFC 9113, sections 6.1 to 6.5, 6.7 and 6.8
 abbrev pub stream_zero : Rule
-stream_zero q n body = when (is_misplaced n body) (fault q 1 cause.StreamZero)
+stream_zero q n body = when (is_misplaced n body) (fault q cause.StreamZero)
 
 -- RFC 9113, section 8.4: a client does not push
 abbrev pub pushed : Rule
-pushed q n PushPromise = Some (fault q 1 cause.Push)
+pushed q n PushPromise = Some (fault q cause.Push)
 pushed q n body = None
 
 -- ---- four floods: own rules, within RFC 9113, section 10.5
 
-abbrev pub pieces_of : Option Unfinished → ℕ
-pieces_of None = 0
-pieces_of (Some u) = u.pieces
+abbrev pub continuations_of : Option OpenBlock → ℕ
+continuations_of None = 0
+continuations_of (Some u) = u.continuations
 
 -- the 65th CONTINUATION of a block
 abbrev pub continuation_flood : Rule
-continuation_flood q n (Continuation bytes whole) = when (has_come 64 (pieces_of q.unfinished)) (fault q 11 (cause.Flood 9 65))
+continuation_flood q n (Continuation bytes whole) = when (has_come MAX_CONTINUATIONS (continuations_of q.open_block)) (fault q (cause.Flood CONTINUATION (MAX_CONTINUATIONS + 1)))
 continuation_flood q n body = None
 
 -- the 101st SETTINGS since the last HEADERS, or DATA with bytes, or the start
 abbrev pub settings_flood : Rule
-settings_flood q n (Settings pairs) = when (has_come 100 q.settings) (fault q 11 (cause.Flood 4 101))
+settings_flood q n (Settings pairs) = when (has_come MAX_SETTINGS q.settings_count) (fault q (cause.Flood SETTINGS (MAX_SETTINGS + 1)))
 settings_flood q n body = None
 
 abbrev pub is_empty_data : List ℕ → Bool → Bool
@@ -154,7 +158,7 @@ is_empty_data bytes ended = length bytes == 0 && not ended
 
 -- the 101st DATA without bytes and without END_STREAM since the same
 abbrev pub empty_data_flood : Rule
-empty_data_flood q n (Bytes bytes size ended) = when (is_empty_data bytes ended && has_come 100 q.empty) (fault q 11 (cause.Flood 0 101))
+empty_data_flood q n (Bytes bytes size ended) = when (is_empty_data bytes ended && has_come MAX_EMPTY_DATA q.empty_data_count) (fault q (cause.Flood DATA (MAX_EMPTY_DATA + 1)))
 empty_data_flood q n body = None
 
 -- a stream was opened and is reset before anything was written on it
@@ -163,7 +167,7 @@ is_rapid q n = is_live n q.streams && not (is_written n q.outbox)
 
 -- the 10,001st such RST_STREAM since the last message began, or END_STREAM was written, or the start
 abbrev pub reset_flood : Rule
-reset_flood q n (Reset code) = when (is_rapid q n && has_come 10000 q.resets) (fault q 11 (cause.Flood 3 10001))
+reset_flood q n (Reset code) = when (is_rapid q n && has_come MAX_RAPID_RESETS q.rapid_reset_count) (fault q (cause.Flood RST_STREAM (MAX_RAPID_RESETS + 1)))
 reset_flood q n body = None
 
 -- ---- the connection's own frames
@@ -178,21 +182,23 @@ no_effect q n body = None
 
 -- the sizes that SETTINGS_MAX_FRAME_SIZE may have
 abbrev pub is_frame_size : ℕ → Bool
-is_frame_size value = not (nat_lt value 16384) && not (nat_lt 16777215 value)
+is_frame_size value = not (nat_lt value MAX_FRAME_SIZE) && not (nat_lt MAX_ALLOWED_FRAME_SIZE value)
 
 -- RFC 7541, section 4.2: a header table below the 4,096 bytes at the start is answered by one size update. Own rule: once a
 -- connection, since this side's blocks use no table.
 unfoldable pub noted : ℕ → State → State
-noted value q = if nat_lt value 4096 && not (is_shrunk q.outbox) then record q { outbox = shrunk q.outbox } else q
+noted value q = if nat_lt value INITIAL_HEADER_TABLE_SIZE && not (is_shrunk q.outbox) then record q { outbox = shrunk q.outbox } else q
 
--- RFC 9113, section 6.5.2: 1 is the header table's size, 2 allows pushing, 4 is the initial window of streams, 5 the largest
--- frame, which this side doesn't use; all others are ignored
+-- RFC 9113, section 6.5.2: this side pushes nothing and writes frames of the least size, so two settings are only judged; all
+-- others are ignored
 unfoldable pub set_one : State → Setting → Outcome
 set_one q p =
-    if p.id == 1 then nothing (noted p.value q)
-    else if p.id == 2 then (if nat_lt 1 p.value then fault q 1 (cause.Setting 2) else nothing q)
-    else if p.id == 4 then (if nat_lt 2147483647 p.value then fault q 3 (cause.Setting 4) else with_window q (initialed p.value q.outbox) (fault q 3 cause.Overflow))
-    else if p.id == 5 then (if is_frame_size p.value then nothing q else fault q 1 (cause.Setting 5))
+    if p.id == setting.HEADER_TABLE_SIZE then nothing (noted p.value q)
+    else if p.id == setting.ENABLE_PUSH then (if nat_lt 1 p.value then fault q (cause.Setting setting.ENABLE_PUSH) else nothing q)
+    else if p.id == setting.INITIAL_WINDOW_SIZE then (
+    if nat_lt MAX_WINDOW_SIZE p.value then fault q (cause.Setting setting.INITIAL_WINDOW_SIZE)
+    else with_window q (initialed p.value q.outbox) (fault q cause.Overflow))
+    else if p.id == setting.MAX_FRAME_SIZE then (if is_frame_size p.value then nothing q else fault q (cause.Setting setting.MAX_FRAME_SIZE))
     else nothing q
 
 abbrev pub after_setting : Outcome → (State → Outcome) → Outcome
@@ -205,54 +211,54 @@ set_all [] q = nothing (queued 0 SettingsAck q)
 set_all (p ∷ ps) q = after_setting (set_one q p) (set_all ps)
 
 unfoldable pub set_frame : State → List Setting → Outcome
-set_frame q pairs = set_all pairs (record q { greeted = true; settings = q.settings + 1 })
+set_frame q pairs = set_all pairs (record q { settings_received = true; settings_count = q.settings_count + 1 })
 
-abbrev pub settings_received : Rule
-settings_received q n (Settings pairs) = Some (set_frame q pairs)
-settings_received q n body = None
+abbrev pub settings_rule : Rule
+settings_rule q n (Settings pairs) = Some (set_frame q pairs)
+settings_rule q n body = None
 
 -- RFC 9113, section 6.7: the same eight bytes back
-abbrev pub ping_received : Rule
-ping_received q n (Ping false word) = Some (nothing (queued 0 (Ping true word) q))
-ping_received q n body = None
+abbrev pub ping_rule : Rule
+ping_rule q n (Ping false word) = Some (nothing (queued 0 (Ping true word) q))
+ping_rule q n body = None
 
 -- RFC 9113, section 6.8: the peer opens no stream any more; those that are live go on
-abbrev pub goaway_received : Rule
-goaway_received q n (GoAway last code) = Some (nothing (record q { going = true }))
-goaway_received q n body = None
+abbrev pub goaway_rule : Rule
+goaway_rule q n (GoAway last code) = Some (nothing (record q { goaway_received = true }))
+goaway_rule q n body = None
 
 -- RFC 9113, sections 6.9 and 6.9.1
-abbrev pub connection_window : Rule
-connection_window q n (WindowUpdate step) =
-    when (n == 0) (if step == 0 then fault q 1 cause.ZeroStep else with_window q (grown 0 step q.outbox) (fault q 3 cause.Overflow))
-connection_window q n body = None
+abbrev pub connection_window_rule : Rule
+connection_window_rule q n (WindowUpdate step) =
+    when (n == 0) (if step == 0 then fault q cause.ZeroStep else with_window q (grown 0 step q.outbox) (fault q cause.Overflow))
+connection_window_rule q n body = None
 
 -- ---- frames of a stream
 
 -- RFC 9113, section 5.1: an idle stream takes HEADERS and PRIORITY alone
 abbrev pub idle_stream : Rule
-idle_stream q n (Bytes bytes size ended) = when (is_idle q n) (fault q 1 cause.Idle)
-idle_stream q n (Reset code) = when (is_idle q n) (fault q 1 cause.Idle)
-idle_stream q n (WindowUpdate step) = when (is_idle q n) (fault q 1 cause.Idle)
+idle_stream q n (Bytes bytes size ended) = when (is_idle q n) (fault q cause.Idle)
+idle_stream q n (Reset code) = when (is_idle q n) (fault q cause.Idle)
+idle_stream q n (WindowUpdate step) = when (is_idle q n) (fault q cause.Idle)
 idle_stream q n body = None
 
 -- RFC 9113, section 6.4; on a closed stream it means nothing
 unfoldable pub reset_frame : State → ℕ → Outcome
 reset_frame q n =
-    if is_live n q.streams then goes (closed n (if is_written n q.outbox then q else record q { resets = q.resets + 1 })) (Some (happening.Gone n))
+    if is_live n q.streams then goes (closed n (if is_written n q.outbox then q else record q { rapid_reset_count = q.rapid_reset_count + 1 })) (Some (happening.Gone n))
     else nothing q
 
-abbrev pub reset_received : Rule
-reset_received q n (Reset code) = Some (reset_frame q n)
-reset_received q n body = None
+abbrev pub reset_rule : Rule
+reset_rule q n (Reset code) = Some (reset_frame q n)
+reset_rule q n body = None
 
 -- RFC 9113, sections 6.9 and 6.9.1; on a closed stream it means nothing (section 5.1)
-abbrev pub stream_window : Rule
-stream_window q n (WindowUpdate step) = Some (
+abbrev pub stream_window_rule : Rule
+stream_window_rule q n (WindowUpdate step) = Some (
     if not (is_live n q.streams) then nothing q
-    else if step == 0 then reset_with q n 1
-    else with_window q (grown n step q.outbox) (reset_with q n 3))
-stream_window q n body = None
+    else if step == 0 then reset_with q n PROTOCOL_ERROR
+    else with_window q (grown n step q.outbox) (reset_with q n FLOW_CONTROL_ERROR))
+stream_window_rule q n body = None
 
 -- On a stream whose request has ended, RFC 9113, section 5.1, asks for STREAM_CLOSED. Own rule: DATA on a closed stream is
 -- ignored. This departs from RFC 9113, section 6.1, which asks for a stream error STREAM_CLOSED there, where this side did
@@ -260,23 +266,23 @@ stream_window q n body = None
 unfoldable pub data_on : State → ℕ → List ℕ → ℕ → Bool → Outcome
 data_on q n bytes size ended =
     if not (is_live n q.streams) then nothing q
-    else if has_ended n q.streams then reset_with q n 5
-    else goes (if ended then request_ends n q else given_back n size q) (Some (happening.Body n bytes ended))
+    else if is_remote_closed n q.streams then reset_with q n STREAM_CLOSED
+    else goes (if ended then request_ends n q else replenished n size q) (Some (happening.Body n bytes ended))
 
 -- own rule: what the flood rows count
 unfoldable pub data_counted : List ℕ → Bool → State → State
 data_counted bytes ended q =
-    if length bytes == 0 then (if ended then q else record q { empty = q.empty + 1 })
-    else record q { settings = 0; empty = 0 }
+    if length bytes == 0 then (if ended then q else record q { empty_data_count = q.empty_data_count + 1 })
+    else record q { settings_count = 0; empty_data_count = 0 }
 
 -- RFC 9113, sections 6.1 and 6.9: the connection's window is given back on each stream, closed or not
-abbrev pub data_received : Rule
-data_received q n (Bytes bytes size ended) = Some (data_on (given_back 0 size (data_counted bytes ended q)) n bytes size ended)
-data_received q n body = None
+abbrev pub data_rule : Rule
+data_rule q n (Bytes bytes size ended) = Some (data_on (replenished 0 size (data_counted bytes ended q)) n bytes size ended)
+data_rule q n body = None
 
 -- RFC 9113, section 5.1.1: a client opens streams of odd numbers
 abbrev pub even_stream : Rule
-even_stream q n (Headers block ended whole) = when (n % 2 == 0) (fault q 1 cause.EvenStream)
+even_stream q n (Headers block ended whole) = when (n % 2 == 0) (fault q cause.EvenStream)
 even_stream q n body = None
 
 -- ---- header blocks
@@ -284,19 +290,19 @@ even_stream q n body = None
 -- a block with the bytes of this frame, and the state without it
 pub record Gathered : Type 0 where
   pub state : State
-  pub block : Unfinished
+  pub block : OpenBlock
   pub whole : Bool
 
 abbrev pub started : State → ℕ → List ℕ → Bool → Bool → Gathered
-started q n bytes ended whole = record { state = record q { settings = 0; empty = 0; unfinished = None }; block = record { stream = n; ended = ended; bytes = bytes; pieces = 0 }; whole = whole }
+started q n bytes ended whole = record { state = record q { settings_count = 0; empty_data_count = 0; open_block = None }; block = record { stream = n; ended = ended; bytes = bytes; continuations = 0 }; whole = whole }
 
-abbrev pub continued : State → Option Unfinished → List ℕ → Bool → Option Gathered
+abbrev pub continued : State → Option OpenBlock → List ℕ → Bool → Option Gathered
 continued q None bytes whole = None
-continued q (Some u) bytes whole = Some (record { state = record q { unfinished = None }; block = record u { bytes = u.bytes ++ bytes; pieces = u.pieces + 1 }; whole = whole })
+continued q (Some u) bytes whole = Some (record { state = record q { open_block = None }; block = record u { bytes = u.bytes ++ bytes; continuations = u.continuations + 1 }; whole = whole })
 
 abbrev pub gathered : State → ℕ → Body → Option Gathered
 gathered q n (Headers bytes ended whole) = Some (started q n bytes ended whole)
-gathered q n (Continuation bytes whole) = continued q q.unfinished bytes whole
+gathered q n (Continuation bytes whole) = continued q q.open_block bytes whole
 gathered q n body = None
 
 abbrev pub if_gathered : Option Gathered → (Gathered → Option Outcome) → Option Outcome
@@ -305,14 +311,14 @@ if_gathered (Some g) row = row g
 
 -- own rule, within RFC 9113, section 10.5.1
 abbrev pub too_long : Gathered → Option Outcome
-too_long g = when (nat_lt 16384 (length g.block.bytes)) (fault g.state 11 cause.BlockTooLong)
+too_long g = when (nat_lt MAX_BLOCK_SIZE (length g.block.bytes)) (fault g.state cause.BlockTooLong)
 
 abbrev pub block_too_long : Rule
 block_too_long q n body = if_gathered (gathered q n body) too_long
 
 -- RFC 9113, section 4.3: END_HEADERS is not set
 abbrev pub grows : Gathered → Option Outcome
-grows g = when (not g.whole) (nothing (record g.state { unfinished = Some g.block }))
+grows g = when (not g.whole) (nothing (record g.state { open_block = Some g.block }))
 
 abbrev pub block_grows : Rule
 block_grows q n body = if_gathered (gathered q n body) grows
@@ -324,10 +330,6 @@ Decoding = Result (List Header) HpackFault × Standing
 abbrev pub decoding : Gathered → Decoding
 decoding g = decoded g.state.decoder g.block.bytes
 
-abbrev pub code_of : HpackFault → ℕ
-code_of ListTooLong = 11
-code_of f = 9
-
 abbrev pub if_wrong : Result (List Header) HpackFault → (HpackFault → Outcome) → Option Outcome
 if_wrong (Err f) row = Some (row f)
 if_wrong (Ok headers) row = None
@@ -338,36 +340,36 @@ if_right (Ok headers) row = row headers
 
 -- RFC 9113, section 4.3: COMPRESSION_ERROR. Own rule, within section 10.5.1: for a list that is too long ENHANCE_YOUR_CALM.
 abbrev pub is_wrong : Gathered → Option Outcome
-is_wrong g = if_wrong (decoding g).0 (λ f. fault g.state (code_of f) (cause.Hpack f))
+is_wrong g = if_wrong (decoding g).0 (λ f. fault g.state (cause.Hpack f))
 
 abbrev pub block_fault : Rule
 block_fault q n body = if_gathered (gathered q n body) is_wrong
 
 -- RFC 9113, section 5.1.2: a stream above the limit is refused with REFUSED_STREAM, and was never live. Own rule: the limit
 -- is 16.
-unfoldable pub opened : State → Unfinished → List Header → Outcome
+unfoldable pub opened : State → OpenBlock → List Header → Outcome
 opened q u headers =
-    if nat_lt (length q.streams) 16 then goes (record q { highest = u.stream; streams = q.streams ++ record { number = u.stream; ended = u.ended; answered = false } ∷ []; outbox = added u.stream q.outbox }) (Some (happening.Head u.stream headers u.ended))
-    else nothing (queued u.stream (Reset 7) (record q { highest = u.stream }))
+    if nat_lt (length q.streams) MAX_LIVE_STREAMS then goes (record q { last_stream_id = u.stream; streams = q.streams ++ record { number = u.stream; remote_closed = u.ended; local_closed = false } ∷ []; outbox = added u.stream q.outbox }) (Some (happening.Head u.stream headers u.ended))
+    else nothing (queued u.stream (Reset REFUSED_STREAM) (record q { last_stream_id = u.stream }))
 
 -- the decoder goes on from here
 abbrev pub tabled : Standing → State → State
 tabled d q = record q { decoder = d }
 
 -- RFC 9113, section 5.1.1: a stream above all that were opened is a new one
-abbrev pub head_in : State → Unfinished → List Header → Option Outcome
-head_in q u headers = when (nat_lt q.highest u.stream) (opened q u headers)
+abbrev pub head_in : State → OpenBlock → List Header → Option Outcome
+head_in q u headers = when (nat_lt q.last_stream_id u.stream) (opened q u headers)
 
 -- Own rule: a late block on a closed stream is ignored, but for the decoder's table. This departs from RFC 9113, section
 -- 5.1.1, which asks for a connection error PROTOCOL_ERROR for HEADERS on a lower odd number that was skipped.
-abbrev pub closed_in : State → Unfinished → List Header → Option Outcome
+abbrev pub closed_in : State → OpenBlock → List Header → Option Outcome
 closed_in q u headers = when (not (is_live u.stream q.streams)) (nothing q)
 
 -- RFC 9113, section 5.1: STREAM_CLOSED on a stream whose request has ended
-abbrev pub ended_in : State → Unfinished → List Header → Option Outcome
-ended_in q u headers = when (has_ended u.stream q.streams) (reset_with q u.stream 5)
+abbrev pub ended_in : State → OpenBlock → List Header → Option Outcome
+ended_in q u headers = when (is_remote_closed u.stream q.streams) (reset_with q u.stream STREAM_CLOSED)
 
-abbrev pub with_headers : (State → Unfinished → List Header → Option Outcome) → Gathered → Option Outcome
+abbrev pub with_headers : (State → OpenBlock → List Header → Option Outcome) → Gathered → Option Outcome
 with_headers row g = if_right (decoding g).0 (row (tabled (decoding g).1 g.state) g.block)
 
 abbrev pub new_head : Rule
@@ -380,12 +382,12 @@ abbrev pub late_on_ended : Rule
 late_on_ended q n body = if_gathered (gathered q n body) (with_headers ended_in)
 
 -- RFC 9113, sections 8.1 and 8.1.1: a second block ends the request, and is malformed where it doesn't say so
-unfoldable pub trailed : State → Unfinished → List Header → Outcome
+unfoldable pub trailed : State → OpenBlock → List Header → Outcome
 trailed q u headers =
     if u.ended && are_good_trailers headers then goes (request_ends u.stream q) (Some (happening.End u.stream))
-    else reset_with q u.stream 1
+    else reset_with q u.stream PROTOCOL_ERROR
 
-abbrev pub trailers_in : State → Unfinished → List Header → Option Outcome
+abbrev pub trailers_in : State → OpenBlock → List Header → Option Outcome
 trailers_in q u headers = Some (trailed q u headers)
 
 abbrev pub trailers : Rule
@@ -397,8 +399,8 @@ abbrev pub table : List Rule
 table =
     first_frame ∷ block_open ∷ no_block ∷ stream_zero ∷ pushed
     ∷ continuation_flood ∷ settings_flood ∷ empty_data_flood ∷ reset_flood
-    ∷ no_effect ∷ settings_received ∷ ping_received ∷ goaway_received ∷ connection_window
-    ∷ idle_stream ∷ reset_received ∷ stream_window ∷ data_received
+    ∷ no_effect ∷ settings_rule ∷ ping_rule ∷ goaway_rule ∷ connection_window_rule
+    ∷ idle_stream ∷ reset_rule ∷ stream_window_rule ∷ data_rule
     ∷ even_stream ∷ block_too_long ∷ block_grows ∷ block_fault ∷ new_head ∷ late_on_closed ∷ late_on_ended ∷ trailers ∷ []
 
 abbrev pub or_else : Option Outcome → Outcome → Outcome

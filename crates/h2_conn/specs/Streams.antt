@@ -7,26 +7,26 @@ abbrev pub is_live : ℕ → List Stream → Bool
 is_live n streams = list_any (λ s. s.number == n) streams
 
 -- the stream is live and its request has ended: half-closed (remote) in RFC 9113, section 5.1
-abbrev pub has_ended : ℕ → List Stream → Bool
-has_ended n streams = list_any (λ s. s.number == n && s.ended) streams
+abbrev pub is_remote_closed : ℕ → List Stream → Bool
+is_remote_closed n streams = list_any (λ s. s.number == n && s.remote_closed) streams
 
 -- the stream is live and its END_STREAM was written: half-closed (local)
-abbrev pub is_answered : ℕ → List Stream → Bool
-is_answered n streams = list_any (λ s. s.number == n && s.answered) streams
+abbrev pub is_local_closed : ℕ → List Stream → Bool
+is_local_closed n streams = list_any (λ s. s.number == n && s.local_closed) streams
 
 abbrev pub without : ℕ → List Stream → List Stream
 without n streams = filter (λ s. not (s.number == n)) streams
 
-abbrev pub ended_if : ℕ → Stream → Stream
-ended_if n s = if s.number == n then record s { ended = true } else s
+abbrev pub remote_closed_if : ℕ → Stream → Stream
+remote_closed_if n s = if s.number == n then record s { remote_closed = true } else s
 
-abbrev pub answered_if : ℕ → Stream → Stream
-answered_if n s = if s.number == n then record s { answered = true } else s
+abbrev pub local_closed_if : ℕ → Stream → Stream
+local_closed_if n s = if s.number == n then record s { local_closed = true } else s
 
 -- the request of this stream has ended
-abbrev pub ending : ℕ → List Stream → List Stream
-ending n streams = map (ended_if n) streams
+abbrev pub with_remote_closed : ℕ → List Stream → List Stream
+with_remote_closed n streams = map (remote_closed_if n) streams
 
 -- the END_STREAM of this stream was written
-abbrev pub answering : ℕ → List Stream → List Stream
-answering n streams = map (answered_if n) streams
+abbrev pub with_local_closed : ℕ → List Stream → List Stream
+with_local_closed n streams = map (local_closed_if n) streams

@@ -1,9 +1,10 @@
 //! What a server says on a stream.
 
 ghost use Rattle.std.specs.Prelude.{◌≡◌, ◌≤◌, ◌<◌, length, IfOk, OnOk, OnErr};
+ghost use Rattle.h2_wire.specs.declared.limit.TheConstants.{MAX_BLOCK_LEN};
 ghost use Rattle.hpack.specs.Tables.{list_size};
 ghost use Rattle.hpack.specs.Writing.{spelled_block};
-ghost use Rattle.h2_conn.specs.Conns.{takes, given_head, given_last, given_message, left_message, reset_by};
+ghost use Rattle.h2_conn.specs.Conns.{takes, headed_on, finished_on, offered_on, withdrawn_on, reset_by};
 
 use crate::control::{close, queue_reset};
 use crate::state::State;
@@ -21,20 +22,15 @@ fn takes(state: &State, stream: u32) -> bool
 /// The block of some headers.
 fn block(alloc: Global, headers: &[Header]) -> Result<Octets, Memory>
     requires { list_size headers.now ≤ 16384 }
-    ensures { IfOk result (λ block. (block ≡ spelled_block headers.now) × (length block ≤ 16383)) }
+    ensures { IfOk result (λ block. (block ≡ spelled_block headers.now) × (length block ≤ MAX_BLOCK_LEN)) }
 {
     encode_plain(alloc, headers)
 }
 
-#[tactic(auto, unfolding(crate::specs::Conns::given_head))]
-pub fn give_head(
-    state: &mut State,
-    alloc: Global,
-    stream: u32,
-    headers: &[Header],
-) -> Result<(), Memory>
+#[tactic(auto, unfolding(crate::specs::Conns::headed_on))]
+pub fn head(state: &mut State, alloc: Global, stream: u32, headers: &[Header]) -> Result<(), Memory>
     requires { list_size headers.now ≤ 16384 }
-    ensures { OnOk result (state.new ≡ given_head stream (spelled_block headers.now) state.old) }
+    ensures { OnOk result (state.new ≡ headed_on stream (spelled_block headers.now) state.old) }
 {
     if takes(state, stream) {
         let block = block(alloc, headers)?;
@@ -43,15 +39,15 @@ pub fn give_head(
     Ok(())
 }
 
-#[tactic(auto, unfolding(crate::specs::Conns::given_last))]
-pub fn give_last(
+#[tactic(auto, unfolding(crate::specs::Conns::finished_on))]
+pub fn finish(
     state: &mut State,
     alloc: Global,
     stream: u32,
     headers: &[Header],
 ) -> Result<(), Memory>
     requires { list_size headers.now ≤ 16384 }
-    ensures { OnOk result (state.new ≡ given_last stream (spelled_block headers.now) state.old) }
+    ensures { OnOk result (state.new ≡ finished_on stream (spelled_block headers.now) state.old) }
 {
     if takes(state, stream) {
         let block = block(alloc, headers)?;
@@ -60,19 +56,19 @@ pub fn give_last(
     Ok(())
 }
 
-#[tactic(auto, unfolding(crate::specs::Conns::given_message))]
-pub fn give_message(state: &mut State, stream: u32, message: Octets)
+#[tactic(auto, unfolding(crate::specs::Conns::offered_on))]
+pub fn offer(state: &mut State, stream: u32, message: Octets)
     requires { 0 < length message }
-    ensures { state.new ≡ given_message stream message state.old }
+    ensures { state.new ≡ offered_on stream message state.old }
 {
     if takes(state, stream) {
         state.outbox.offer(stream, message);
     }
 }
 
-#[tactic(auto, unfolding(crate::specs::Conns::left_message))]
-pub fn leave_message(state: &mut State, stream: u32)
-    ensures { state.new ≡ left_message stream state.old }
+#[tactic(auto, unfolding(crate::specs::Conns::withdrawn_on))]
+pub fn withdraw(state: &mut State, stream: u32)
+    ensures { state.new ≡ withdrawn_on stream state.old }
 {
     if takes(state, stream) {
         state.outbox.withdraw(stream);
@@ -80,11 +76,11 @@ pub fn leave_message(state: &mut State, stream: u32)
 }
 
 #[tactic(auto, unfolding(crate::specs::Conns::reset_by))]
-pub fn reset_by(state: &mut State, alloc: Global, stream: u32, code: u32) -> Result<(), Memory>
+pub fn reset(state: &mut State, stream: u32, code: u32) -> Result<(), Memory>
     ensures { OnOk result (state.new ≡ reset_by stream code state.old) }
 {
     if state.streams.is_live(stream) {
-        queue_reset(state, alloc, stream, code)?;
+        queue_reset(state, stream, code)?;
         close(state, stream);
     }
     Ok(())

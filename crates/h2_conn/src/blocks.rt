@@ -7,14 +7,17 @@ ghost use Rattle.h2_conn.specs.Peer.{opened, trailed};
 ghost use Rattle.h2_conn.specs.Kinds.{Steps, IsRefusal, headers_rows, decoded_rows, block_rows, head_rows, continuation_rows};
 ghost use Rattle.h2_conn.specs.Sound.{Sound};
 
-use crate::control::{Told, end_request, fault, queue_reset, reset_with};
+use crate::control::{RowResult, end_request, fault, queue_reset, reset_with};
 use crate::fault::{ConnCause, ConnError};
 use crate::happening::Happening;
-use crate::state::{State, Unfinished};
+use crate::limits::{MAX_BLOCK_SIZE, MAX_CONTINUATIONS};
+use crate::state::{OpenBlock, State};
 use crate::streams::Stream;
+use h2_headers::are_well_formed_trailers;
+use h2_wire::limit::MAX_LIVE_STREAMS;
+use h2_wire::{error_code, frame_type};
 use hpack::HpackFault;
 use std::alloc::Global;
-use h2_headers::are_well_formed_trailers;
 use wl_octets::{Header, Octets, Row};
 
 /// Whether trailers are not malformed: each name and value is as it may be, and there is no
@@ -26,37 +29,36 @@ pub fn judge_trailers(headers: &[Header]) -> bool
 }
 
 /// The refusal of a block that can't be decoded.
-fn refused(state: &State, why: HpackFault) -> ConnError
+fn refusal(state: &State, why: HpackFault) -> ConnError
     ensures { IsRefusal why result state.now }
 {
     match why {
         HpackFault::Memory => ConnError::Memory,
-        HpackFault::ListTooLong => ConnError::Fault(fault(state, 11, ConnCause::Hpack(why))),
-        _ => ConnError::Fault(fault(state, 9, ConnCause::Hpack(why))),
+        _ => fault(state, ConnCause::Hpack(why)),
     }
 }
 
 /// Opens a stream, or refuses it where 16 are live.
 #[tactic(auto, using(crate::proofs::Sounds::has_room, crate::proofs::Sounds::is_above), unfolding(crate::specs::Peer::opened))]
-fn open(state: &mut State, alloc: Global, block: &Unfinished, headers: Row<Header>) -> Told
-    requires new { state.old.highest < block.now.stream }
+fn open(state: &mut State, block: &OpenBlock, headers: Row<Header>) -> RowResult
+    requires new { state.old.last_stream_id < block.now.stream }
     requires low { block.now.stream < 2 ^ 31 }
     requires sound { Sound state.old }
     ensures { Steps (opened state.old block.now headers) result state.new }
 {
     let stream = block.stream;
     let ended = block.ended;
-    if state.streams.len() >= 16 {
-        state.highest = stream;
-        queue_reset(state, alloc, stream, 7)?;
+    if state.streams.len() as usize >= MAX_LIVE_STREAMS {
+        state.last_stream_id = stream;
+        queue_reset(state, stream, error_code::REFUSED_STREAM)?;
         return Ok(None);
     }
     state.outbox.add(stream);
-    state.highest = stream;
+    state.last_stream_id = stream;
     state.streams.push(Stream {
         number: stream,
-        ended,
-        answered: false,
+        remote_closed: ended,
+        local_closed: false,
     });
     Ok(Some(Happening::Head {
         stream,
@@ -67,7 +69,7 @@ fn open(state: &mut State, alloc: Global, block: &Unfinished, headers: Row<Heade
 
 /// Takes the second block of a request, its trailers.
 #[tactic(auto, unfolding(crate::specs::Peer::trailed))]
-fn trail(state: &mut State, alloc: Global, block: &Unfinished, headers: &[Header]) -> Told
+fn take_trailers(state: &mut State, block: &OpenBlock, headers: &[Header]) -> RowResult
     ensures { Steps (trailed state.old block.now headers.now) result state.new }
 {
     let stream = block.stream;
@@ -75,51 +77,51 @@ fn trail(state: &mut State, alloc: Global, block: &Unfinished, headers: &[Header
         end_request(state, stream);
         Ok(Some(Happening::End { stream }))
     } else {
-        reset_with(state, alloc, stream, 1)
+        reset_with(state, stream, error_code::PROTOCOL_ERROR)
     }
 }
 
 /// The rows of a block's headers.
-fn named(state: &mut State, alloc: Global, block: &Unfinished, headers: Row<Header>) -> Told
+fn header_rows(state: &mut State, block: &OpenBlock, headers: Row<Header>) -> RowResult
     requires low { block.now.stream < 2 ^ 31 }
     requires sound { Sound state.old }
     ensures { Steps (headers_rows state.old block.now headers) result state.new }
 {
-    if state.highest < block.stream {
-        return open(state, alloc, block, headers);
+    if state.last_stream_id < block.stream {
+        return open(state, block, headers);
     }
     if !state.streams.is_live(block.stream) {
         return Ok(None);
     }
-    if state.streams.has_ended(block.stream) {
-        return reset_with(state, alloc, block.stream, 5);
+    if state.streams.is_remote_closed(block.stream) {
+        return reset_with(state, block.stream, error_code::STREAM_CLOSED);
     }
-    trail(state, alloc, block, headers.as_slice())
+    take_trailers(state, block, headers.as_slice())
 }
 
 /// The rows of a whole block.
-fn whole_block(state: &mut State, alloc: Global, block: Unfinished) -> Told
+fn whole_block(state: &mut State, alloc: Global, block: OpenBlock) -> RowResult
     requires low { block.stream < 2 ^ 31 }
     requires sound { Sound state.old }
     ensures { Steps (decoded_rows (record { state = state.old; block = block; whole = true }) (decoded state.old.decoder block.bytes).0 (decoded state.old.decoder block.bytes).1) result state.new }
 {
     match state.decoder.block(alloc, block.bytes.as_slice()) {
-        Ok(headers) => named(state, alloc, &block, headers),
-        Err(why) => Err(refused(state, why)),
+        Ok(headers) => header_rows(state, &block, headers),
+        Err(why) => Err(refusal(state, why)),
     }
 }
 
 /// The rows of a block with the bytes of its last frame so far.
-fn block_in(state: &mut State, alloc: Global, block: Unfinished, whole: bool) -> Told
+fn block_in(state: &mut State, alloc: Global, block: OpenBlock, whole: bool) -> RowResult
     requires low { block.stream < 2 ^ 31 }
     requires sound { Sound state.old }
     ensures { Steps (block_rows (record { state = state.old; block = block; whole = whole })) result state.new }
 {
-    if block.bytes.len() > 16_384 {
-        return Err(ConnError::Fault(fault(state, 11, ConnCause::BlockTooLong)));
+    if block.bytes.len() > MAX_BLOCK_SIZE {
+        return Err(fault(state, ConnCause::BlockTooLong));
     }
     if !whole {
-        state.unfinished = Some(block);
+        state.open_block = Some(block);
         return Ok(None);
     }
     whole_block(state, alloc, block)
@@ -133,22 +135,22 @@ pub fn head(
     bytes: Octets,
     ended: bool,
     whole: bool,
-) -> Told
+) -> RowResult
     requires low { stream < 2 ^ 31 }
     requires sound { Sound state.old }
     ensures { Steps (head_rows state.old stream bytes ended whole) result state.new }
 {
     if stream % 2 == 0 {
-        return Err(ConnError::Fault(fault(state, 1, ConnCause::EvenStream)));
+        return Err(fault(state, ConnCause::EvenStream));
     }
-    state.settings = 0;
-    state.empty = 0;
-    state.unfinished = None;
-    let block = Unfinished {
+    state.settings_count = 0;
+    state.empty_data_count = 0;
+    state.open_block = None;
+    let block = OpenBlock {
         stream,
         ended,
         bytes,
-        pieces: 0,
+        continuations: 0,
     };
     block_in(state, alloc, block, whole)
 }
@@ -160,17 +162,18 @@ pub fn continuation(
     stream: u32,
     bytes: Octets,
     whole: bool,
-) -> Told
+) -> RowResult
     requires { Sound state.old }
     ensures { Steps (continuation_rows state.old stream bytes whole) result state.new }
 {
-    match state.unfinished.take() {
+    match state.open_block.take() {
         Some(mut block) => {
-            if block.pieces >= 64 {
-                return Err(ConnError::Fault(fault(state, 11, ConnCause::Flood(9, 65))));
+            if block.continuations >= MAX_CONTINUATIONS {
+                let cause = ConnCause::Flood(frame_type::CONTINUATION, MAX_CONTINUATIONS + 1);
+                return Err(fault(state, cause));
             }
             block.bytes.push_slice(bytes.as_slice())?;
-            block.pieces += 1;
+            block.continuations += 1;
             block_in(state, alloc, block, whole)
         }
         None => Ok(None),

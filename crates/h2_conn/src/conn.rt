@@ -1,23 +1,25 @@
 //! A connection.
 
-ghost use Rattle.std.specs.Prelude.{◌≡◌, ◌≤◌, ◌<◌, ◌^◌, ◌++◌, IfOk, OnOk, OnErr, length};
+ghost use Rattle.std.specs.Prelude.{◌≡◌, ◌≤◌, ◌<◌, ◌^◌, ◌++◌, IfOk, IfErr, OnOk, OnErr, IsErr, length};
+ghost use Rattle.list_laws.specs.Lists.{GainsFront};
 ghost use Rattle.hpack.specs.Tables.{list_size};
 ghost use Rattle.hpack.specs.Writing.{spelled_block};
 ghost use Rattle.h2_frame.specs.declared.fault.FrameFault.TheVariants as frames;
-ghost use Rattle.h2_conn.specs.declared.link.Link.TheVariants.{Open};
+ghost use Rattle.h2_conn.specs.declared.phase.Phase.TheVariants.{Open};
+ghost use Rattle.h2_conn.specs.Faults.{cause_of};
 ghost use Rattle.h2_conn.specs.Kinds.{Fits};
 ghost use Rattle.h2_conn.specs.Naming.{NamesOn};
-ghost use Rattle.h2_conn.specs.Conns.{past_of, is_live_on, live_on, is_going, begun_on, fresh, fault_of, told_list, Takes, Fails, Does, Flushes, given_head, given_last, reset_by, offers, withdraws, flushed};
+ghost use Rattle.h2_conn.specs.Conns.{is_live_on, live_on, is_going, begun_on, fresh, told_list, heard, Refuses, Repeats, Lasts, out_of_memory, frame_fault_on, after_frame_fault, headed_on, finished_on, reset_by, on_open, offers, withdraws, flushed};
 
-use crate::answers::{give_head, give_last, give_message, leave_message, reset_by};
-use crate::control::fault;
+use crate::answers;
+use crate::control::failure;
 use crate::fault::{ConnCause, ConnError, ConnFault};
 use crate::happening::Happening;
-use crate::link::{Link, Past};
+use crate::phase::{Phase, Totals};
 use crate::state::State;
 use crate::streams::Streams;
-use crate::table::sound_row;
-use crate::writing::{last_words, pull};
+use crate::table::step;
+use crate::writing::{final_bytes, pull};
 use h2_flow::Outbox;
 use h2_frame::{Frame, FrameFault};
 use hpack::Decoder;
@@ -33,59 +35,59 @@ use wl_octets::{Header, Memory, Octets, Row};
 #[derive(Drop)]
 pub struct Conn {
     alloc: Global,
-    link: Link,
+    phase: Phase,
 }
 
 impl Model for Conn {
-    ghost use Rattle.h2_conn.specs.declared.link.Link.{Link};
-    ghost use Rattle.h2_conn.specs.Sound.{SoundLink};
+    ghost use Rattle.h2_conn.specs.declared.phase.Phase.{Phase};
+    ghost use Rattle.h2_conn.specs.Sound.{SoundPhase};
 
-    ghost Value = { Link };
+    ghost Value = { Phase };
 
-    ghost view = { λ conn. conn.link };
+    ghost view = { λ conn. conn.phase };
 
-    ghost invariant = { λ conn. SoundLink conn.link };
+    ghost invariant = { λ conn. SoundPhase conn.phase };
 }
 
 /// What is kept of a connection for good.
-fn past(link: &Link) -> Past
-    ensures { result ≡ record { going = is_going link.now; begun = begun_on link.now } }
+fn totals(phase: &Phase) -> Totals
+    ensures { result ≡ record { goaway_received = is_going phase.now; messages_started = begun_on phase.now } }
 {
-    match link {
-        Link::Open(state) => Past {
-            going: state.going,
-            begun: state.outbox.begun(),
+    match phase {
+        Phase::Open(state) => Totals {
+            goaway_received: state.goaway_received,
+            messages_started: state.outbox.begun(),
         },
-        Link::Failed { past, .. } => *past,
-        Link::Broken(past) => *past,
+        Phase::Failed { totals, .. } => *totals,
+        Phase::OutOfMemory(totals) => *totals,
     }
 }
 
-/// The fault of bytes that are no frames.
-fn frame_fault(state: &State, why: FrameFault) -> ConnFault
-    ensures { result ≡ fault_of state.now why }
+/// The cause of bytes that are no frames.
+fn cause_of(why: FrameFault) -> ConnCause
+    requires { why ≡ frames.Memory → ⊥ }
+    ensures { result ≡ cause_of why }
 {
     match why {
-        FrameFault::BadPreface(at) => fault(state, 1, ConnCause::Preface(at)),
-        FrameFault::TooLarge(length) => fault(state, 6, ConnCause::TooLarge(length)),
-        FrameFault::WrongLength(kind, length) => {
-            fault(state, 6, ConnCause::WrongLength(kind, length))
-        }
-        FrameFault::BadPadding | FrameFault::Memory => fault(state, 1, ConnCause::BadPadding),
+        FrameFault::BadPreface(at) => ConnCause::Preface(at),
+        FrameFault::TooLarge(length) => ConnCause::TooLarge(length),
+        FrameFault::WrongLength(kind, length) => ConnCause::WrongLength(kind, length),
+        FrameFault::BadPadding => ConnCause::BadPadding,
+        FrameFault::Memory => unreachable!(),
     }
 }
 
-/// Tells a happening.
+/// Puts what a frame told behind what `into` holds.
 fn tell(told: Option<Happening>, into: &mut Row<Happening>) -> Result<(), Memory>
     ensures ok { OnOk result (into.new ≡ into.old ++ told_list told) }
     ensures err { OnErr result (into.new ≡ into.old) }
 {
     match told {
+        None => Ok(()),
         Some(happening) => match into.push(happening) {
             Ok(()) => Ok(()),
             Err((_, memory)) => Err(memory),
         },
-        None => Ok(()),
     }
 }
 
@@ -95,20 +97,20 @@ impl Conn {
         ensures { IfOk result (λ conn. conn ≡ Open fresh) }
     {
         let state = State {
-            greeted: false,
-            going: false,
-            highest: 0,
+            settings_received: false,
+            goaway_received: false,
+            last_stream_id: 0,
             streams: Streams::start(alloc)?,
-            unfinished: None,
-            settings: 0,
-            empty: 0,
-            resets: 0,
+            open_block: None,
+            settings_count: 0,
+            empty_data_count: 0,
+            rapid_reset_count: 0,
             decoder: Decoder::start(alloc),
             outbox: Outbox::start(alloc)?,
         };
         Ok(Conn {
             alloc,
-            link: Link::Open(state),
+            phase: Phase::Open(state),
         })
     }
 
@@ -118,29 +120,46 @@ impl Conn {
     #[tactic(auto, using(crate::proofs::Sounds::names_on), unfolding(crate::specs::Conns::heard))]
     pub fn frame(&mut self, frame: Frame, into: &mut Row<Happening>) -> Result<(), ConnError>
         requires { Fits frame }
-        ensures step { Takes self.old frame result into.old into.new self.new }
+        ensures after { OnOk result (self.new ≡ (heard self.old frame).after) }
+        ensures told { OnOk result (into.new ≡ into.old ++ (heard self.old frame).told) }
+        ensures right { OnOk result ((heard self.old frame).fault ≡ None) }
+        ensures refused { IfErr result (λ error. Refuses error (heard self.old frame) self.old self.new) }
+        ensures kept { OnErr result (into.new ≡ into.old) }
+        ensures again { Repeats self.old result }
         ensures named { NamesOn self.old frame }
     {
-        let past = past(&self.link);
-        match mem::replace(&mut self.link, Link::Broken(past)) {
-            Link::Open(mut state) => match sound_row(&mut state, self.alloc, frame) {
+        let totals = totals(&self.phase);
+        match mem::replace(&mut self.phase, Phase::OutOfMemory(totals)) {
+            Phase::Open(mut state) => match step(&mut state, self.alloc, frame) {
                 Ok(told) => {
                     tell(told, into)?;
-                    self.link = Link::Open(state);
+                    self.phase = Phase::Open(state);
                     Ok(())
                 }
                 Err(ConnError::Fault(fault)) => {
-                    let left = last_words(self.alloc, state.outbox.queued(), fault)?;
-                    self.link = Link::Failed { fault, left, past };
+                    let left = final_bytes(self.alloc, state.outbox.queued(), fault)?;
+                    self.phase = Phase::Failed {
+                        fault,
+                        left,
+                        totals,
+                    };
                     Err(ConnError::Fault(fault))
                 }
                 Err(ConnError::Memory) => Err(ConnError::Memory),
             },
-            Link::Failed { fault, left, past } => {
-                self.link = Link::Failed { fault, left, past };
+            Phase::Failed {
+                fault,
+                left,
+                totals,
+            } => {
+                self.phase = Phase::Failed {
+                    fault,
+                    left,
+                    totals,
+                };
                 Err(ConnError::Fault(fault))
             }
-            Link::Broken(_) => Err(ConnError::Memory),
+            Phase::OutOfMemory(_) => Err(ConnError::Memory),
         }
     }
 
@@ -148,89 +167,124 @@ impl Conn {
     /// failed before, it answers that fault.
     pub fn fail(&mut self, why: FrameFault) -> Result<ConnFault, Memory>
         requires { why ≡ frames.Memory → ⊥ }
-        ensures { Fails self.old why result self.new }
+        ensures fault { IfOk result (λ fault. frame_fault_on why self.old ≡ Some fault) }
+        ensures after { OnOk result (self.new ≡ after_frame_fault why self.old) }
+        ensures err { OnErr result (self.new ≡ out_of_memory self.old) }
+        ensures again { Lasts self.old result }
     {
-        let past = past(&self.link);
-        match mem::replace(&mut self.link, Link::Broken(past)) {
-            Link::Open(state) => {
-                let fault = frame_fault(&state, why);
-                let left = last_words(self.alloc, state.outbox.queued(), fault)?;
-                self.link = Link::Failed { fault, left, past };
+        let totals = totals(&self.phase);
+        match mem::replace(&mut self.phase, Phase::OutOfMemory(totals)) {
+            Phase::Open(state) => {
+                let fault = failure(&state, cause_of(why));
+                let left = final_bytes(self.alloc, state.outbox.queued(), fault)?;
+                self.phase = Phase::Failed {
+                    fault,
+                    left,
+                    totals,
+                };
                 Ok(fault)
             }
-            Link::Failed { fault, left, past } => {
-                self.link = Link::Failed { fault, left, past };
+            Phase::Failed {
+                fault,
+                left,
+                totals,
+            } => {
+                self.phase = Phase::Failed {
+                    fault,
+                    left,
+                    totals,
+                };
                 Ok(fault)
             }
-            Link::Broken(_) => Err(Memory),
+            Phase::OutOfMemory(_) => Err(Memory),
         }
     }
 
     /// Gives a stream the head of its response. A stream that is not live, or was given its
     /// last headers, takes nothing. The sizes of the headers (name, value and 32 each) sum to
     /// at most 16,384.
-    #[tactic(auto, using(crate::proofs::Sounds::s_given_head))]
+    #[tactic(auto, using(crate::proofs::Sounds::s_headed_on))]
     pub fn head(&mut self, stream: u32, headers: &[Header]) -> Result<(), Memory>
         requires { list_size headers.now ≤ 16384 }
-        ensures { Does (given_head stream (spelled_block headers.now)) self.old result self.new }
+        ensures after { OnOk result (self.new ≡ on_open (headed_on stream (spelled_block headers.now)) self.old) }
+        ensures err { OnErr result (self.new ≡ out_of_memory self.old) }
+        ensures again { Lasts self.old result }
     {
-        let past = past(&self.link);
-        match mem::replace(&mut self.link, Link::Broken(past)) {
-            Link::Open(mut state) => {
-                give_head(&mut state, self.alloc, stream, headers)?;
-                self.link = Link::Open(state);
+        let totals = totals(&self.phase);
+        match mem::replace(&mut self.phase, Phase::OutOfMemory(totals)) {
+            Phase::Open(mut state) => {
+                answers::head(&mut state, self.alloc, stream, headers)?;
+                self.phase = Phase::Open(state);
                 Ok(())
             }
-            Link::Failed { fault, left, past } => {
-                self.link = Link::Failed { fault, left, past };
+            Phase::Failed {
+                fault,
+                left,
+                totals,
+            } => {
+                self.phase = Phase::Failed {
+                    fault,
+                    left,
+                    totals,
+                };
                 Ok(())
             }
-            Link::Broken(_) => Err(Memory),
+            Phase::OutOfMemory(_) => Err(Memory),
         }
     }
 
     /// Gives a stream its last headers, which are written with END_STREAM once no message is
     /// left. Else it is as `head`.
-    #[tactic(auto, using(crate::proofs::Sounds::s_given_last))]
+    #[tactic(auto, using(crate::proofs::Sounds::s_finished_on))]
     pub fn finish(&mut self, stream: u32, headers: &[Header]) -> Result<(), Memory>
         requires { list_size headers.now ≤ 16384 }
-        ensures { Does (given_last stream (spelled_block headers.now)) self.old result self.new }
+        ensures after { OnOk result (self.new ≡ on_open (finished_on stream (spelled_block headers.now)) self.old) }
+        ensures err { OnErr result (self.new ≡ out_of_memory self.old) }
+        ensures again { Lasts self.old result }
     {
-        let past = past(&self.link);
-        match mem::replace(&mut self.link, Link::Broken(past)) {
-            Link::Open(mut state) => {
-                give_last(&mut state, self.alloc, stream, headers)?;
-                self.link = Link::Open(state);
+        let totals = totals(&self.phase);
+        match mem::replace(&mut self.phase, Phase::OutOfMemory(totals)) {
+            Phase::Open(mut state) => {
+                answers::finish(&mut state, self.alloc, stream, headers)?;
+                self.phase = Phase::Open(state);
                 Ok(())
             }
-            Link::Failed { fault, left, past } => {
-                self.link = Link::Failed { fault, left, past };
+            Phase::Failed {
+                fault,
+                left,
+                totals,
+            } => {
+                self.phase = Phase::Failed {
+                    fault,
+                    left,
+                    totals,
+                };
                 Ok(())
             }
-            Link::Broken(_) => Err(Memory),
+            Phase::OutOfMemory(_) => Err(Memory),
         }
     }
 
     /// Offers a stream a message, which isn't empty: it takes the place of one that waits, and
     /// one that equals the message begun last withdraws it. A stream that is not live, or was
     /// given its last headers, takes nothing.
-    #[tactic(auto, using(crate::proofs::Sounds::s_given_message))]
+    #[tactic(auto, using(crate::proofs::Sounds::s_offered_on))]
     pub fn offer(&mut self, stream: u32, message: Octets)
         requires { 0 < length message }
         ensures { self.new ≡ offers stream message self.old }
     {
-        if let Link::Open(state) = &mut self.link {
-            give_message(state, stream, message);
+        if let Phase::Open(state) = &mut self.phase {
+            answers::offer(state, stream, message);
         }
     }
 
     /// Withdraws the message that waits on a stream, if one does.
-    #[tactic(auto, using(crate::proofs::Sounds::s_left_message))]
+    #[tactic(auto, using(crate::proofs::Sounds::s_withdrawn_on))]
     pub fn withdraw(&mut self, stream: u32)
         ensures { self.new ≡ withdraws stream self.old }
     {
-        if let Link::Open(state) = &mut self.link {
-            leave_message(state, stream);
+        if let Phase::Open(state) = &mut self.phase {
+            answers::withdraw(state, stream);
         }
     }
 
@@ -238,20 +292,30 @@ impl Conn {
     /// waits for it is dropped. A stream that is not live takes nothing.
     #[tactic(auto, using(crate::proofs::Sounds::s_reset_by))]
     pub fn reset(&mut self, stream: u32, code: u32) -> Result<(), Memory>
-        ensures { Does (reset_by stream code) self.old result self.new }
+        ensures after { OnOk result (self.new ≡ on_open (reset_by stream code) self.old) }
+        ensures err { OnErr result (self.new ≡ out_of_memory self.old) }
+        ensures again { Lasts self.old result }
     {
-        let past = past(&self.link);
-        match mem::replace(&mut self.link, Link::Broken(past)) {
-            Link::Open(mut state) => {
-                reset_by(&mut state, self.alloc, stream, code)?;
-                self.link = Link::Open(state);
+        let totals = totals(&self.phase);
+        match mem::replace(&mut self.phase, Phase::OutOfMemory(totals)) {
+            Phase::Open(mut state) => {
+                answers::reset(&mut state, stream, code)?;
+                self.phase = Phase::Open(state);
                 Ok(())
             }
-            Link::Failed { fault, left, past } => {
-                self.link = Link::Failed { fault, left, past };
+            Phase::Failed {
+                fault,
+                left,
+                totals,
+            } => {
+                self.phase = Phase::Failed {
+                    fault,
+                    left,
+                    totals,
+                };
                 Ok(())
             }
-            Link::Broken(_) => Err(Memory),
+            Phase::OutOfMemory(_) => Err(Memory),
         }
     }
 
@@ -260,25 +324,33 @@ impl Conn {
     /// control frames were still queued and GOAWAY, once, and nothing behind it.
     #[tactic(auto, unfolding(crate::specs::Conns::flushed))]
     pub fn flush(&mut self, out: &mut Octets) -> Result<(), Memory>
-        ensures { Flushes self.old result out.old out.new self.new }
+        ensures after { OnOk result (self.new ≡ (flushed self.old).after) }
+        ensures bytes { OnOk result (out.new ≡ out.old ++ (flushed self.old).bytes) }
+        ensures front { GainsFront (flushed self.old).bytes out.old out.new }
+        ensures err { OnErr result (self.new ≡ out_of_memory self.old) }
+        ensures again { self.old ≡ out_of_memory self.old → IsErr result }
     {
-        let past = past(&self.link);
-        match mem::replace(&mut self.link, Link::Broken(past)) {
-            Link::Open(mut state) => {
+        let totals = totals(&self.phase);
+        match mem::replace(&mut self.phase, Phase::OutOfMemory(totals)) {
+            Phase::Open(mut state) => {
                 pull(&mut state, self.alloc, out)?;
-                self.link = Link::Open(state);
+                self.phase = Phase::Open(state);
                 Ok(())
             }
-            Link::Failed { fault, left, past } => {
+            Phase::Failed {
+                fault,
+                left,
+                totals,
+            } => {
                 out.push_slice(left.as_slice())?;
-                self.link = Link::Failed {
+                self.phase = Phase::Failed {
                     fault,
                     left: Octets::empty(self.alloc),
-                    past,
+                    totals,
                 };
                 Ok(())
             }
-            Link::Broken(_) => Err(Memory),
+            Phase::OutOfMemory(_) => Err(Memory),
         }
     }
 
@@ -286,9 +358,9 @@ impl Conn {
     pub fn live(&self) -> u32
         ensures { result ≡ live_on self.now }
     {
-        match &self.link {
-            Link::Open(state) => state.streams.len(),
-            Link::Failed { .. } | Link::Broken(_) => 0,
+        match &self.phase {
+            Phase::Open(state) => state.streams.len(),
+            Phase::Failed { .. } | Phase::OutOfMemory(_) => 0,
         }
     }
 
@@ -297,9 +369,9 @@ impl Conn {
     pub fn is_live(&self, stream: u32) -> bool
         ensures { result ≡ is_live_on self.now stream }
     {
-        match &self.link {
-            Link::Open(state) => state.streams.is_live(stream),
-            Link::Failed { .. } | Link::Broken(_) => false,
+        match &self.phase {
+            Phase::Open(state) => state.streams.is_live(stream),
+            Phase::Failed { .. } | Phase::OutOfMemory(_) => false,
         }
     }
 
@@ -307,13 +379,13 @@ impl Conn {
     pub fn is_going(&self) -> bool
         ensures { result ≡ is_going self.now }
     {
-        past(&self.link).going
+        totals(&self.phase).goaway_received
     }
 
     /// How many messages began, those of streams that are live no more too.
     pub fn begun(&self) -> u64
         ensures { result ≡ begun_on self.now }
     {
-        past(&self.link).begun
+        totals(&self.phase).messages_started
     }
 }

@@ -1,65 +1,81 @@
 //! Steps that several rows of the table take.
 
-ghost use Rattle.std.specs.Prelude.{◌≡◌, ◌≤◌, ◌<◌, ◌^◌, true, false, length, OnOk};
-ghost use Rattle.h2_frame.specs.declared.frame.Body.TheVariants.{Reset, SettingsAck, Ping, WindowUpdate};
-ghost use Rattle.h2_frame.specs.Writing.{spelling, payload_of};
-ghost use Rattle.h2_conn.specs.Peer.{queued, closed, reset_with, request_ends, given_back, is_idle};
+ghost use Rattle.std.specs.Prelude.{◌≡◌, ◌≤◌, true, length, OnOk};
+ghost use Rattle.h2_wire.specs.declared.limit.TheConstants.{MAX_FRAME_SIZE};
+ghost use Rattle.h2_wire.specs.Spelling.{frame_bytes};
+ghost use Rattle.h2_flow.specs.Outboxes.{controlled};
+ghost use Rattle.h2_frame.specs.declared.frame.Body.TheVariants.{Reset, SettingsAck, Ping};
+ghost use Rattle.h2_conn.specs.declared.fault.ConnError.TheVariants as refusal;
+ghost use Rattle.h2_conn.specs.Faults.{failure};
+ghost use Rattle.h2_conn.specs.Peer.{queued, closed, reset_with, request_ends, replenished, is_idle};
 ghost use Rattle.h2_conn.specs.Kinds.{Steps};
 
 use crate::fault::{ConnCause, ConnError, ConnFault};
 use crate::happening::Happening;
 use crate::state::State;
-use h2_frame::{Body, Frame, put_frame};
-use std::alloc::Global;
-use wl_octets::{Memory, Octets};
+use h2_wire::{flag, frame_type, head_of_frame};
+use wl_octets::Memory;
 
 /// What a frame told, at most one happening, or why it isn't taken.
-pub type Told = Result<Option<Happening>, ConnError>;
+pub type RowResult = Result<Option<Happening>, ConnError>;
 
 /// Queues a control frame.
-fn queue(state: &mut State, alloc: Global, frame: &Frame) -> Result<(), Memory>
-    requires { length (payload_of frame.now.body) ≤ 16384 }
-    ensures { OnOk result (state.new ≡ queued frame.now.stream frame.now.body state.old) }
+#[tactic(auto, using(crate::proofs::Queues::head_and_payload), unfolding(h2_wire::specs::Spelling::frame_bytes, h2_flow::specs::Outboxes::controlled))]
+fn queue(state: &mut State, kind: u8, flags: u8, stream: u32, payload: &[u8]) -> Result<(), Memory>
+    requires { length payload.now ≤ MAX_FRAME_SIZE }
+    ensures { OnOk result (state.new ≡ record state.old { outbox = controlled (frame_bytes kind flags stream payload.now) state.old.outbox }) }
 {
-    let mut bytes = Octets::empty(alloc);
-    put_frame(&mut bytes, frame)?;
-    state.outbox.control(bytes.as_slice())
+    let head = head_of_frame(payload.len() as u32, kind, flags, stream);
+    state.outbox.control(&head)?;
+    state.outbox.control(payload)?;
+    Ok(())
 }
 
 /// Queues RST_STREAM.
-pub fn queue_reset(state: &mut State, alloc: Global, stream: u32, code: u32) -> Result<(), Memory>
+#[tactic(auto, unfolding(h2_frame::specs::Writing::spelling))]
+pub fn queue_reset(state: &mut State, stream: u32, code: u32) -> Result<(), Memory>
     ensures { OnOk result (state.new ≡ queued stream (Reset code) state.old) }
 {
-    let body = Body::Reset { code };
-    queue(state, alloc, &Frame { stream, body })
+    queue(
+        state,
+        frame_type::RST_STREAM,
+        0,
+        stream,
+        &code.to_be_bytes(),
+    )
 }
 
 /// Queues the acknowledgement of SETTINGS.
-pub fn queue_ack(state: &mut State, alloc: Global) -> Result<(), Memory>
+#[tactic(auto, unfolding(h2_frame::specs::Writing::spelling))]
+pub fn queue_ack(state: &mut State) -> Result<(), Memory>
     ensures { OnOk result (state.new ≡ queued 0 SettingsAck state.old) }
 {
-    let body = Body::SettingsAck;
-    queue(state, alloc, &Frame { stream: 0, body })
+    queue(state, frame_type::SETTINGS, flag::ACK, 0, &[])
 }
 
 /// Queues the answer to PING.
-pub fn queue_pong(state: &mut State, alloc: Global, word: u64) -> Result<(), Memory>
+#[tactic(auto, unfolding(h2_frame::specs::Writing::spelling))]
+pub fn queue_ping_ack(state: &mut State, word: u64) -> Result<(), Memory>
     ensures { OnOk result (state.new ≡ queued 0 (Ping true word) state.old) }
 {
-    let body = Body::Ping { ack: true, word };
-    queue(state, alloc, &Frame { stream: 0, body })
+    queue(state, frame_type::PING, flag::ACK, 0, &word.to_be_bytes())
 }
 
 /// Gives this many bytes of a window back to the peer.
-#[tactic(auto, unfolding(crate::specs::Peer::given_back))]
-pub fn give_back(state: &mut State, alloc: Global, stream: u32, size: u32) -> Result<(), Memory>
-    ensures { OnOk result (state.new ≡ given_back stream size state.old) }
+#[tactic(auto, unfolding(crate::specs::Peer::replenished, h2_frame::specs::Writing::spelling))]
+pub fn replenish_window(state: &mut State, stream: u32, size: u32) -> Result<(), Memory>
+    ensures { OnOk result (state.new ≡ replenished stream size state.old) }
 {
     if size == 0 {
         return Ok(());
     }
-    let body = Body::WindowUpdate { step: size };
-    queue(state, alloc, &Frame { stream, body })
+    queue(
+        state,
+        frame_type::WINDOW_UPDATE,
+        0,
+        stream,
+        &size.to_be_bytes(),
+    )
 }
 
 /// Ends a stream, with what waits for it.
@@ -76,36 +92,43 @@ pub fn close(state: &mut State, stream: u32)
 pub fn end_request(state: &mut State, stream: u32)
     ensures { state.new ≡ request_ends stream state.old }
 {
-    if state.streams.is_answered(stream) {
+    if state.streams.is_local_closed(stream) {
         close(state, stream);
     } else {
-        state.streams.end(stream);
+        state.streams.close_remote(stream);
     }
 }
 
 /// The connection's failure, as it is now.
-pub fn fault(state: &State, code: u32, cause: ConnCause) -> ConnFault
-    ensures { result ≡ record { code = code; last_stream = state.now.highest; cause = cause } }
+pub fn failure(state: &State, cause: ConnCause) -> ConnFault
+    ensures { result ≡ failure state.now cause }
 {
     ConnFault {
-        code,
-        last_stream: state.highest,
+        code: cause.code(),
+        last_stream: state.last_stream_id,
         cause,
     }
+}
+
+/// The refusal of a frame that fails the connection.
+pub fn fault(state: &State, cause: ConnCause) -> ConnError
+    ensures { result ≡ refusal.Fault (failure state.now cause) }
+{
+    ConnError::Fault(failure(state, cause))
 }
 
 pub fn is_idle(state: &State, stream: u32) -> bool
     ensures { result ≡ is_idle state.now stream }
 {
-    (stream % 2 == 0 && stream != 0) || state.highest < stream
+    (stream % 2 == 0 && stream != 0) || state.last_stream_id < stream
 }
 
 /// Queues RST_STREAM, and ends the stream if it is live.
 #[tactic(auto, unfolding(crate::specs::Peer::reset_with))]
-pub fn reset_with(state: &mut State, alloc: Global, stream: u32, code: u32) -> Told
+pub fn reset_with(state: &mut State, stream: u32, code: u32) -> RowResult
     ensures { Steps (reset_with state.old stream code) result state.new }
 {
-    queue_reset(state, alloc, stream, code)?;
+    queue_reset(state, stream, code)?;
     if !state.streams.is_live(stream) {
         return Ok(None);
     }

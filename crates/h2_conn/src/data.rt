@@ -1,54 +1,49 @@
 //! The rows of DATA and RST_STREAM.
 
 ghost use Rattle.std.specs.Prelude.{◌≡◌, ◌≤◌, ◌<◌, ◌&&◌, true, false, length};
+ghost use Rattle.h2_conn.specs.declared.limits.TheConstants.{MAX_EMPTY_DATA, MAX_RAPID_RESETS};
 ghost use Rattle.h2_conn.specs.Peer.{data_counted, data_on, is_empty_data, has_come, is_rapid, reset_frame};
 ghost use Rattle.h2_conn.specs.Kinds.{Steps, data_rows, reset_rows};
 ghost use Rattle.h2_conn.specs.Sound.{Sound};
 
-use crate::control::{Told, close, end_request, fault, give_back, is_idle, reset_with};
-use crate::fault::{ConnCause, ConnError};
+use crate::control::{RowResult, close, end_request, fault, is_idle, replenish_window, reset_with};
+use crate::fault::ConnCause;
 use crate::happening::Happening;
+use crate::limits::{MAX_EMPTY_DATA, MAX_RAPID_RESETS};
 use crate::state::State;
-use std::alloc::Global;
+use h2_wire::{error_code, frame_type};
 use wl_octets::Octets;
 
 /// Counts DATA as the flood rows do.
 #[tactic(auto, unfolding(crate::specs::Peer::data_counted))]
 fn count_data(state: &mut State, bytes: &Octets, ended: bool)
-    requires { is_empty_data bytes.now ended && has_come 100 state.old.empty ≡ false }
+    requires { is_empty_data bytes.now ended && has_come MAX_EMPTY_DATA state.old.empty_data_count ≡ false }
     ensures { state.new ≡ data_counted bytes.now ended state.old }
 {
     if bytes.len() == 0 {
         if !ended {
-            state.empty += 1;
+            state.empty_data_count += 1;
         }
     } else {
-        state.settings = 0;
-        state.empty = 0;
+        state.settings_count = 0;
+        state.empty_data_count = 0;
     }
 }
 
 #[tactic(auto, unfolding(crate::specs::Peer::data_on))]
-fn data_on(
-    state: &mut State,
-    alloc: Global,
-    stream: u32,
-    bytes: Octets,
-    size: u32,
-    ended: bool,
-) -> Told
+fn data_on(state: &mut State, stream: u32, bytes: Octets, size: u32, ended: bool) -> RowResult
     ensures { Steps (data_on state.old stream bytes size ended) result state.new }
 {
     if !state.streams.is_live(stream) {
         return Ok(None);
     }
-    if state.streams.has_ended(stream) {
-        return reset_with(state, alloc, stream, 5);
+    if state.streams.is_remote_closed(stream) {
+        return reset_with(state, stream, error_code::STREAM_CLOSED);
     }
     if ended {
         end_request(state, stream);
     } else {
-        give_back(state, alloc, stream, size)?;
+        replenish_window(state, stream, size)?;
     }
     Ok(Some(Happening::Body {
         stream,
@@ -58,30 +53,24 @@ fn data_on(
 }
 
 /// The rows of DATA.
-pub fn data(
-    state: &mut State,
-    alloc: Global,
-    stream: u32,
-    bytes: Octets,
-    size: u32,
-    ended: bool,
-) -> Told
+pub fn data(state: &mut State, stream: u32, bytes: Octets, size: u32, ended: bool) -> RowResult
     ensures { Steps (data_rows state.old stream bytes size ended) result state.new }
 {
-    if bytes.len() == 0 && !ended && state.empty >= 100 {
-        return Err(ConnError::Fault(fault(state, 11, ConnCause::Flood(0, 101))));
+    if bytes.len() == 0 && !ended && state.empty_data_count >= MAX_EMPTY_DATA {
+        let cause = ConnCause::Flood(frame_type::DATA, MAX_EMPTY_DATA + 1);
+        return Err(fault(state, cause));
     }
     if is_idle(state, stream) {
-        return Err(ConnError::Fault(fault(state, 1, ConnCause::Idle)));
+        return Err(fault(state, ConnCause::Idle));
     }
     count_data(state, &bytes, ended);
-    give_back(state, alloc, 0, size)?;
-    data_on(state, alloc, stream, bytes, size, ended)
+    replenish_window(state, 0, size)?;
+    data_on(state, stream, bytes, size, ended)
 }
 
 #[tactic(auto, using(crate::proofs::Sounds::is_there), unfolding(crate::specs::Peer::reset_frame))]
-fn close_reset(state: &mut State, stream: u32) -> Told
-    requires count { is_rapid state.old stream && has_come 10000 state.old.resets ≡ false }
+fn close_reset(state: &mut State, stream: u32) -> RowResult
+    requires count { is_rapid state.old stream && has_come MAX_RAPID_RESETS state.old.rapid_reset_count ≡ false }
     requires sound { Sound state.old }
     ensures { Steps (reset_frame state.old stream) result state.new }
 {
@@ -89,7 +78,7 @@ fn close_reset(state: &mut State, stream: u32) -> Told
         return Ok(None);
     }
     if !state.outbox.is_written(stream) {
-        state.resets += 1;
+        state.rapid_reset_count += 1;
     }
     close(state, stream);
     Ok(Some(Happening::Gone { stream }))
@@ -97,15 +86,17 @@ fn close_reset(state: &mut State, stream: u32) -> Told
 
 /// The rows of RST_STREAM.
 #[tactic(auto, using(crate::proofs::Sounds::is_there))]
-pub fn reset(state: &mut State, stream: u32, _code: u32) -> Told
+pub fn reset(state: &mut State, stream: u32, _code: u32) -> RowResult
     requires { Sound state.old }
     ensures { Steps (reset_rows state.old stream _code) result state.new }
 {
-    if state.streams.is_live(stream) && !state.outbox.is_written(stream) && state.resets >= 10_000 {
-        return Err(ConnError::Fault(fault(state, 11, ConnCause::Flood(3, 10_001))));
+    let is_rapid = state.streams.is_live(stream) && !state.outbox.is_written(stream);
+    if is_rapid && state.rapid_reset_count >= MAX_RAPID_RESETS {
+        let cause = ConnCause::Flood(frame_type::RST_STREAM, MAX_RAPID_RESETS + 1);
+        return Err(fault(state, cause));
     }
     if is_idle(state, stream) {
-        return Err(ConnError::Fault(fault(state, 1, ConnCause::Idle)));
+        return Err(fault(state, ConnCause::Idle));
     }
     close_reset(state, stream)
 }

@@ -1,7 +1,9 @@
 //! Why a connection fails.
 
 ghost use Rattle.std.specs.Prelude.{◌≡◌};
+ghost use Rattle.h2_conn.specs.Faults.{code_of, hpack_code};
 
+use h2_wire::{error_code, setting};
 use hpack::HpackFault;
 use wl_octets::Memory;
 
@@ -42,6 +44,33 @@ pub enum ConnCause {
     Setting(u16),
     /// A type of frame of which so many came that they are a flood.
     Flood(u8, u32),
+}
+
+impl ConnCause {
+    /// The error code of the GOAWAY that tells it (RFC 9113, section 7).
+    pub fn code(self) -> u32
+        ensures { result ≡ code_of self }
+    {
+        match self {
+            ConnCause::TooLarge(_) | ConnCause::WrongLength(_, _) => error_code::FRAME_SIZE_ERROR,
+            ConnCause::Overflow | ConnCause::Setting(setting::INITIAL_WINDOW_SIZE) => {
+                error_code::FLOW_CONTROL_ERROR
+            }
+            ConnCause::BlockTooLong | ConnCause::Flood(_, _) => error_code::ENHANCE_YOUR_CALM,
+            ConnCause::Hpack(fault) => hpack_code(fault),
+            _ => error_code::PROTOCOL_ERROR,
+        }
+    }
+}
+
+/// The error code of a header block that can't be decoded.
+fn hpack_code(fault: HpackFault) -> u32
+    ensures { result ≡ hpack_code fault }
+{
+    match fault {
+        HpackFault::ListTooLong => error_code::ENHANCE_YOUR_CALM,
+        _ => error_code::COMPRESSION_ERROR,
+    }
 }
 
 /// The failure of a connection: the error code (RFC 9113, section 7) and the last stream of its

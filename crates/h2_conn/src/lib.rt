@@ -17,7 +17,8 @@ mod fault;
 mod flood_tests;
 mod happening;
 mod laws;
-mod link;
+mod limits;
+mod phase;
 #[cfg(test)]
 mod request_tests;
 #[cfg(test)]

@@ -5,35 +5,35 @@ use h2_flow::Outbox;
 use hpack::Decoder;
 use wl_octets::Octets;
 
-/// A header block whose END_HEADERS has not come.
+/// A header block whose END_HEADERS has not come (RFC 9113, section 4.3).
 #[derive(Drop)]
-pub struct Unfinished {
+pub struct OpenBlock {
     pub stream: u32,
     /// END_STREAM of its HEADERS.
     pub ended: bool,
     pub bytes: Octets,
     /// How many CONTINUATION frames it has.
-    pub pieces: u32,
+    pub continuations: u32,
 }
 
 /// A connection that has not failed.
 #[derive(Drop)]
 pub struct State {
     /// Whether the peer's first SETTINGS came.
-    pub greeted: bool,
+    pub settings_received: bool,
     /// Whether the peer sent GOAWAY.
-    pub going: bool,
+    pub goaway_received: bool,
     /// The largest stream whose head block was whole, 0 before any.
-    pub highest: u32,
+    pub last_stream_id: u32,
     pub streams: Streams,
-    pub unfinished: Option<Unfinished>,
+    pub open_block: Option<OpenBlock>,
     /// SETTINGS frames since the last HEADERS, or DATA with bytes, or the start.
-    pub settings: u32,
+    pub settings_count: u32,
     /// DATA frames without bytes and without END_STREAM since the same.
-    pub empty: u32,
+    pub empty_data_count: u32,
     /// RST_STREAM frames on live streams on which no frame was written, since the last message
     /// began, or END_STREAM was written, or the start.
-    pub resets: u32,
+    pub rapid_reset_count: u32,
     pub decoder: Decoder,
     pub outbox: Outbox,
 }

@@ -1,23 +1,22 @@
 //! The live streams of a connection.
 
 ghost use Rattle.std.specs.Prelude.{◌≡◌, ◌<◌, ◌≤◌, ◌++◌, ◌∷◌, [], length, vec_capacity, vec_len, IfOk};
-ghost use Rattle.h2_conn.specs.Streams.{is_live, has_ended, is_answered, without, ended_if, answered_if, ending, answering};
+ghost use Rattle.h2_wire.specs.declared.limit.TheConstants.{MAX_LIVE_STREAMS};
+ghost use Rattle.h2_conn.specs.Streams.{is_live, is_remote_closed, is_local_closed, without, remote_closed_if, local_closed_if, with_remote_closed, with_local_closed};
 
+use h2_wire::limit::MAX_LIVE_STREAMS;
 use std::alloc::Global;
 use std::marker::Model;
 use wl_octets::Memory;
-
-/// How many streams are live at most.
-pub const MOST: usize = 16;
 
 /// A live stream.
 #[derive(Clone, Copy, Debug, PartialEq, Eq)]
 pub struct Stream {
     pub number: u32,
-    /// Whether its request has ended.
-    pub ended: bool,
-    /// Whether its END_STREAM was written.
-    pub answered: bool,
+    /// Whether its request has ended: half-closed (remote) in RFC 9113, section 5.1.
+    pub remote_closed: bool,
+    /// Whether its END_STREAM was written: half-closed (local).
+    pub local_closed: bool,
 }
 
 /// The live streams, at most 16, in the order in which they were opened.
@@ -28,13 +27,14 @@ pub struct Streams {
 
 impl Model for Streams {
     ghost use Rattle.std.specs.Prelude.{◌≤◌, List, length, vec_capacity};
+    ghost use Rattle.h2_wire.specs.declared.limit.TheConstants.{MAX_LIVE_STREAMS};
     ghost use Rattle.h2_conn.specs.declared.streams.Stream.{Stream};
 
     ghost Value = { List Stream };
 
     ghost view = { λ s. s.items.items };
 
-    ghost invariant = { λ s. (16 ≤ vec_capacity s.items) × (length s.items.items ≤ 16) };
+    ghost invariant = { λ s. (MAX_LIVE_STREAMS ≤ vec_capacity s.items) × (length s.items.items ≤ MAX_LIVE_STREAMS) };
 }
 
 fn live_in(streams: &[Stream], number: u32) -> bool
@@ -43,20 +43,20 @@ fn live_in(streams: &[Stream], number: u32) -> bool
     streams.iter().any(|stream| stream.number == number)
 }
 
-fn ended_in(streams: &[Stream], number: u32) -> bool
-    ensures { result ≡ has_ended number streams.now }
+fn remote_closed_in(streams: &[Stream], number: u32) -> bool
+    ensures { result ≡ is_remote_closed number streams.now }
 {
     streams
         .iter()
-        .any(|stream| stream.number == number && stream.ended)
+        .any(|stream| stream.number == number && stream.remote_closed)
 }
 
-fn answered_in(streams: &[Stream], number: u32) -> bool
-    ensures { result ≡ is_answered number streams.now }
+fn local_closed_in(streams: &[Stream], number: u32) -> bool
+    ensures { result ≡ is_local_closed number streams.now }
 {
     streams
         .iter()
-        .any(|stream| stream.number == number && stream.answered)
+        .any(|stream| stream.number == number && stream.local_closed)
 }
 
 fn take_out(streams: &mut Vec<Stream>, number: u32)
@@ -67,12 +67,12 @@ fn take_out(streams: &mut Vec<Stream>, number: u32)
     streams.retain(|stream| stream.number != number);
 }
 
-fn ended_if(stream: Stream, number: u32) -> Stream
-    ensures { result ≡ ended_if number stream }
+fn remote_closed_if(stream: Stream, number: u32) -> Stream
+    ensures { result ≡ remote_closed_if number stream }
 {
     if stream.number == number {
         Stream {
-            ended: true,
+            remote_closed: true,
             ..stream
         }
     } else {
@@ -80,12 +80,12 @@ fn ended_if(stream: Stream, number: u32) -> Stream
     }
 }
 
-fn answered_if(stream: Stream, number: u32) -> Stream
-    ensures { result ≡ answered_if number stream }
+fn local_closed_if(stream: Stream, number: u32) -> Stream
+    ensures { result ≡ local_closed_if number stream }
 {
     if stream.number == number {
         Stream {
-            answered: true,
+            local_closed: true,
             ..stream
         }
     } else {
@@ -93,19 +93,19 @@ fn answered_if(stream: Stream, number: u32) -> Stream
     }
 }
 
-fn end_in(streams: &mut [Stream], number: u32)
-    ensures { streams.new ≡ ending number streams.old }
+fn close_remote_in(streams: &mut [Stream], number: u32)
+    ensures { streams.new ≡ with_remote_closed number streams.old }
 {
     for stream in streams.iter_mut() {
-        *stream = ended_if(*stream, number);
+        *stream = remote_closed_if(*stream, number);
     }
 }
 
-fn answer_in(streams: &mut [Stream], number: u32)
-    ensures { streams.new ≡ answering number streams.old }
+fn close_local_in(streams: &mut [Stream], number: u32)
+    ensures { streams.new ≡ with_local_closed number streams.old }
 {
     for stream in streams.iter_mut() {
-        *stream = answered_if(*stream, number);
+        *stream = local_closed_if(*stream, number);
     }
 }
 
@@ -115,7 +115,7 @@ impl Streams {
         ensures { IfOk result (λ streams. streams ≡ []) }
     {
         Ok(Streams {
-            items: Vec::with_capacity(alloc, MOST)?,
+            items: Vec::with_capacity(alloc, MAX_LIVE_STREAMS)?,
         })
     }
 
@@ -126,29 +126,29 @@ impl Streams {
     }
 
     /// Whether the request of a live stream has ended.
-    pub fn has_ended(&self, number: u32) -> bool
-        ensures { result ≡ has_ended number self.now }
+    pub fn is_remote_closed(&self, number: u32) -> bool
+        ensures { result ≡ is_remote_closed number self.now }
     {
-        ended_in(self.items.as_slice(), number)
+        remote_closed_in(self.items.as_slice(), number)
     }
 
     /// Whether the END_STREAM of a live stream was written.
-    pub fn is_answered(&self, number: u32) -> bool
-        ensures { result ≡ is_answered number self.now }
+    pub fn is_local_closed(&self, number: u32) -> bool
+        ensures { result ≡ is_local_closed number self.now }
     {
-        answered_in(self.items.as_slice(), number)
+        local_closed_in(self.items.as_slice(), number)
     }
 
     pub fn len(&self) -> u32
         ensures value { result ≡ length self.now }
-        ensures room { length self.now ≤ 16 }
+        ensures room { length self.now ≤ MAX_LIVE_STREAMS }
     {
         self.items.len() as u32
     }
 
     /// Adds a stream, where fewer than 16 are live. It takes no memory.
     pub fn push(&mut self, stream: Stream)
-        requires { length self.old < 16 }
+        requires { length self.old < MAX_LIVE_STREAMS }
         ensures { self.new ≡ self.old ++ stream ∷ [] }
     {
         let _ = self.items.push(stream);
@@ -161,16 +161,16 @@ impl Streams {
     }
 
     /// The request of this stream has ended.
-    pub fn end(&mut self, number: u32)
-        ensures { self.new ≡ ending number self.old }
+    pub fn close_remote(&mut self, number: u32)
+        ensures { self.new ≡ with_remote_closed number self.old }
     {
-        end_in(self.items.as_mut_slice(), number);
+        close_remote_in(self.items.as_mut_slice(), number);
     }
 
     /// The END_STREAM of this stream was written.
-    pub fn answer(&mut self, number: u32)
-        ensures { self.new ≡ answering number self.old }
+    pub fn close_local(&mut self, number: u32)
+        ensures { self.new ≡ with_local_closed number self.old }
     {
-        answer_in(self.items.as_mut_slice(), number);
+        close_local_in(self.items.as_mut_slice(), number);
     }
 }

@@ -6,11 +6,11 @@ ghost use Rattle.h2_conn.specs.Kinds.{Steps, Guards, Fits, FitsBody, kind_rows};
 ghost use Rattle.h2_conn.specs.Sound.{Sound};
 
 use crate::blocks::{continuation, head};
-use crate::control::{Told, fault};
+use crate::control::{RowResult, fault};
 use crate::data::{data, reset};
-use crate::fault::{ConnCause, ConnError, ConnFault};
+use crate::fault::{ConnCause, ConnError};
 use crate::settings::{ping, settings};
-use crate::state::{State, Unfinished};
+use crate::state::{OpenBlock, State};
 use crate::windows::window;
 use h2_frame::{Body, Frame};
 use std::alloc::Global;
@@ -72,67 +72,67 @@ fn is_misplaced(stream: u32, body: &Body) -> bool
 }
 
 /// Whether a frame stands between those of an unfinished block.
-fn interrupts(unfinished: &Option<Unfinished>, stream: u32, continues: bool) -> bool
-    ensures { result ≡ interrupts unfinished.now stream continues }
+fn interrupts(open_block: &Option<OpenBlock>, stream: u32, continues: bool) -> bool
+    ensures { result ≡ interrupts open_block.now stream continues }
 {
-    match unfinished {
+    match open_block {
         None => false,
         Some(block) => !(continues && block.stream == stream),
     }
 }
 
-fn is_none(unfinished: &Option<Unfinished>) -> bool
-    ensures { result ≡ is_none unfinished.now }
+fn is_none(open_block: &Option<OpenBlock>) -> bool
+    ensures { result ≡ is_none open_block.now }
 {
-    match unfinished {
+    match open_block {
         None => true,
         Some(_) => false,
     }
 }
 
 /// The rows that look at several kinds of frames.
-fn guard(state: &State, stream: u32, body: &Body) -> Option<ConnFault>
+fn guard(state: &State, stream: u32, body: &Body) -> Result<(), ConnError>
     ensures { Guards result state.now stream body.now }
 {
-    if !is_settings(body) && !state.greeted {
-        return Some(fault(state, 1, ConnCause::FirstFrame));
+    if !is_settings(body) && !state.settings_received {
+        return Err(fault(state, ConnCause::FirstFrame));
     }
     let continues = is_continuation(body);
-    if interrupts(&state.unfinished, stream, continues) {
-        return Some(fault(state, 1, ConnCause::BlockOpen));
+    if interrupts(&state.open_block, stream, continues) {
+        return Err(fault(state, ConnCause::BlockOpen));
     }
-    if continues && is_none(&state.unfinished) {
-        return Some(fault(state, 1, ConnCause::NoBlock));
+    if continues && is_none(&state.open_block) {
+        return Err(fault(state, ConnCause::NoBlock));
     }
     if is_misplaced(stream, body) {
-        return Some(fault(state, 1, ConnCause::StreamZero));
+        return Err(fault(state, ConnCause::StreamZero));
     }
-    None
+    Ok(())
 }
 
 /// The rows of each kind.
-fn kind(state: &mut State, alloc: Global, stream: u32, body: Body) -> Told
+fn dispatch(state: &mut State, alloc: Global, stream: u32, body: Body) -> RowResult
     requires low { stream < 2 ^ 31 }
     requires fits { FitsBody body }
     requires sound { Sound state.old }
     ensures { Steps (kind_rows state.old stream body) result state.new }
 {
     match body {
-        Body::Bytes { bytes, size, ended } => data(state, alloc, stream, bytes, size, ended),
+        Body::Bytes { bytes, size, ended } => data(state, stream, bytes, size, ended),
         Body::Headers {
             block,
             ended,
             whole,
         } => head(state, alloc, stream, block, ended, whole),
         Body::Reset { code } => reset(state, stream, code),
-        Body::Settings { pairs } => settings(state, alloc, stream, pairs.as_slice()),
-        Body::PushPromise => Err(ConnError::Fault(fault(state, 1, ConnCause::Push))),
-        Body::Ping { ack, word } => ping(state, alloc, stream, ack, word),
+        Body::Settings { pairs } => settings(state, stream, pairs.as_slice()),
+        Body::PushPromise => Err(fault(state, ConnCause::Push)),
+        Body::Ping { ack, word } => ping(state, stream, ack, word),
         Body::GoAway { .. } => {
-            state.going = true;
+            state.goaway_received = true;
             Ok(None)
         }
-        Body::WindowUpdate { step } => window(state, alloc, stream, step),
+        Body::WindowUpdate { step } => window(state, stream, step),
         Body::Continuation { block, whole } => continuation(state, alloc, stream, block, whole),
         Body::Priority | Body::SettingsAck | Body::Unknown { .. } => Ok(None),
     }
@@ -140,24 +140,24 @@ fn kind(state: &mut State, alloc: Global, stream: u32, body: Body) -> Told
 
 /// Does the first row that applies to a frame.
 #[tactic(auto, using(crate::proofs::Choice::guard_passes))]
-fn row(state: &mut State, alloc: Global, frame: Frame) -> Told
+fn first_row(state: &mut State, alloc: Global, frame: Frame) -> RowResult
     requires fits { Fits frame }
     requires sound { Sound state.old }
     ensures { Steps (peer state.old frame) result state.new }
 {
     match guard(state, frame.stream, &frame.body) {
-        Some(fault) => Err(ConnError::Fault(fault)),
-        None => kind(state, alloc, frame.stream, frame.body),
+        Ok(()) => dispatch(state, alloc, frame.stream, frame.body),
+        Err(error) => Err(error),
     }
 }
 
 /// The same, with what holds of each state.
 #[tactic(auto, using(crate::proofs::Sounds::steps_sound))]
-pub fn sound_row(state: &mut State, alloc: Global, frame: Frame) -> Told
+pub fn step(state: &mut State, alloc: Global, frame: Frame) -> RowResult
     requires fits { Fits frame }
     requires sound { Sound state.old }
     ensures step { Steps (peer state.old frame) result state.new }
     ensures sound { OnOk result (Sound state.new) }
 {
-    row(state, alloc, frame)
+    first_row(state, alloc, frame)
 }

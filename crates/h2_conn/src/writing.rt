@@ -14,7 +14,7 @@ use std::alloc::Global;
 use wl_octets::{Memory, Octets, Row};
 
 /// The last bytes of a connection: the queued control frames, and GOAWAY.
-pub fn last_words(alloc: Global, queued: &[u8], fault: ConnFault) -> Result<Octets, Memory>
+pub fn final_bytes(alloc: Global, queued: &[u8], fault: ConnFault) -> Result<Octets, Memory>
     ensures { IfOk result (λ bytes. bytes ≡ queued.now ++ goaway fault) }
 {
     let mut bytes = Octets::from_slice(alloc, queued)?;
@@ -28,25 +28,25 @@ pub fn last_words(alloc: Global, queued: &[u8], fault: ConnFault) -> Result<Octe
 
 /// Marks a stream whose END_STREAM was written, and ends it if its request has ended.
 #[tactic(auto, using(crate::proofs::Sounds::s_closed, crate::proofs::Sounds::s_answering), unfolding(crate::specs::Conns::answer_ends))]
-fn end_answer(state: &mut State, stream: u32)
+fn end_response(state: &mut State, stream: u32)
     requires { Sound state.old }
     ensures step { state.new ≡ answer_ends stream state.old }
     ensures sound { Sound state.new }
 {
-    if state.streams.has_ended(stream) {
+    if state.streams.is_remote_closed(stream) {
         close(state, stream);
     } else {
-        state.streams.answer(stream);
+        state.streams.close_local(stream);
     }
 }
 
-fn end_answers(state: &mut State, ended: &[u32])
+fn end_responses(state: &mut State, ended: &[u32])
     requires { Sound state.old }
     ensures step { state.new ≡ answers_end ended.now state.old }
     ensures sound { Sound state.new }
 {
     for stream in ended {
-        end_answer(state, *stream);
+        end_response(state, *stream);
     }
 }
 
@@ -63,8 +63,8 @@ pub fn pull(state: &mut State, alloc: Global, out: &mut Octets) -> Result<(), Me
     let mut ended = Row::empty(alloc);
     state.outbox.pull(out, &mut ended)?;
     if state.outbox.begun() != begun || ended.len() != 0 {
-        state.resets = 0;
+        state.rapid_reset_count = 0;
     }
-    end_answers(state, ended.as_slice());
+    end_responses(state, ended.as_slice());
     Ok(())
 }

@@ -3,13 +3,14 @@ use Rattle.std.proofs.Common.{◌≡◌, inl, inr, ℕ, zero, suc, ◌+◌, ◌=
 use Rattle.std.proofs.lemmas.Bool.{cases_Bool}
 use Rattle.std.proofs.lemmas.List.{map-append, take-append-drop}
 use Rattle.std.proofs.Math.Seq.{map-set_same}
+use Rattle.h2_wire.specs.declared.limit.TheConstants.{MAX_WINDOW_SIZE}
 use Rattle.h2_flow.specs.declared.flow.Flow.{Flow}
 use Rattle.h2_flow.specs.declared.overflow.Overflow.{Overflow}
 use Rattle.h2_flow.specs.declared.stream.Stream.{Stream}
 use Rattle.h2_flow.specs.Windows.{window_of, allowed_of}
 use Rattle.h2_flow.specs.Streams.{Sent, Turn, headers_turn, data_turn, last_turn, next_turn, body_turn, head_turn, turn}
 use Rattle.h2_flow.specs.Pulls.{Round, round, rounds, all_work, all_rounds}
-use Rattle.h2_flow.specs.Outboxes.{Out, is_number, changed, new_stream, with_offer, added, removed, controlled, shrunk, headed, offered, withdrawn, closed_by, largest_window, credit_of, grown_room, grown_stream, grown, first_over, with_initial, initialed, pulled, numbers}
+use Rattle.h2_flow.specs.Outboxes.{Out, is_number, changed, new_stream, with_offer, added, removed, controlled, shrunk, headed, offered, withdrawn, finished_by, credit_of, grown_connection, grown_stream, grown, first_over, with_initial, initialed, pulled, numbers}
 use Rattle.h2_flow.proofs.Rounds.{SoFar, Left}
 
 -- ---- one stream is changed
@@ -58,8 +59,8 @@ pub numbers_withdrawn : (n : ℕ) (o : Out) → numbers (withdrawn n o) ≡ numb
 unfolding withdrawn
 numbers_withdrawn n o = changed_numbers n (λ s. record s { waiting = None }) (λ s. refl) o.streams
 
-pub numbers_closed : (n : ℕ) (block : List ℕ) (o : Out) → numbers (closed_by n block o) ≡ numbers o
-unfolding closed_by
+pub numbers_closed : (n : ℕ) (block : List ℕ) (o : Out) → numbers (finished_by n block o) ≡ numbers o
+unfolding finished_by
 numbers_closed n block o = changed_numbers n (λ s. record s { trailers = Some block; finished = true }) (λ s. refl) o.streams
 
 -- ---- windows
@@ -72,17 +73,17 @@ keeps_cond : (b : Bool) (x y : Result Out Overflow) (o : Out) → KeepsNumbers x
 keeps_cond true x y o h k = h
 keeps_cond false x y o h k = k
 
-keeps_room : (step : ℕ) (o : Out) → KeepsNumbers (grown_room step o) o
-unfolding grown_room
-keeps_room step o = keeps_cond (nat_lt largest_window (o.flow.room + step)) _ _ o tt refl
+keeps_room : (step : ℕ) (o : Out) → KeepsNumbers (grown_connection step o) o
+unfolding grown_connection
+keeps_room step o = keeps_cond (nat_lt MAX_WINDOW_SIZE (o.flow.connection_window + step)) _ _ o tt refl
 
 keeps_stream : (n step : ℕ) (o : Out) → KeepsNumbers (grown_stream n step o) o
 unfolding grown_stream
-keeps_stream n step o = keeps_cond (int_lt (pos largest_window) (window_of o.flow.initial (credit_of n o.streams) +ℤ pos step)) _ _ o tt (changed_numbers n (λ s. record s { credit = s.credit +ℤ pos step }) (λ s. refl) o.streams)
+keeps_stream n step o = keeps_cond (int_lt (pos MAX_WINDOW_SIZE) (window_of o.flow.initial_window_size (credit_of n o.streams) +ℤ pos step)) _ _ o tt (changed_numbers n (λ s. record s { credit = s.credit +ℤ pos step }) (λ s. refl) o.streams)
 
 pub numbers_grown : (n step : ℕ) (o : Out) → KeepsNumbers (grown n step o) o
 unfolding grown
-numbers_grown n step o = keeps_cond (n == 0) (grown_room step o) (grown_stream n step o) o (keeps_room step o) (keeps_stream n step o)
+numbers_grown n step o = keeps_cond (n == 0) (grown_connection step o) (grown_stream n step o) o (keeps_room step o) (keeps_stream n step o)
 
 keeps_initial : (value : ℕ) (o : Out) (first : Option ℕ) → KeepsNumbers (with_initial value o first) o
 keeps_initial value o None = refl

@@ -5,9 +5,10 @@ use Rattle.std.proofs.lemmas.Bool.{cases_Bool}
 use Rattle.std.proofs.lemmas.Int.{ints}
 use Rattle.std.proofs.lemmas.List.{length-map}
 use Rattle.std.proofs.Math.Seq.{take-append_seam}
+use Rattle.h2_wire.specs.declared.limit.TheConstants.{MAX_WINDOW_SIZE}
 use Rattle.h2_flow.specs.declared.stream.Stream.{Stream}
 use Rattle.h2_flow.specs.Windows.{window_of}
-use Rattle.h2_flow.specs.Outboxes.{IsAbove, new_stream, RisesFrom, changed, largest_window, first_over, IsLowestOver}
+use Rattle.h2_flow.specs.Outboxes.{IsAbove, new_stream, RisesFrom, changed, first_over, IsLowestOver}
 use Rattle.h2_flow.proofs.Numbers.{changed_numbers}
 
 abbrev pub number_of : Stream → ℕ
@@ -47,7 +48,7 @@ rises_changed n m at f items old new len value due keeps h = rises_lent n m item
 -- ---- the first stream whose window is too large is the lowest
 
 abbrev is_over : ℕ → Stream → Bool
-is_over value s = int_lt (pos largest_window) (window_of value s.credit)
+is_over value s = int_lt (pos MAX_WINDOW_SIZE) (window_of value s.credit)
 
 above_all : (m n : ℕ) (p : Stream → Bool) (ss : List Stream) → m ≤ n → RisesFrom n (map number_of ss) → AllByRecursion (λ k. m ≤ k) (map number_of (filter p ss))
 above_all m n p [] le h = tt
@@ -68,7 +69,7 @@ lowest_first m value n (s ∷ ss) h e =
       | inr here ↦ rw here (lowest_first s.number value n ss h.1 (rw here at e))
     ]
 
-pub fits_all : (value : ℕ) (ss : List Stream) → first_over value ss ≡ None → AllByRecursion (λ (s : Stream). window_of value s.credit ≤ℤ pos largest_window) ss
+pub fits_all : (value : ℕ) (ss : List Stream) → first_over value ss ≡ None → AllByRecursion (λ (s : Stream). window_of value s.credit ≤ℤ pos MAX_WINDOW_SIZE) ss
 unfolding first_over
 fits_all value [] e = tt
 fits_all value (s ∷ ss) e =
@@ -77,5 +78,5 @@ fits_all value (s ∷ ss) e =
       | inr here ↦ (within (window_of value s.credit) here, fits_all value ss (rw here at e))
     ]
   where
-    within : (z : ℤ) → int_lt (pos largest_window) z ≡ false → z ≤ℤ pos largest_window
+    within : (z : ℤ) → int_lt (pos MAX_WINDOW_SIZE) z ≡ false → z ≤ℤ pos MAX_WINDOW_SIZE
     within z h = grind (arith, ints)

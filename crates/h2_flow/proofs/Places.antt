@@ -3,8 +3,9 @@ use Rattle.std.proofs.Common.{◌≡◌, ◌≢◌, inl, inr, ℕ, zero, suc, �
 use Rattle.std.specs.List.{list_any}
 use Rattle.std.proofs.lemmas.Bool.{cases_lt, cases_Bool}
 use Rattle.std.proofs.lemmas.List.{drop_more, take_more, drop_all}
+use Rattle.h2_wire.specs.declared.limit.TheConstants.{MAX_WINDOW_SIZE}
 use Rattle.h2_flow.specs.declared.stream.Stream.{Stream}
-use Rattle.h2_flow.specs.Outboxes.{is_number, changed, credit_of, largest_window, first_over}
+use Rattle.h2_flow.specs.Outboxes.{is_number, changed, credit_of, first_over}
 use Rattle.h2_flow.specs.Windows.{window_of}
 
 -- a place that isn't behind the stream
@@ -60,11 +61,11 @@ before_credit n xs at d same h =
 
 -- ---- the first stream whose window is too large
 
-pub over_next : (value : ℕ) (xs : List Stream) (at : ℕ) (d : Stream) → at < length xs → int_lt (pos largest_window) (window_of value (get_or xs at d).credit) ≡ false → first_over value (drop at xs) ≡ first_over value (drop (at + 1) xs)
+pub over_next : (value : ℕ) (xs : List Stream) (at : ℕ) (d : Stream) → at < length xs → int_lt (pos MAX_WINDOW_SIZE) (window_of value (get_or xs at d).credit) ≡ false → first_over value (drop at xs) ≡ first_over value (drop (at + 1) xs)
 unfolding first_over
 over_next value xs at d lt fits = rw (drop_more xs at d lt, fits) refl
 
-pub over_here : (value : ℕ) (xs : List Stream) (at : ℕ) (d : Stream) → at < length xs → int_lt (pos largest_window) (window_of value (get_or xs at d).credit) ≡ true → first_over value (drop at xs) ≡ Some (get_or xs at d).number
+pub over_here : (value : ℕ) (xs : List Stream) (at : ℕ) (d : Stream) → at < length xs → int_lt (pos MAX_WINDOW_SIZE) (window_of value (get_or xs at d).credit) ≡ true → first_over value (drop at xs) ≡ Some (get_or xs at d).number
 unfolding first_over
 over_here value xs at d lt passes = rw (drop_more xs at d lt, passes) refl
 

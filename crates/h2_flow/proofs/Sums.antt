@@ -5,13 +5,14 @@ use Rattle.std.proofs.lemmas.Bool.{cases_Bool}
 use Rattle.std.proofs.lemmas.Int.{ints}
 use Rattle.std.proofs.lemmas.List.{length-take}
 use Rattle.std.proofs.lemmas.List.Sums.{sum_by-cons, sum_by-append, take_while-cons}
+use Rattle.h2_wire.specs.declared.limit.TheConstants.{INITIAL_WINDOW_SIZE, MAX_FRAME_SIZE, MAX_WINDOW_SIZE}
 use Rattle.h2_flow.specs.declared.flow.Flow.{Flow}
 use Rattle.h2_flow.specs.declared.stream.Stream.{Stream}
 use Rattle.h2_flow.specs.Windows.{room_of, window_of, allowed_of}
 use Rattle.h2_flow.specs.Streams.{Sent, content, Turn, idle, headers_turn, data_turn, last_turn, next_turn, body_turn, head_turn, turn}
 use Rattle.h2_flow.specs.Pulls.{Round, round, rounds, all_work, all_rounds}
 use Rattle.h2_flow.specs.declared.overflow.Overflow.{Overflow}
-use Rattle.h2_flow.specs.Outboxes.{Out, fresh, is_number, IsAbove, new_stream, RisesFrom, numbers, changed, added, removed, controlled, shrunk, headed, offered, withdrawn, closed_by, largest_window, credit_of, grown_room, grown_stream, grown, first_over, with_initial, initialed, pulled}
+use Rattle.h2_flow.specs.Outboxes.{Out, fresh, is_number, IsAbove, new_stream, RisesFrom, numbers, changed, added, removed, controlled, shrunk, headed, offered, withdrawn, finished_by, credit_of, grown_connection, grown_stream, grown, first_over, with_initial, initialed, pulled}
 use Rattle.h2_flow.proofs.Orders.{number_of, rises_from, rises_added, rises_filter}
 use Rattle.h2_flow.specs.Histories.{Step, Add, Remove, Initial, Grow, Control, Shrink, Give, Offer, Withdraw, Finish, Pull, Leads, Reaches, HasSums, data_of, data_on, step_on, written, written_on, last_initial, is_added, since, stream_sum}
 
@@ -19,8 +20,8 @@ use Rattle.h2_flow.specs.Histories.{Step, Add, Remove, Initial, Grow, Control, S
 
 -- what it wrote went off both windows, and off no other stream's
 pub record TurnSums (f : Flow) (s : Stream) (t : Turn) : Type 0 where
-  pub initial : t.flow.initial ≡ f.initial
-  pub room : t.flow.room + sum_by data_of t.sent ≡ f.room
+  pub initial_window_size : t.flow.initial_window_size ≡ f.initial_window_size
+  pub connection_window : t.flow.connection_window + sum_by data_of t.sent ≡ f.connection_window
   pub number : t.stream.number ≡ s.number
   pub credit : t.stream.credit ≡ s.credit -ℤ pos (sum_by (data_on s.number) t.sent)
   pub others : (n : ℕ) → (n == s.number) ≡ false → sum_by (data_on n) t.sent ≡ 0
@@ -30,17 +31,17 @@ sums_cond true x y f s h k = h
 sums_cond false x y f s h k = k
 
 sums_idle : (f : Flow) (s : Stream) → TurnSums f s (idle f s)
-sums_idle f s = record { initial = refl; room = omega arith; number = refl; credit = omega (arith, ints); others = λ n e. refl }
+sums_idle f s = record { initial_window_size = refl; connection_window = omega arith; number = refl; credit = omega (arith, ints); others = λ n e. refl }
 
 sums_headers : (f : Flow) (s : Stream) (block : List ℕ) (ended : Bool) → TurnSums f s (headers_turn f s block ended)
 unfolding headers_turn
-sums_headers f s block ended = record { initial = refl; room = omega arith; number = refl; credit = omega (arith, ints); others = λ n e. refl }
+sums_headers f s block ended = record { initial_window_size = refl; connection_window = omega arith; number = refl; credit = omega (arith, ints); others = λ n e. refl }
 
 -- so much goes off the windows
-spent_sums : (f : Flow) (s : Stream) (bytes : List ℕ) (n : ℕ) → length bytes ≡ n → n ≤ f.room → TurnSums f s (record { sent = content s.number bytes ∷ []; flow = record f { room = f.room - n }; stream = record s { sent = s.sent + n; credit = s.credit -ℤ pos n; written = true } })
+spent_sums : (f : Flow) (s : Stream) (bytes : List ℕ) (n : ℕ) → length bytes ≡ n → n ≤ f.connection_window → TurnSums f s (record { sent = content s.number bytes ∷ []; flow = record f { connection_window = f.connection_window - n }; stream = record s { sent = s.sent + n; credit = s.credit -ℤ pos n; written = true } })
 spent_sums f s bytes n e le = record {
-  initial = refl;
-  room = omega arith;
+  initial_window_size = refl;
+  connection_window = omega arith;
   number = refl;
   credit = rw (eq-eqb s.number s.number refl, e, zero-add n) refl;
   others = λ m other. rw other refl;
@@ -51,8 +52,8 @@ unfolding data_turn
 sums_data f s =
     let left : List ℕ = drop s.sent s.last in
     let n : ℕ = allowed_of f s.credit (length left) in
-    let exact : length (take n left) ≡ n = length-take n left ∙ least f.room (min 16384 (room_of (window_of f.initial s.credit))) (length left) in
-    sums_cond (n == 0) _ _ f s (sums_idle f s) (spent_sums f s (take n left) n exact (small f.room (min 16384 (room_of (window_of f.initial s.credit))) (length left)))
+    let exact : length (take n left) ≡ n = length-take n left ∙ least f.connection_window (min MAX_FRAME_SIZE (room_of (window_of f.initial_window_size s.credit))) (length left) in
+    sums_cond (n == 0) _ _ f s (sums_idle f s) (spent_sums f s (take n left) n exact (small f.connection_window (min MAX_FRAME_SIZE (room_of (window_of f.initial_window_size s.credit))) (length left)))
   where
     least : (a b c : ℕ) → min (min (min a b) c) c ≡ min (min a b) c
     least a b c = omega arith
@@ -65,14 +66,14 @@ unfolding last_turn
 sums_last f s None = sums_idle f s
 sums_last f s (Some block) =
     let h = sums_headers f (record s { trailers = None }) block true in
-    record { initial = h.initial; room = h.room; number = h.number; credit = h.credit; others = h.others }
+    record { initial_window_size = h.initial_window_size; connection_window = h.connection_window; number = h.number; credit = h.credit; others = h.others }
 
 sums_next : (f : Flow) (s : Stream) (w : Option (List ℕ)) → TurnSums f s (next_turn f s w)
 unfolding next_turn
 sums_next f s None = sums_last f s s.trailers
 sums_next f s (Some message) =
     let h = sums_data (record f { begun = f.begun + 1 }) (record s { last = message; sent = 0; waiting = None }) in
-    sums_cond (allowed_of f s.credit (length message) == 0) _ _ f s (sums_idle f s) (record { initial = h.initial; room = h.room; number = h.number; credit = h.credit; others = h.others })
+    sums_cond (allowed_of f s.credit (length message) == 0) _ _ f s (sums_idle f s) (record { initial_window_size = h.initial_window_size; connection_window = h.connection_window; number = h.number; credit = h.credit; others = h.others })
 
 sums_body : (f : Flow) (s : Stream) → TurnSums f s (body_turn f s)
 unfolding body_turn
@@ -82,7 +83,7 @@ sums_head : (f : Flow) (s : Stream) (h : Option (List ℕ)) → TurnSums f s (he
 sums_head f s None = sums_body f s
 sums_head f s (Some block) =
     let h = sums_headers f (record s { head = None }) block false in
-    record { initial = h.initial; room = h.room; number = h.number; credit = h.credit; others = h.others }
+    record { initial_window_size = h.initial_window_size; connection_window = h.connection_window; number = h.number; credit = h.credit; others = h.others }
 
 sums_turn : (f : Flow) (s : Stream) → TurnSums f s (turn f s)
 unfolding turn
@@ -107,14 +108,14 @@ spent_before n first sent off (s ∷ ss) (t ∷ ts) rises h =
     (h.0, h.1 ∙ ap (λ (k : ℕ). s.credit -ℤ pos k) (sym (sum_by-append (data_on s.number) first sent ∙ rw none (zero-add _))), spent_before n first sent off ss ts (rises_from n s.number (map number_of ss) (omega arith) rises.1) h.2)
 
 pub record RoundSums (f : Flow) (ss : List Stream) (r : Round) : Type 0 where
-  pub initial : r.flow.initial ≡ f.initial
-  pub room : r.flow.room + sum_by data_of r.sent ≡ f.room
+  pub initial_window_size : r.flow.initial_window_size ≡ f.initial_window_size
+  pub connection_window : r.flow.connection_window + sum_by data_of r.sent ≡ f.connection_window
   pub spent : Spent r.sent ss r.streams
   pub others : (n : ℕ) → RisesFrom n (map number_of ss) → sum_by (data_on n) r.sent ≡ 0
 
 sums_round : (n : ℕ) (f : Flow) (ss : List Stream) → RisesFrom n (map number_of ss) → RoundSums f ss (round f ss)
 unfolding round
-sums_round n f [] rises = record { initial = refl; room = omega arith; spent = tt; others = λ n above. refl }
+sums_round n f [] rises = record { initial_window_size = refl; connection_window = omega arith; spent = tt; others = λ n above. refl }
 sums_round n f (s ∷ ss) rises =
     let t = turn f s in
     let h = sums_turn f s in
@@ -122,8 +123,8 @@ sums_round n f (s ∷ ss) rises =
     let k = sums_round s.number t.flow ss rises.1 in
     let none : sum_by (data_on s.number) r.sent ≡ 0 = k.others s.number rises.1 in
     record {
-      initial = k.initial ∙ h.initial;
-      room = simp sum_by-append (omega (arith, h.room, k.room));
+      initial_window_size = k.initial_window_size ∙ h.initial_window_size;
+      connection_window = simp sum_by-append (omega (arith, h.connection_window, k.connection_window));
       spent = (h.number, h.credit ∙ ap (λ (j : ℕ). s.credit -ℤ pos j) (sym (sum_by-append (data_on s.number) t.sent r.sent ∙ rw none (add-zero _))), spent_before s.number t.sent r.sent h.others ss r.streams rises.1 k.spent);
       others = λ n above. sum_by-append (data_on n) t.sent r.sent ∙ rw (h.others n (ne_eqb n s.number (λ e. absurd (omega arith))), k.others n (rises_from n s.number (map number_of ss) (omega arith) rises.1)) refl;
     }
@@ -158,7 +159,7 @@ sums_after false f ss x y h k = k
 
 sums_rounds : (n : ℕ) (f : Flow) (ss : List Stream) → RisesFrom 0 (map number_of ss) → RoundSums f ss (rounds n f ss)
 unfolding rounds
-sums_rounds zero f ss rises = record { initial = refl; room = omega arith; spent = spent_none ss; others = λ n above. refl }
+sums_rounds zero f ss rises = record { initial_window_size = refl; connection_window = omega arith; spent = spent_none ss; others = λ n above. refl }
 sums_rounds (suc n) f ss rises =
     let r = round f ss in
     let h : RoundSums f ss r = sums_round 0 f ss rises in
@@ -166,8 +167,8 @@ sums_rounds (suc n) f ss rises =
     let next = rounds n r.flow r.streams in
     let k : RoundSums r.flow r.streams next = sums_rounds n r.flow r.streams (rw same rises) in
     sums_after (length r.sent == 0) f ss _ _ h (record {
-      initial = k.initial ∙ h.initial;
-      room = simp sum_by-append (omega (arith, h.room, k.room));
+      initial_window_size = k.initial_window_size ∙ h.initial_window_size;
+      connection_window = simp sum_by-append (omega (arith, h.connection_window, k.connection_window));
       spent = spent_both r.sent next.sent ss r.streams next.streams h.spent k.spent;
       others = λ m above. sum_by-append (data_on m) r.sent next.sent ∙ rw (h.others m above, k.others m (rw same above)) refl;
     })
@@ -264,19 +265,19 @@ numbers_moved step (s ∷ ss) (t ∷ ts) h = rw (h.0, numbers_moved step ss ts h
 
 -- the sums, apart from the initial window, and the order of the streams, on which they rest
 pub record Holds (steps : List Step) (o : Out) : Type 0 where
-  pub initial : o.flow.initial ≡ last_initial steps
-  pub room : o.flow.room + sum_by written steps ≡ 65535 + sum_by (step_on 0) steps
+  pub initial_window_size : o.flow.initial_window_size ≡ last_initial steps
+  pub connection_window : o.flow.connection_window + sum_by written steps ≡ INITIAL_WINDOW_SIZE + sum_by (step_on 0) steps
   pub credits : Credits steps o.streams
   pub rises : RisesFrom 0 (numbers o)
 
 holds_fresh : Holds [] fresh
-holds_fresh = record { initial = refl; room = refl; credits = tt; rises = tt }
+holds_fresh = record { initial_window_size = refl; connection_window = refl; credits = tt; rises = tt }
 
 -- a call that adds and drops no stream
-holds_moved : (step : Step) (before : List Step) (o new : Out) → ((n : ℕ) → is_added n step ≡ false) → new.flow.initial ≡ last_initial (step ∷ before) → new.flow.room + written step ≡ o.flow.room + step_on 0 step → Moved step o.streams new.streams → Holds before o → Holds (step ∷ before) new
+holds_moved : (step : Step) (before : List Step) (o new : Out) → ((n : ℕ) → is_added n step ≡ false) → new.flow.initial_window_size ≡ last_initial (step ∷ before) → new.flow.connection_window + written step ≡ o.flow.connection_window + step_on 0 step → Moved step o.streams new.streams → Holds before o → Holds (step ∷ before) new
 holds_moved step before o new later initial room moved h = record {
-  initial = initial;
-  room = rw (sum_by-cons written step before, sum_by-cons (step_on 0) step before) (omega (arith, room, h.room));
+  initial_window_size = initial;
+  connection_window = rw (sum_by-cons written step before, sum_by-cons (step_on 0) step before) (omega (arith, room, h.connection_window));
   credits = credits_moved step before o.streams new.streams later moved h.credits;
   rises = rw (numbers_moved step o.streams new.streams moved) h.rises;
 }
@@ -292,8 +293,8 @@ credits_added n before (s ∷ ss) above h =
 holds_added : (n : ℕ) (before : List Step) (o : Out) → 0 < n → IsAbove n o.streams → Holds before o → Holds (Add n ∷ before) (added n o)
 unfolding added
 holds_added n before o lt above h = record {
-  initial = h.initial;
-  room = h.room;
+  initial_window_size = h.initial_window_size;
+  connection_window = h.connection_window;
   credits = credits_added n before o.streams above h.credits;
   rises = rises_added 0 n o.streams lt above h.rises;
 }
@@ -312,10 +313,10 @@ holds_removed : (n : ℕ) (before : List Step) (o : Out) → Holds before o → 
 unfolding removed
 holds_removed n before o h =
     let still : IsStill (Remove n) = record { steps = λ m. refl; none = λ m. refl } in
-    let all : Holds (Remove n ∷ before) o = holds_moved (Remove n) before o o (λ m. refl) h.initial (omega arith) (moved_none (Remove n) o.streams still) h in
+    let all : Holds (Remove n ∷ before) o = holds_moved (Remove n) before o o (λ m. refl) h.initial_window_size (omega arith) (moved_none (Remove n) o.streams still) h in
     record {
-      initial = h.initial;
-      room = h.room;
+      initial_window_size = h.initial_window_size;
+      connection_window = h.connection_window;
       credits = all_filter _ (λ s. not (is_number n s)) o.streams all.credits;
       rises = rises_filter 0 (λ s. not (is_number n s)) o.streams h.rises;
     }
@@ -327,18 +328,18 @@ granted : (b : Bool) (e : Overflow) (x new : Out) → cond b (Err e) (Ok x) ≡ 
 granted true e x new due = absurd (cc due)
 granted false e x new due = cc
 
-holds_room : (step : ℕ) (before : List Step) (o new : Out) → grown_room step o ≡ Ok new → Holds before o → Holds (Grow 0 step ∷ before) new
-unfolding grown_room
+holds_room : (step : ℕ) (before : List Step) (o new : Out) → grown_connection step o ≡ Ok new → Holds before o → Holds (Grow 0 step ∷ before) new
+unfolding grown_connection
 holds_room step before o new due h =
-    rw (granted (nat_lt largest_window (o.flow.room + step)) _ _ new due)
-    (holds_moved (Grow 0 step) before o (record o { flow = record o.flow { room = o.flow.room + step } }) (λ m. refl) h.initial (omega arith) (moved_past 0 step o.streams h.rises) h)
+    rw (granted (nat_lt MAX_WINDOW_SIZE (o.flow.connection_window + step)) _ _ new due)
+    (holds_moved (Grow 0 step) before o (record o { flow = record o.flow { connection_window = o.flow.connection_window + step } }) (λ m. refl) h.initial_window_size (omega arith) (moved_past 0 step o.streams h.rises) h)
 
 holds_stream : (n step : ℕ) (before : List Step) (o new : Out) → (n == 0) ≡ false → grown_stream n step o ≡ Ok new → Holds before o → Holds (Grow n step ∷ before) new
 unfolding grown_stream
 holds_stream n step before o new some due h =
     let none : (0 == n) ≡ false = ne_eqb 0 n (λ e. absurd (differ some (eq-eqb n 0 (sym e)))) in
-    rw (granted (int_lt (pos largest_window) (window_of o.flow.initial (credit_of n o.streams) +ℤ pos step)) _ _ new due)
-    (holds_moved (Grow n step) before o (record o { streams = changed n (λ s. record s { credit = s.credit +ℤ pos step }) o.streams }) (λ m. refl) h.initial (rw none (omega arith)) (moved_grown 0 n step o.streams h.rises) h)
+    rw (granted (int_lt (pos MAX_WINDOW_SIZE) (window_of o.flow.initial_window_size (credit_of n o.streams) +ℤ pos step)) _ _ new due)
+    (holds_moved (Grow n step) before o (record o { streams = changed n (λ s. record s { credit = s.credit +ℤ pos step }) o.streams }) (λ m. refl) h.initial_window_size (rw none (omega arith)) (moved_grown 0 n step o.streams h.rises) h)
   where
     differ : {b : Bool} → b ≡ false → b ≡ true → ⊥
     differ off on = absurd (cc (off, on))
@@ -354,9 +355,9 @@ holds_grown n step before o new due h =
 holds_initial : (value : ℕ) (before : List Step) (o new : Out) (over : Option ℕ) → with_initial value o over ≡ Ok new → Holds before o → Holds (Initial value ∷ before) new
 holds_initial value before o new (Some n) due h = absurd (cc due)
 holds_initial value before o new None due h =
-    let same : record o { flow = record o.flow { initial = value } } ≡ new = cc due in
+    let same : record o { flow = record o.flow { initial_window_size = value } } ≡ new = cc due in
     let still : IsStill (Initial value) = record { steps = λ m. refl; none = λ m. refl } in
-    rw (← same) (holds_moved (Initial value) before o (record o { flow = record o.flow { initial = value } }) (λ m. refl) refl (omega arith) (moved_none (Initial value) o.streams still) h)
+    rw (← same) (holds_moved (Initial value) before o (record o { flow = record o.flow { initial_window_size = value } }) (λ m. refl) refl (omega arith) (moved_none (Initial value) o.streams still) h)
 
 -- ---- a pull
 
@@ -365,26 +366,26 @@ unfolding pulled all_rounds
 holds_pulled before o h =
     let r = all_rounds o.flow o.streams in
     let k : RoundSums o.flow o.streams r = sums_rounds (all_work o.streams + 1) o.flow o.streams h.rises in
-    holds_moved (Pull r.sent) before o (pulled o).left (λ m. refl) (k.initial ∙ h.initial) (k.room ∙ omega arith) (moved_spent r.sent o.streams r.streams k.spent) h
+    holds_moved (Pull r.sent) before o (pulled o).left (λ m. refl) (k.initial_window_size ∙ h.initial_window_size) (k.connection_window ∙ omega arith) (moved_spent r.sent o.streams r.streams k.spent) h
 
 -- ---- all calls
 
-holds_changed : (step : Step) (n : ℕ) (f : Stream → Stream) (before : List Step) (o : Out) → ((n : ℕ) → is_added n step ≡ false) → o.flow.initial ≡ last_initial (step ∷ before) → IsStill step → written step ≡ 0 → ((s : Stream) → (f s).number ≡ s.number) → ((s : Stream) → (f s).credit ≡ s.credit) → Holds before o → Holds (step ∷ before) (record o { streams = changed n f o.streams })
+holds_changed : (step : Step) (n : ℕ) (f : Stream → Stream) (before : List Step) (o : Out) → ((n : ℕ) → is_added n step ≡ false) → o.flow.initial_window_size ≡ last_initial (step ∷ before) → IsStill step → written step ≡ 0 → ((s : Stream) → (f s).number ≡ s.number) → ((s : Stream) → (f s).credit ≡ s.credit) → Holds before o → Holds (step ∷ before) (record o { streams = changed n f o.streams })
 holds_changed step n f before o later initial still none number credit h =
     holds_moved step before o _ later initial (rw (none, still.steps 0) refl) (moved_changed step n f still number credit o.streams) h
 
 holds_next : (step : Step) (before : List Step) (old new : Out) → Holds before old → Leads step old new → Holds (step ∷ before) new
-unfolding controlled shrunk headed offered withdrawn closed_by initialed
+unfolding controlled shrunk headed offered withdrawn finished_by initialed
 holds_next (Add n) before old new h e = rw e.2 (holds_added n before old e.0 e.1 h)
 holds_next (Remove n) before old new h e = rw e (holds_removed n before old h)
 holds_next (Initial value) before old new h e = holds_initial value before old new (first_over value old.streams) e h
 holds_next (Grow n step) before old new h e = holds_grown n step before old new e h
-holds_next (Control frame) before old new h e = rw e (holds_moved (Control frame) before old _ (λ m. refl) h.initial refl (moved_none (Control frame) old.streams (record { steps = λ m. refl; none = λ m. refl })) h)
-holds_next Shrink before old new h e = rw e (holds_moved Shrink before old _ (λ m. refl) h.initial refl (moved_none Shrink old.streams (record { steps = λ m. refl; none = λ m. refl })) h)
-holds_next (Give n block) before old new h e = rw e (holds_changed (Give n block) n _ before old (λ m. refl) h.initial (record { steps = λ m. refl; none = λ m. refl }) refl (λ s. refl) (λ s. refl) h)
-holds_next (Offer n message) before old new h e = rw e (holds_changed (Offer n message) n _ before old (λ m. refl) h.initial (record { steps = λ m. refl; none = λ m. refl }) refl (λ s. refl) (λ s. refl) h)
-holds_next (Withdraw n) before old new h e = rw e (holds_changed (Withdraw n) n _ before old (λ m. refl) h.initial (record { steps = λ m. refl; none = λ m. refl }) refl (λ s. refl) (λ s. refl) h)
-holds_next (Finish n block) before old new h e = rw e (holds_changed (Finish n block) n _ before old (λ m. refl) h.initial (record { steps = λ m. refl; none = λ m. refl }) refl (λ s. refl) (λ s. refl) h)
+holds_next (Control frame) before old new h e = rw e (holds_moved (Control frame) before old _ (λ m. refl) h.initial_window_size refl (moved_none (Control frame) old.streams (record { steps = λ m. refl; none = λ m. refl })) h)
+holds_next Shrink before old new h e = rw e (holds_moved Shrink before old _ (λ m. refl) h.initial_window_size refl (moved_none Shrink old.streams (record { steps = λ m. refl; none = λ m. refl })) h)
+holds_next (Give n block) before old new h e = rw e (holds_changed (Give n block) n _ before old (λ m. refl) h.initial_window_size (record { steps = λ m. refl; none = λ m. refl }) refl (λ s. refl) (λ s. refl) h)
+holds_next (Offer n message) before old new h e = rw e (holds_changed (Offer n message) n _ before old (λ m. refl) h.initial_window_size (record { steps = λ m. refl; none = λ m. refl }) refl (λ s. refl) (λ s. refl) h)
+holds_next (Withdraw n) before old new h e = rw e (holds_changed (Withdraw n) n _ before old (λ m. refl) h.initial_window_size (record { steps = λ m. refl; none = λ m. refl }) refl (λ s. refl) (λ s. refl) h)
+holds_next (Finish n block) before old new h e = rw e (holds_changed (Finish n block) n _ before old (λ m. refl) h.initial_window_size (record { steps = λ m. refl; none = λ m. refl }) refl (λ s. refl) (λ s. refl) h)
 holds_next (Pull sent) before old new h e = rw (e.0, e.1) (holds_pulled before old h)
 
 holds_reached : (steps : List Step) (o : Out) → Reaches steps o → Holds steps o
@@ -398,7 +399,7 @@ windows_all initial steps (s ∷ ss) same h = (rw (h.0, same) (omega (arith, int
 pub reached_sums : (steps : List Step) (o : Out) → Reaches steps o → HasSums steps o
 reached_sums steps o e =
     let h : Holds steps o = holds_reached steps o e in
-    record { connection = omega (arith, ints, h.room); each = windows_all o.flow.initial steps o.streams h.initial h.credits }
+    record { connection = omega (arith, ints, h.connection_window); each = windows_all o.flow.initial_window_size steps o.streams h.initial_window_size h.credits }
 
 pub reached_rises : (steps : List Step) (o : Out) → Reaches steps o → RisesFrom 0 (numbers o)
 reached_rises steps o e = (holds_reached steps o e).rises

@@ -1,10 +1,11 @@
 -- What came to an outbox and what it wrote, and its windows as sums over that.
 use Rattle.std.specs.Prelude.{◌≡◌, ℕ, ◌+◌, ◌<◌, ◌==◌, ℤ, pos, ◌-ℤ◌, Bool, false, not, if◌then◌else◌, List, [], ◌∷◌, length, sum_by, Ok}
 use Rattle.std.specs.List.{take_while, AllByRecursion}
+use Rattle.h2_wire.specs.declared.limit.TheConstants.{INITIAL_WINDOW_SIZE}
 use Rattle.h2_flow.specs.declared.stream.Stream.{Stream}
 use Rattle.h2_flow.specs.Windows.{window_of}
 use Rattle.h2_flow.specs.Streams.{Sent, headers, content}
-use Rattle.h2_flow.specs.Outboxes.{Out, fresh, IsAbove, added, removed, controlled, shrunk, headed, offered, withdrawn, closed_by, grown, initialed, pulled}
+use Rattle.h2_flow.specs.Outboxes.{Out, fresh, IsAbove, added, removed, controlled, shrunk, headed, offered, withdrawn, finished_by, grown, initialed, pulled}
 
 -- ---- histories
 
@@ -33,7 +34,7 @@ Leads Shrink old new = new ≡ shrunk old
 Leads (Give n block) old new = new ≡ headed n block old
 Leads (Offer n message) old new = new ≡ offered n message old
 Leads (Withdraw n) old new = new ≡ withdrawn n old
-Leads (Finish n block) old new = new ≡ closed_by n block old
+Leads (Finish n block) old new = new ≡ finished_by n block old
 Leads (Pull sent) old new = (sent ≡ (pulled old).sent) × (new ≡ (pulled old).left)
 
 -- these calls, the last one first, took a fresh outbox to this one
@@ -70,7 +71,7 @@ written_on n _ = 0
 
 -- the peer's last initial window of streams (RFC 9113, section 6.9.2: 65,535 before any)
 abbrev pub last_initial : List Step → ℕ
-last_initial [] = 65535
+last_initial [] = INITIAL_WINDOW_SIZE
 last_initial (Initial value ∷ before) = value
 last_initial (_ ∷ before) = last_initial before
 
@@ -84,7 +85,7 @@ since n steps = take_while (λ step. not (is_added n step)) steps
 
 -- RFC 9113, section 6.9: 65,535 and all steps on the connection, less all bytes of DATA written
 abbrev pub connection_sum : List Step → ℤ
-connection_sum steps = pos (65535 + sum_by (step_on 0) steps) -ℤ pos (sum_by written steps)
+connection_sum steps = pos (INITIAL_WINDOW_SIZE + sum_by (step_on 0) steps) -ℤ pos (sum_by written steps)
 
 -- RFC 9113, section 6.9: the last initial window and all steps on the stream, less the bytes of DATA written on it
 abbrev pub stream_sum : ℕ → List Step → ℤ
@@ -92,5 +93,5 @@ stream_sum n steps = pos (last_initial steps + sum_by (step_on n) (since n steps
 
 -- the outbox's windows are these sums
 pub record HasSums (steps : List Step) (o : Out) : Type 0 where
-  pub connection : pos o.flow.room ≡ connection_sum steps
-  pub each : AllByRecursion (λ (s : Stream). window_of o.flow.initial s.credit ≡ stream_sum s.number steps) o.streams
+  pub connection : pos o.flow.connection_window ≡ connection_sum steps
+  pub each : AllByRecursion (λ (s : Stream). window_of o.flow.initial_window_size s.credit ≡ stream_sum s.number steps) o.streams

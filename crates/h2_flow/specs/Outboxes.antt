@@ -1,9 +1,10 @@
 -- An outbox and its calls.
 use Rattle.std.specs.Prelude.{◌≡◌, ℕ, ◌+◌, ◌<◌, ◌≤◌, ◌==◌, nat_lt, ℤ, pos, ◌+ℤ◌, int_lt, Bool, true, false, not, ◌&&◌, if◌then◌else◌, List, [], ◌∷◌, ◌++◌, map, filter, Contains, Option, Some, None, Result, Ok, Err, bytes_eq}
 use Rattle.std.specs.List.{list_any, AllByRecursion}
+use Rattle.h2_wire.specs.declared.limit.TheConstants.{INITIAL_WINDOW_SIZE, MAX_WINDOW_SIZE}
 use Rattle.h2_flow.specs.declared.flow.Flow.{Flow}
-use Rattle.h2_flow.specs.declared.flow.Update.{Update}
-use Rattle.h2_flow.specs.declared.flow.Update.TheVariants.{Unasked, Due, Written}
+use Rattle.h2_flow.specs.declared.flow.TableSizeUpdate.{TableSizeUpdate}
+use Rattle.h2_flow.specs.declared.flow.TableSizeUpdate.TheVariants.{Unasked, Due, Written}
 use Rattle.h2_flow.specs.declared.overflow.Overflow.{Overflow}
 use Rattle.h2_flow.specs.declared.stream.Stream.{Stream}
 use Rattle.h2_flow.specs.Windows.{window_of}
@@ -19,7 +20,7 @@ pub record Out : Type 0 where
 
 -- RFC 9113, section 6.9.2: both windows begin with 65,535
 abbrev pub fresh : Out
-fresh = record { flow = record { room = 65535; initial = 65535; update = Unasked; begun = 0 }; control = []; streams = []; failed = false }
+fresh = record { flow = record { connection_window = INITIAL_WINDOW_SIZE; initial_window_size = INITIAL_WINDOW_SIZE; update = Unasked; begun = 0 }; control = []; streams = []; failed = false }
 
 abbrev pub failing : Out → Out
 failing o = record o { failed = true }
@@ -42,7 +43,7 @@ abbrev pub is_written : ℕ → Out → Bool
 is_written n o = list_any (λ s. is_number n s && s.written) o.streams
 
 -- the size update of header blocks was asked for
-abbrev pub is_asked : Update → Bool
+abbrev pub is_asked : TableSizeUpdate → Bool
 is_asked Unasked = false
 is_asked Due = true
 is_asked Written = true
@@ -101,43 +102,39 @@ offered n message o = record o { streams = changed n (with_offer message) o.stre
 unfoldable pub withdrawn : ℕ → Out → Out
 withdrawn n o = record o { streams = changed n (λ s. record s { waiting = None }) o.streams }
 
-unfoldable pub closed_by : ℕ → List ℕ → Out → Out
-closed_by n block o = record o { streams = changed n (λ s. record s { trailers = Some block; finished = true }) o.streams }
+unfoldable pub finished_by : ℕ → List ℕ → Out → Out
+finished_by n block o = record o { streams = changed n (λ s. record s { trailers = Some block; finished = true }) o.streams }
 
 -- ---- windows
-
--- RFC 9113, section 6.9.1: the largest window
-abbrev pub largest_window : ℕ
-largest_window = 2147483647
 
 -- the credit of the stream of this number
 abbrev pub credit_of : ℕ → List Stream → ℤ
 credit_of n [] = pos 0
 credit_of n (s ∷ ss) = if s.number == n then s.credit else credit_of n ss
 
-unfoldable pub grown_room : ℕ → Out → Result Out Overflow
-grown_room step o =
-    if nat_lt largest_window (o.flow.room + step) then Err (record { stream = 0 })
-    else Ok (record o { flow = record o.flow { room = o.flow.room + step } })
+unfoldable pub grown_connection : ℕ → Out → Result Out Overflow
+grown_connection step o =
+    if nat_lt MAX_WINDOW_SIZE (o.flow.connection_window + step) then Err (record { stream = 0 })
+    else Ok (record o { flow = record o.flow { connection_window = o.flow.connection_window + step } })
 
 unfoldable pub grown_stream : ℕ → ℕ → Out → Result Out Overflow
 grown_stream n step o =
-    if int_lt (pos largest_window) (window_of o.flow.initial (credit_of n o.streams) +ℤ pos step) then Err (record { stream = n })
+    if int_lt (pos MAX_WINDOW_SIZE) (window_of o.flow.initial_window_size (credit_of n o.streams) +ℤ pos step) then Err (record { stream = n })
     else Ok (record o { streams = changed n (λ s. record s { credit = s.credit +ℤ pos step }) o.streams })
 
 -- a step of WINDOW_UPDATE, on stream 0 that of the connection
 unfoldable pub grown : ℕ → ℕ → Out → Result Out Overflow
-grown n step o = if n == 0 then grown_room step o else grown_stream n step o
+grown n step o = if n == 0 then grown_connection step o else grown_stream n step o
 
 -- the first stream whose window would pass the largest with this initial window
 unfoldable pub first_over : ℕ → List Stream → Option ℕ
 first_over value [] = None
-first_over value (s ∷ ss) = if int_lt (pos largest_window) (window_of value s.credit) then Some s.number else first_over value ss
+first_over value (s ∷ ss) = if int_lt (pos MAX_WINDOW_SIZE) (window_of value s.credit) then Some s.number else first_over value ss
 
 -- RFC 9113, section 6.9.2: each stream's window is a sum with the initial window, so it moves with it, below zero too
 abbrev pub with_initial : ℕ → Out → Option ℕ → Result Out Overflow
 with_initial value o (Some n) = Err (record { stream = n })
-with_initial value o None = Ok (record o { flow = record o.flow { initial = value } })
+with_initial value o None = Ok (record o { flow = record o.flow { initial_window_size = value } })
 
 unfoldable pub initialed : ℕ → Out → Result Out Overflow
 initialed value o = with_initial value o (first_over value o.streams)
@@ -145,7 +142,7 @@ initialed value o = with_initial value o (first_over value o.streams)
 -- such a stream, and no lower one
 abbrev pub IsLowestOver : ℕ → ℕ → List Stream → Type 0
 IsLowestOver value n streams =
-    let over = map (λ (s : Stream). s.number) (filter (λ s. int_lt (pos largest_window) (window_of value s.credit)) streams) in
+    let over = map (λ (s : Stream). s.number) (filter (λ s. int_lt (pos MAX_WINDOW_SIZE) (window_of value s.credit)) streams) in
     Contains over n × AllByRecursion (λ m. n ≤ m) over
 
 -- ---- a pull

@@ -1,9 +1,11 @@
 -- What one stream writes in its turn.
 use Rattle.std.specs.Prelude.{ℕ, ◌+◌, ◌-◌, ◌==◌, nat_lt, pos, ◌-ℤ◌, Bool, true, false, if◌then◌else◌, List, [], ◌∷◌, ◌++◌, length, take, drop, Option, Some, None}
+use Rattle.h2_wire.specs.declared.flag.TheConstants as flag
+use Rattle.h2_wire.specs.declared.frame_type.TheConstants.{DATA, HEADERS}
 use Rattle.h2_wire.specs.Spelling.{frame_bytes}
 use Rattle.h2_flow.specs.declared.flow.Flow.{Flow}
-use Rattle.h2_flow.specs.declared.flow.Update.{Update}
-use Rattle.h2_flow.specs.declared.flow.Update.TheVariants.{Unasked, Due, Written}
+use Rattle.h2_flow.specs.declared.flow.TableSizeUpdate.{TableSizeUpdate}
+use Rattle.h2_flow.specs.declared.flow.TableSizeUpdate.TheVariants.{Unasked, Due, Written}
 use Rattle.h2_flow.specs.declared.stream.Stream.{Stream}
 use Rattle.h2_flow.specs.Windows.{allowed_of}
 
@@ -16,8 +18,8 @@ pub data Sent : Type 0 where
 
 -- RFC 9113, sections 6.1 and 6.2
 abbrev pub sent_bytes : Sent → List ℕ
-sent_bytes (headers stream block ended) = frame_bytes 1 (if ended then 5 else 4) stream block
-sent_bytes (content stream bytes) = frame_bytes 0 0 stream bytes
+sent_bytes (headers stream block ended) = frame_bytes HEADERS (if ended then flag.END_HEADERS + flag.END_STREAM else flag.END_HEADERS) stream block
+sent_bytes (content stream bytes) = frame_bytes DATA 0 stream bytes
 
 -- the stream that a frame ends
 abbrev pub ended_by : Sent → List ℕ
@@ -36,19 +38,19 @@ abbrev pub idle : Flow → Stream → Turn
 idle f s = record { sent = []; flow = f; stream = s }
 
 -- RFC 7541, sections 4.2 and 6.3: a size update to 0 is the byte 0x20, and it stands at the beginning of a block
-abbrev pub before_block : Update → List ℕ
-before_block Unasked = []
-before_block Due = 32 ∷ []
-before_block Written = []
+abbrev pub size_update_bytes : TableSizeUpdate → List ℕ
+size_update_bytes Unasked = []
+size_update_bytes Due = 32 ∷ []
+size_update_bytes Written = []
 
-abbrev pub after_block : Update → Update
+abbrev pub after_block : TableSizeUpdate → TableSizeUpdate
 after_block Unasked = Unasked
 after_block Due = Written
 after_block Written = Written
 
 unfoldable pub headers_turn : Flow → Stream → List ℕ → Bool → Turn
 headers_turn f s block ended = record {
-  sent = headers s.number (before_block f.update ++ block) ended ∷ [];
+  sent = headers s.number (size_update_bytes f.update ++ block) ended ∷ [];
   flow = record f { update = after_block f.update };
   stream = record s { written = true };
 }
@@ -61,7 +63,7 @@ data_turn f s =
     if n == 0 then idle f s
     else record {
       sent = content s.number (take n left) ∷ [];
-      flow = record f { room = f.room - n };
+      flow = record f { connection_window = f.connection_window - n };
       stream = record s { sent = s.sent + n; credit = s.credit -ℤ pos n; written = true };
     }
 

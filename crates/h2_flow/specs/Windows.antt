@@ -1,5 +1,6 @@
 -- Windows, in bytes of DATA.
 use Rattle.std.specs.Prelude.{ℕ, min, ℤ, pos, negsuc, ◌+ℤ◌}
+use Rattle.h2_wire.specs.declared.limit.TheConstants.{MAX_FRAME_SIZE}
 use Rattle.h2_flow.specs.declared.flow.Flow.{Flow}
 
 -- what a window lets through: nothing where it is not above zero
@@ -14,4 +15,4 @@ window_of initial credit = pos initial +ℤ credit
 
 -- the least of a frame's limit, the connection's window, the stream's window and what is left
 abbrev pub allowed_of : Flow → ℤ → ℕ → ℕ
-allowed_of f credit left = min (min f.room (min 16384 (room_of (window_of f.initial credit)))) left
+allowed_of f credit left = min (min f.connection_window (min MAX_FRAME_SIZE (room_of (window_of f.initial_window_size credit)))) left

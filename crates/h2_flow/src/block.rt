@@ -1,6 +1,7 @@
 //! Header blocks that fit one frame.
 
 ghost use Rattle.std.specs.Prelude.{◌≡◌, ◌≤◌, List, ℕ, length};
+ghost use Rattle.h2_wire.specs.declared.limit.TheConstants.{MAX_BLOCK_LEN};
 
 use std::marker::Model;
 use wl_octets::Octets;
@@ -17,12 +18,12 @@ impl Model for Block {
 
     ghost view = { λ b. b.bytes };
 
-    ghost invariant = { λ b. length b.bytes ≤ 16383 };
+    ghost invariant = { λ b. length b.bytes ≤ MAX_BLOCK_LEN };
 }
 
 impl Block {
     pub fn new(bytes: Octets) -> Block
-        requires { length bytes ≤ 16383 }
+        requires { length bytes ≤ MAX_BLOCK_LEN }
         ensures { result ≡ bytes }
     {
         Block { bytes }
@@ -30,7 +31,7 @@ impl Block {
 
     pub fn as_slice(&self) -> &[u8]
         ensures value { result.now ≡ self.now }
-        ensures small { length self.now ≤ 16383 }
+        ensures small { length self.now ≤ MAX_BLOCK_LEN }
     {
         self.bytes.as_slice()
     }

@@ -11,8 +11,8 @@ mod laws;
 mod outbox;
 mod overflow;
 mod pull;
-mod seats;
 mod stream;
+mod streams;
 #[cfg(test)]
 mod tests;
 

@@ -1,29 +1,23 @@
 //! An outbox: what is to be written on a connection.
 
 ghost use Rattle.std.specs.Prelude.{◌≡◌, ◌<◌, ◌≤◌, ◌^◌, ◌==◌, ◌||◌, ◌&&◌, ◌++◌, true, false, List, ℕ, length, vec_capacity, IfOk, OnOk, OnErr, IsErr, pos, ◌+ℤ◌, ◌≤ℤ◌, int_lt, map, IfErr};
+ghost use Rattle.h2_wire.specs.declared.limit.TheConstants.{MAX_BLOCK_LEN, MAX_LIVE_STREAMS, MAX_WINDOW_SIZE};
 ghost use Rattle.h2_flow.specs.Windows.{window_of};
 ghost use Rattle.std.specs.List.{list_any, AllByRecursion};
 ghost use Rattle.list_laws.specs.Lists.{GainsFront};
-ghost use Rattle.h2_flow.specs.Outboxes.{Out, fresh, failing, has, is_open, is_written, is_shrunk, RisesFrom, IsLowestOver, IsAbove, added, removed, controlled, shrunk, headed, offered, withdrawn, closed_by, grown, grown_room, grown_stream, first_over, is_number, initialed, pulled, Changes};
+ghost use Rattle.h2_flow.specs.Outboxes.{Out, fresh, failing, has, is_open, is_written, is_shrunk, RisesFrom, IsLowestOver, IsAbove, added, removed, controlled, shrunk, headed, offered, withdrawn, finished_by, grown, grown_connection, grown_stream, first_over, is_number, initialed, pulled, Changes};
 
 use crate::block::Block;
-use crate::flow::{Flow, Update};
+use crate::flow::{Flow, TableSizeUpdate};
 use crate::overflow::Overflow;
 use crate::pull::take_rounds;
-use crate::seats::{
-    credit, give_head, give_message, give_trailers, has_in, open_in, raise, take_message, take_out,
-    written_in,
-};
 use crate::stream::Stream;
+use crate::streams;
+use crate::streams::{credit, has_in, open_in, raise, take_out, written_in};
+use h2_wire::limit::{INITIAL_WINDOW_SIZE, MAX_LIVE_STREAMS, MAX_WINDOW_SIZE};
 use std::alloc::Global;
 use std::marker::Model;
 use wl_octets::{Memory, Octets, Row};
-
-/// How many streams an outbox has room for.
-const STREAMS: usize = 16;
-
-/// The largest window, in bytes (RFC 9113, section 6.9.1).
-const LARGEST: u32 = 2_147_483_647;
 
 /// What is to be written on a connection: control frames, and for at most 16 streams a head
 /// block, messages and trailers.
@@ -43,7 +37,7 @@ impl Model for Outbox {
 
     ghost view = { λ o. record { flow = o.flow; control = o.control.items; streams = o.streams.items; failed = o.failed } };
 
-    ghost invariant = { λ o. (16 ≤ vec_capacity o.streams) × RisesFrom 0 (map (λ s. s.number) o.streams.items) };
+    ghost invariant = { λ o. (MAX_LIVE_STREAMS ≤ vec_capacity o.streams) × RisesFrom 0 (map (λ s. s.number) o.streams.items) };
 }
 
 impl Outbox {
@@ -51,11 +45,11 @@ impl Outbox {
     pub fn start(alloc: Global) -> Result<Outbox, Memory>
         ensures { IfOk result (λ o. o ≡ fresh) }
     {
-        let streams = Vec::with_capacity(alloc, STREAMS)?;
+        let streams = Vec::with_capacity(alloc, MAX_LIVE_STREAMS)?;
         let flow = Flow {
-            room: 65_535,
-            initial: 65_535,
-            update: Update::Unasked,
+            connection_window: INITIAL_WINDOW_SIZE,
+            initial_window_size: INITIAL_WINDOW_SIZE,
+            update: TableSizeUpdate::Unasked,
             begun: 0,
         };
         Ok(Outbox {
@@ -70,7 +64,7 @@ impl Outbox {
     /// Adds a stream, whose number is above all that are there. It takes no memory.
     #[tactic(auto, unfolding(crate::specs::Outboxes::added))]
     pub fn add(&mut self, stream: u32)
-        requires room { length self.old.streams < 16 }
+        requires room { length self.old.streams < MAX_LIVE_STREAMS }
         requires positive { 0 < stream }
         requires low { stream < 2 ^ 31 }
         requires above { IsAbove stream self.old.streams }
@@ -96,12 +90,12 @@ impl Outbox {
         requires { value < 2 ^ 31 }
         ensures changes { Changes result (initialed value self.old) self.old self.new }
         ensures lowest { IfErr result (λ over. IsLowestOver value over.stream self.old.streams) }
-        ensures fits { OnOk result (AllByRecursion (λ s. window_of value s.credit ≤ℤ pos 2147483647) self.old.streams) }
+        ensures fits { OnOk result (AllByRecursion (λ s. window_of value s.credit ≤ℤ pos MAX_WINDOW_SIZE) self.old.streams) }
     {
         match passing(self.streams.as_slice(), value) {
             Some(stream) => Err(Overflow { stream }),
             None => {
-                self.flow.initial = value;
+                self.flow.initial_window_size = value;
                 Ok(())
             }
         }
@@ -116,21 +110,21 @@ impl Outbox {
         ensures { Changes result (grown stream step self.old) self.old self.new }
     {
         if stream == 0 {
-            self.grow_room(step)
+            self.grow_connection(step)
         } else {
             self.grow_stream(stream, step)
         }
     }
 
-    #[tactic(auto, unfolding(crate::specs::Outboxes::grown_room))]
-    fn grow_room(&mut self, step: u32) -> Result<(), Overflow>
+    #[tactic(auto, unfolding(crate::specs::Outboxes::grown_connection))]
+    fn grow_connection(&mut self, step: u32) -> Result<(), Overflow>
         requires { step < 2 ^ 31 }
-        ensures { Changes result (grown_room step self.old) self.old self.new }
+        ensures { Changes result (grown_connection step self.old) self.old self.new }
     {
-        if LARGEST - step < self.flow.room {
+        if MAX_WINDOW_SIZE - step < self.flow.connection_window {
             return Err(Overflow { stream: 0 });
         }
-        self.flow.room += step;
+        self.flow.connection_window += step;
         Ok(())
     }
 
@@ -141,7 +135,7 @@ impl Outbox {
         ensures { Changes result (grown_stream stream step self.old) self.old self.new }
     {
         let credit = credit(self.streams.as_slice(), stream);
-        if passes_by(self.flow.initial, credit, step) {
+        if passes_by(self.flow.initial_window_size, credit, step) {
             return Err(Overflow { stream });
         }
         raise(self.streams.as_mut_slice(), stream, step);
@@ -181,7 +175,7 @@ impl Outbox {
         requires { is_shrunk self.old ≡ false }
         ensures { self.new ≡ shrunk self.old }
     {
-        self.flow.update = Update::Due;
+        self.flow.update = TableSizeUpdate::Due;
     }
 
     /// Whether `shrink` was called. It takes no memory.
@@ -189,8 +183,8 @@ impl Outbox {
         ensures { result ≡ is_shrunk self.now }
     {
         match self.flow.update {
-            Update::Unasked => false,
-            Update::Due | Update::Written => true,
+            TableSizeUpdate::Unasked => false,
+            TableSizeUpdate::Due | TableSizeUpdate::Written => true,
         }
     }
 
@@ -198,10 +192,10 @@ impl Outbox {
     #[tactic(auto, using(crate::proofs::Places::open_there), unfolding(crate::specs::Outboxes::headed))]
     pub fn head(&mut self, stream: u32, block: Octets)
         requires open { is_open stream self.old ≡ true }
-        requires small { length block ≤ 16383 }
+        requires small { length block ≤ MAX_BLOCK_LEN }
         ensures { self.new ≡ headed stream block self.old }
     {
-        give_head(self.streams.as_mut_slice(), stream, Block::new(block));
+        streams::head(self.streams.as_mut_slice(), stream, Block::new(block));
     }
 
     /// Offers a stream a message, which isn't empty. Where it equals the message that began
@@ -212,7 +206,7 @@ impl Outbox {
         requires some { 0 < length message }
         ensures { self.new ≡ offered stream message self.old }
     {
-        give_message(self.streams.as_mut_slice(), stream, message);
+        streams::offer(self.streams.as_mut_slice(), stream, message);
     }
 
     /// Withdraws a stream's waiting message, if it has one. A message whose first byte was
@@ -222,18 +216,18 @@ impl Outbox {
         requires { is_open stream self.old ≡ true }
         ensures { self.new ≡ withdrawn stream self.old }
     {
-        take_message(self.streams.as_mut_slice(), stream);
+        streams::withdraw(self.streams.as_mut_slice(), stream);
     }
 
     /// Gives a stream its last block, of at most 16,383 bytes, which is written with
     /// END_STREAM once no message is left. It withdraws nothing.
-    #[tactic(auto, using(crate::proofs::Places::open_there), unfolding(crate::specs::Outboxes::closed_by))]
+    #[tactic(auto, using(crate::proofs::Places::open_there), unfolding(crate::specs::Outboxes::finished_by))]
     pub fn finish(&mut self, stream: u32, block: Octets)
         requires open { is_open stream self.old ≡ true }
-        requires small { length block ≤ 16383 }
-        ensures { self.new ≡ closed_by stream block self.old }
+        requires small { length block ≤ MAX_BLOCK_LEN }
+        ensures { self.new ≡ finished_by stream block self.old }
     {
-        give_trailers(self.streams.as_mut_slice(), stream, Block::new(block));
+        streams::finish(self.streams.as_mut_slice(), stream, Block::new(block));
     }
 
     /// Whether a stream is there. It takes no memory.
@@ -267,7 +261,8 @@ impl Outbox {
 
     /// Writes all that may be written behind what `out` holds: the control frames, and then
     /// rounds of the streams until one writes nothing. Tells in `ended` the streams whose
-    /// END_STREAM it wrote.
+    /// END_STREAM it wrote. Where memory runs out the windows, the counts and the control
+    /// frames stay as they were, and no later call writes anything.
     #[tactic(auto, unfolding(crate::specs::Outboxes::pulled))]
     pub fn pull(&mut self, out: &mut Octets, ended: &mut Row<u32>) -> Result<(), Memory>
         ensures left { OnOk result (self.new ≡ (pulled self.old).left) }
@@ -277,13 +272,18 @@ impl Outbox {
         ensures ended_front { GainsFront (pulled self.old).ended ended.old ended.new }
         ensures fails { OnErr result (self.new.failed ≡ true) }
         ensures again { self.old.failed ≡ true → IsErr result }
+        ensures still { self.old.failed ≡ true → (out.new ≡ out.old) × (ended.new ≡ ended.old) × (self.new ≡ self.old) }
+        ensures counts { OnErr result (self.new.flow ≡ self.old.flow) }
+        ensures kept { OnErr result (self.new.control ≡ self.old.control) }
     {
         if self.failed {
             return Err(Memory);
         }
         self.failed = true;
         out.push_slice(self.control.as_slice())?;
-        take_rounds(&mut self.flow, self.streams.as_mut_slice(), out, ended)?;
+        let mut flow = self.flow;
+        take_rounds(&mut flow, self.streams.as_mut_slice(), out, ended)?;
+        self.flow = flow;
         self.control.clear();
         self.failed = false;
         Ok(())
@@ -293,17 +293,17 @@ impl Outbox {
 /// Whether a stream's window would pass the largest with this initial window.
 fn passes(value: u32, credit: i64) -> bool
     requires { value < 2 ^ 31 }
-    ensures { result ≡ int_lt (pos 2147483647) (window_of value credit) }
+    ensures { result ≡ int_lt (pos MAX_WINDOW_SIZE) (window_of value credit) }
 {
-    i64::from(LARGEST) - i64::from(value) < credit
+    i64::from(MAX_WINDOW_SIZE) - i64::from(value) < credit
 }
 
 /// Whether a stream's window would pass the largest by this step.
 fn passes_by(initial: u32, credit: i64, step: u32) -> bool
     requires { step < 2 ^ 31 }
-    ensures { result ≡ int_lt (pos 2147483647) (window_of initial credit +ℤ pos step) }
+    ensures { result ≡ int_lt (pos MAX_WINDOW_SIZE) (window_of initial credit +ℤ pos step) }
 {
-    i64::from(LARGEST) - i64::from(step) - i64::from(initial) < credit
+    i64::from(MAX_WINDOW_SIZE) - i64::from(step) - i64::from(initial) < credit
 }
 
 /// The first stream whose window would pass the largest with this initial window.

@@ -1,43 +1,36 @@
 //! Writing what the windows allow.
 
 ghost use Rattle.std.specs.Prelude.{◌≡◌, ◌≤◌, ◌+◌, ◌-ℤ◌, ℕ, true, false, None, Some, pos, if◌then◌else◌, List, ◌++◌, length};
+ghost use Rattle.h2_wire.specs.declared.limit.TheConstants.{MAX_FRAME_SIZE};
 ghost use Rattle.h2_wire.specs.Spelling.{frame_bytes};
 ghost use Rattle.h2_flow.specs.Windows.{room_of, window_of};
-ghost use Rattle.h2_flow.specs.Streams.{before_block, after_block, headers_turn, data_turn, next_turn, last_turn, body_turn, turn};
+ghost use Rattle.h2_flow.specs.Streams.{size_update_bytes, after_block, headers_turn, data_turn, next_turn, last_turn, body_turn, turn};
 ghost use Rattle.h2_flow.specs.Pulls.{round, all_rounds, Puts, Takes, Makes};
 
 use crate::block::Block;
-use crate::flow::{Flow, Update, allowed};
+use crate::flow::{Flow, TableSizeUpdate, allowed};
 use crate::stream::{Stream, left};
-use h2_wire::head_of_frame;
+use h2_wire::{flag, frame_type, head_of_frame};
 use wl_octets::{Memory, Octets, Row};
-
-const DATA: u8 = 0;
-
-const HEADERS: u8 = 1;
-
-const END_STREAM: u8 = 1;
-
-const END_HEADERS: u8 = 4;
 
 /// What stands before the next block: a size update to 0, which empties the table of header
 /// compression, where that is due (RFC 7541, section 6.3).
-fn before(update: Update) -> &'static [u8]
-    ensures value { result.now ≡ before_block update }
+fn size_update_bytes(update: TableSizeUpdate) -> &'static [u8]
+    ensures value { result.now ≡ size_update_bytes update }
     ensures small { length result.now ≤ 1 }
 {
     match update {
-        Update::Due => &[0x20],
-        Update::Unasked | Update::Written => &[],
+        TableSizeUpdate::Due => &[0x20],
+        TableSizeUpdate::Unasked | TableSizeUpdate::Written => &[],
     }
 }
 
-fn after(update: Update) -> Update
+fn after_block(update: TableSizeUpdate) -> TableSizeUpdate
     ensures { result ≡ after_block update }
 {
     match update {
-        Update::Unasked => Update::Unasked,
-        Update::Due | Update::Written => Update::Written,
+        TableSizeUpdate::Unasked => TableSizeUpdate::Unasked,
+        TableSizeUpdate::Due | TableSizeUpdate::Written => TableSizeUpdate::Written,
     }
 }
 
@@ -51,7 +44,7 @@ fn put(
     front: &[u8],
     rest: &[u8],
 ) -> Result<(), Memory>
-    requires { length front.now + length rest.now ≤ 16384 }
+    requires { length front.now + length rest.now ≤ MAX_FRAME_SIZE }
     ensures { Puts result (frame_bytes kind flags stream (front.now ++ rest.now)) out.old out.new }
 {
     let length = (front.len() + rest.len()) as u32;
@@ -72,13 +65,13 @@ fn put_headers(
 {
     put(
         out,
-        HEADERS,
-        END_HEADERS,
+        frame_type::HEADERS,
+        flag::END_HEADERS,
         stream.number,
-        before(flow.update),
+        size_update_bytes(flow.update),
         block.as_slice(),
     )?;
-    flow.update = after(flow.update);
+    flow.update = after_block(flow.update);
     stream.written = true;
     Ok(())
 }
@@ -96,13 +89,13 @@ fn put_trailers(
 {
     put(
         out,
-        HEADERS,
-        END_HEADERS + END_STREAM,
+        frame_type::HEADERS,
+        flag::END_HEADERS + flag::END_STREAM,
         stream.number,
-        before(flow.update),
+        size_update_bytes(flow.update),
         block.as_slice(),
     )?;
-    flow.update = after(flow.update);
+    flow.update = after_block(flow.update);
     stream.written = true;
     match ended.push(stream.number) {
         Ok(()) => Ok(()),
@@ -110,7 +103,7 @@ fn put_trailers(
     }
 }
 
-/// What a window is after this many bytes of DATA.
+/// What a credit is after this many bytes of DATA.
 fn spent(initial: u32, credit: i64, bytes: u32) -> i64
     requires { bytes ≤ room_of (window_of initial credit) }
     ensures { result ≡ credit -ℤ pos bytes }
@@ -129,13 +122,13 @@ fn put_data(flow: &mut Flow, stream: &mut Stream, out: &mut Octets) -> Result<()
         return Ok(());
     }
     let (bytes, _) = left.split_at(count as usize);
-    match put(out, DATA, 0, stream.number, &[], bytes) {
+    match put(out, frame_type::DATA, 0, stream.number, &[], bytes) {
         Ok(()) => {}
         Err(memory) => return Err(memory),
     }
-    flow.room -= count;
+    flow.connection_window -= count;
     stream.sent += count as usize;
-    stream.credit = spent(flow.initial, stream.credit, count);
+    stream.credit = spent(flow.initial_window_size, stream.credit, count);
     stream.written = true;
     Ok(())
 }

@@ -1,6 +1,7 @@
 //! What one stream has to write.
 
 ghost use Rattle.std.specs.Prelude.{◌≡◌, ◌-◌, ◌<◌, ◌^◌, true, pos, ◌+ℤ◌, ◌≤ℤ◌, Some, length, drop};
+ghost use Rattle.h2_wire.specs.declared.limit.TheConstants.{MAX_WINDOW_SIZE};
 ghost use Rattle.h2_flow.specs.Outboxes.{new_stream, with_offer};
 
 use crate::block::Block;
@@ -50,7 +51,7 @@ impl Stream {
 
     /// Adds a step of WINDOW_UPDATE.
     pub fn raise(&mut self, step: u32)
-        requires { (self.old.credit +ℤ pos step) ≤ℤ pos 2147483647 }
+        requires { (self.old.credit +ℤ pos step) ≤ℤ pos MAX_WINDOW_SIZE }
         ensures { self.new ≡ record self.old { credit = self.old.credit +ℤ pos step } }
     {
         self.credit += i64::from(step);

@@ -1,6 +1,8 @@
 -- What a payload says.
 use Rattle.std.specs.Prelude.{ℕ, ◌-◌, ◌%◌, ◌^◌, ◌==◌, nat_lt, if◌then◌else◌, List, [], ◌∷◌, length, take, drop, slice_index, Result, Ok, Err}
 use Rattle.std.specs.Int.{w16, w32, w64, from_be_bytes}
+use Rattle.h2_wire.specs.declared.flag.TheConstants as flag
+use Rattle.h2_wire.specs.declared.frame_type.TheConstants as frame_type
 use Rattle.h2_frame.specs.declared.fault.FrameFault.{FrameFault}
 use Rattle.h2_frame.specs.declared.fault.FrameFault.TheVariants as faults
 use Rattle.h2_frame.specs.declared.frame.Body.{Body}
@@ -12,7 +14,7 @@ use Rattle.h2_frame.specs.Heads.{has, front_of}
 -- sections 6.1 and 6.2: the content of DATA and HEADERS, without what stands before it and the padding behind it
 unfoldable pub content_of : Head → List ℕ → Result (List ℕ) FrameFault
 content_of h payload =
-    let pad = (if has h.flags 8 then slice_index payload 0 else 0) in
+    let pad = (if has h.flags flag.PADDED then slice_index payload 0 else 0) in
     let content = drop (front_of h) payload in
     if nat_lt (length content) pad then Err faults.BadPadding else Ok (take (length content - pad) content)
 
@@ -32,14 +34,14 @@ with_content (Err fault) body = Err fault
 -- RFC 9113, section 6: what a frame of each type says
 unfoldable pub body_of : Head → List ℕ → Result Body FrameFault
 body_of h payload =
-    if h.kind == 0 then with_content (content_of h payload) (λ bytes. Bytes bytes h.length (has h.flags 1))
-    else if h.kind == 1 then with_content (content_of h payload) (λ block. Headers block (has h.flags 1) (has h.flags 4))
-    else if h.kind == 2 then Ok Priority
-    else if h.kind == 3 then Ok (Reset (from_be_bytes w32 payload))
-    else if h.kind == 4 then (if has h.flags 1 then Ok SettingsAck else Ok (Settings (settings_of payload)))
-    else if h.kind == 5 then Ok PushPromise
-    else if h.kind == 6 then Ok (Ping (has h.flags 1) (from_be_bytes w64 payload))
-    else if h.kind == 7 then Ok (GoAway (from_be_bytes w32 payload % 2 ^ 31) (from_be_bytes w32 (drop 4 payload)))
-    else if h.kind == 8 then Ok (WindowUpdate (from_be_bytes w32 payload % 2 ^ 31))
-    else if h.kind == 9 then Ok (Continuation payload (has h.flags 4))
+    if h.kind == frame_type.DATA then with_content (content_of h payload) (λ bytes. Bytes bytes h.length (has h.flags flag.END_STREAM))
+    else if h.kind == frame_type.HEADERS then with_content (content_of h payload) (λ block. Headers block (has h.flags flag.END_STREAM) (has h.flags flag.END_HEADERS))
+    else if h.kind == frame_type.PRIORITY then Ok Priority
+    else if h.kind == frame_type.RST_STREAM then Ok (Reset (from_be_bytes w32 payload))
+    else if h.kind == frame_type.SETTINGS then (if has h.flags flag.ACK then Ok SettingsAck else Ok (Settings (settings_of payload)))
+    else if h.kind == frame_type.PUSH_PROMISE then Ok PushPromise
+    else if h.kind == frame_type.PING then Ok (Ping (has h.flags flag.ACK) (from_be_bytes w64 payload))
+    else if h.kind == frame_type.GOAWAY then Ok (GoAway (from_be_bytes w32 payload % 2 ^ 31) (from_be_bytes w32 (drop 4 payload)))
+    else if h.kind == frame_type.WINDOW_UPDATE then Ok (WindowUpdate (from_be_bytes w32 payload % 2 ^ 31))
+    else if h.kind == frame_type.CONTINUATION then Ok (Continuation payload (has h.flags flag.END_HEADERS))
     else Ok (Unknown h.kind)

@@ -1,5 +1,6 @@
 -- The frames that a whole stream begins with, and what follows them.
 use Rattle.std.specs.Prelude.{◌≡◌, ℕ, zero, suc, ◌-◌, ◌<◌, ◌≤◌, ◌==◌, nat_lt, if◌then◌else◌, List, [], ◌∷◌, ◌++◌, length, take, drop, Option, Some, None, Result, Ok, Err}
+use Rattle.h2_wire.specs.declared.limit.TheConstants.{HEAD_LEN, MAX_FRAME_SIZE}
 use Rattle.h2_frame.specs.declared.fault.FrameFault.{FrameFault}
 use Rattle.h2_frame.specs.declared.fault.FrameFault.TheVariants as faults
 use Rattle.h2_frame.specs.declared.frame.Body.{Body}
@@ -23,13 +24,13 @@ framed h (Err fault) rest = wrong fault
 -- behind the head: its faults come as soon as it is whole (RFC 9113, section 4.2), those of the payload once that is whole
 unfoldable pub judged : Head → List ℕ → Step
 judged h after =
-    if nat_lt 16384 h.length then wrong (faults.TooLarge h.length)
+    if nat_lt MAX_FRAME_SIZE h.length then wrong (faults.TooLarge h.length)
     else if is_wrong_length h then wrong (faults.WrongLength h.kind h.length)
     else if nat_lt (length after) h.length then partial
     else framed h (body_of h (take h.length after)) (drop h.length after)
 
 unfoldable pub first_frame : List ℕ → Step
-first_frame b = if nat_lt (length b) 9 then partial else judged (head_of b) (drop 9 b)
+first_frame b = if nat_lt (length b) HEAD_LEN then partial else judged (head_of b) (drop HEAD_LEN b)
 
 -- ---- the whole stream
 

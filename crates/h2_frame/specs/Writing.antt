@@ -2,6 +2,8 @@
 use Rattle.std.specs.Prelude.{◌≡◌, ℕ, ◌+◌, ◌<◌, ◌^◌, if◌then◌else◌, List, [], ◌∷◌, ◌++◌, length, flat_map}
 use Rattle.std.specs.Int.{w16, w32, w64, to_be_bytes}
 use Rattle.std.specs.List.{AllByRecursion}
+use Rattle.h2_wire.specs.declared.flag.TheConstants as flag
+use Rattle.h2_wire.specs.declared.frame_type.TheConstants as frame_type
 use Rattle.h2_wire.specs.Spelling.{frame_bytes}
 use Rattle.h2_frame.specs.declared.frame.Body.{Body}
 use Rattle.h2_frame.specs.declared.frame.Body.TheVariants.{Bytes, Headers, Priority, Reset, Settings, SettingsAck, PushPromise, Ping, GoAway, WindowUpdate, Continuation, Unknown}
@@ -10,32 +12,32 @@ use Rattle.h2_frame.specs.declared.frame.Setting.{Setting}
 
 -- RFC 9113, section 6: the types
 abbrev pub kind_of : Body → ℕ
-kind_of (Bytes bytes size ended) = 0
-kind_of (Headers block ended whole) = 1
-kind_of Priority = 2
-kind_of (Reset code) = 3
-kind_of (Settings pairs) = 4
-kind_of SettingsAck = 4
-kind_of PushPromise = 5
-kind_of (Ping ack word) = 6
-kind_of (GoAway last code) = 7
-kind_of (WindowUpdate step) = 8
-kind_of (Continuation block whole) = 9
+kind_of (Bytes bytes size ended) = frame_type.DATA
+kind_of (Headers block ended whole) = frame_type.HEADERS
+kind_of Priority = frame_type.PRIORITY
+kind_of (Reset code) = frame_type.RST_STREAM
+kind_of (Settings pairs) = frame_type.SETTINGS
+kind_of SettingsAck = frame_type.SETTINGS
+kind_of PushPromise = frame_type.PUSH_PROMISE
+kind_of (Ping ack word) = frame_type.PING
+kind_of (GoAway last code) = frame_type.GOAWAY
+kind_of (WindowUpdate step) = frame_type.WINDOW_UPDATE
+kind_of (Continuation block whole) = frame_type.CONTINUATION
 kind_of (Unknown kind) = kind
 
--- END_STREAM and ACK are 1, END_HEADERS is 4
+-- the flags that are set, as one number
 abbrev pub flags_of : Body → ℕ
-flags_of (Bytes bytes size ended) = if ended then 1 else 0
-flags_of (Headers block ended whole) = (if ended then 1 else 0) + (if whole then 4 else 0)
+flags_of (Bytes bytes size ended) = if ended then flag.END_STREAM else 0
+flags_of (Headers block ended whole) = (if ended then flag.END_STREAM else 0) + (if whole then flag.END_HEADERS else 0)
 flags_of Priority = 0
 flags_of (Reset code) = 0
 flags_of (Settings pairs) = 0
-flags_of SettingsAck = 1
+flags_of SettingsAck = flag.ACK
 flags_of PushPromise = 0
-flags_of (Ping ack word) = if ack then 1 else 0
+flags_of (Ping ack word) = if ack then flag.ACK else 0
 flags_of (GoAway last code) = 0
 flags_of (WindowUpdate step) = 0
-flags_of (Continuation block whole) = if whole then 4 else 0
+flags_of (Continuation block whole) = if whole then flag.END_HEADERS else 0
 flags_of (Unknown kind) = 0
 
 abbrev pub setting_bytes : Setting → List ℕ

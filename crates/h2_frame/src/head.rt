@@ -3,16 +3,7 @@
 ghost use Rattle.std.specs.Prelude.{◌≡◌, ◌≤◌, length};
 ghost use Rattle.h2_frame.specs.Heads.{head_of, front_of, is_wrong_length};
 
-/// END_STREAM of DATA and HEADERS.
-pub const END_STREAM: u8 = 1;
-/// ACK of SETTINGS and PING.
-pub const ACK: u8 = 1;
-/// END_HEADERS of HEADERS and CONTINUATION.
-pub const END_HEADERS: u8 = 4;
-/// PADDED of DATA and HEADERS.
-pub const PADDED: u8 = 8;
-/// PRIORITY of HEADERS.
-pub const PRIORITY: u8 = 32;
+use h2_wire::{flag, frame_type};
 
 /// A payload's length in bytes, the type of frame, its flags and its stream.
 #[derive(Clone, Copy)]
@@ -44,8 +35,8 @@ impl Head {
         ensures front { result ≡ front_of self }
         ensures small { result ≤ 6 }
     {
-        let padding = if self.flags & PADDED != 0 { 1 } else { 0 };
-        let priority = if self.kind == 1 && self.flags & PRIORITY != 0 {
+        let padding = if self.flags & flag::PADDED != 0 { 1 } else { 0 };
+        let priority = if self.kind == frame_type::HEADERS && self.flags & flag::PRIORITY != 0 {
             5
         } else {
             0
@@ -59,18 +50,18 @@ impl Head {
         ensures { result ≡ is_wrong_length self }
     {
         match self.kind {
-            0 | 1 => self.length < self.front(),
-            2 => self.length != 5,
-            3 | 8 => self.length != 4,
-            4 => {
-                if self.flags & ACK != 0 {
+            frame_type::DATA | frame_type::HEADERS => self.length < self.front(),
+            frame_type::PRIORITY => self.length != 5,
+            frame_type::RST_STREAM | frame_type::WINDOW_UPDATE => self.length != 4,
+            frame_type::SETTINGS => {
+                if self.flags & flag::ACK != 0 {
                     self.length != 0
                 } else {
                     self.length % 6 != 0
                 }
             }
-            6 => self.length != 8,
-            7 => self.length < 8,
+            frame_type::PING => self.length != 8,
+            frame_type::GOAWAY => self.length < 8,
             _ => false,
         }
     }

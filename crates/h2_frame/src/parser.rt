@@ -11,8 +11,9 @@ use crate::fault::FrameFault;
 use crate::frame::Frame;
 use crate::head::Head;
 use crate::opening::{Greeting, PREFACE, greet};
-use crate::reading::{HEAD, frames};
+use crate::reading::frames;
 use crate::stage::Stage;
+use h2_wire::limit::HEAD_LEN;
 use std::alloc::Global;
 use std::marker::Model;
 use wl_octets::Row;
@@ -162,10 +163,10 @@ impl Parser {
 fn lacking_of(pending: &[u8]) -> usize {
     if pending.is_empty() {
         0
-    } else if pending.len() < HEAD {
-        HEAD - pending.len()
+    } else if pending.len() < HEAD_LEN {
+        HEAD_LEN - pending.len()
     } else {
-        (HEAD + Head::read(pending).length as usize).saturating_sub(pending.len())
+        (HEAD_LEN + Head::read(pending).length as usize).saturating_sub(pending.len())
     }
 }
 

@@ -8,7 +8,8 @@ ghost use Rattle.h2_frame.specs.Reading.{Gives};
 
 use crate::fault::FrameFault;
 use crate::frame::{Body, Setting};
-use crate::head::{ACK, END_HEADERS, END_STREAM, Head, PADDED};
+use crate::head::Head;
+use h2_wire::{flag, frame_type};
 use std::alloc::Global;
 use wl_octets::{Octets, Row};
 
@@ -21,7 +22,7 @@ fn content<'a>(head: Head, payload: &'a [u8]) -> Result<&'a [u8], FrameFault>
     requires { front_of head ≤ length payload.now }
     ensures { Gives (λ content. content.now) result (content_of head payload.now) }
 {
-    let padding = if head.flags & PADDED != 0 {
+    let padding = if head.flags & flag::PADDED != 0 {
         payload[0] as usize
     } else {
         0
@@ -74,22 +75,22 @@ pub(crate) fn body(alloc: Global, head: Head, payload: &[u8]) -> Result<Body, Fr
     ensures { Gives (λ body. body) result (body_of head payload.now) }
 {
     let body = match head.kind {
-        0 => Body::Bytes {
+        frame_type::DATA => Body::Bytes {
             bytes: octets(alloc, content(head, payload)?)?,
             size: head.length,
-            ended: head.flags & END_STREAM != 0,
+            ended: head.flags & flag::END_STREAM != 0,
         },
-        1 => Body::Headers {
+        frame_type::HEADERS => Body::Headers {
             block: octets(alloc, content(head, payload)?)?,
-            ended: head.flags & END_STREAM != 0,
-            whole: head.flags & END_HEADERS != 0,
+            ended: head.flags & flag::END_STREAM != 0,
+            whole: head.flags & flag::END_HEADERS != 0,
         },
-        2 => Body::Priority,
-        3 => Body::Reset {
+        frame_type::PRIORITY => Body::Priority,
+        frame_type::RST_STREAM => Body::Reset {
             code: number(payload),
         },
-        4 => {
-            if head.flags & ACK != 0 {
+        frame_type::SETTINGS => {
+            if head.flags & flag::ACK != 0 {
                 Body::SettingsAck
             } else {
                 Body::Settings {
@@ -97,21 +98,21 @@ pub(crate) fn body(alloc: Global, head: Head, payload: &[u8]) -> Result<Body, Fr
                 }
             }
         }
-        5 => Body::PushPromise,
-        6 => Body::Ping {
-            ack: head.flags & ACK != 0,
+        frame_type::PUSH_PROMISE => Body::PushPromise,
+        frame_type::PING => Body::Ping {
+            ack: head.flags & flag::ACK != 0,
             word: word(payload),
         },
-        7 => Body::GoAway {
+        frame_type::GOAWAY => Body::GoAway {
             last: number(payload) % 0x8000_0000,
             code: number(payload.split_at(4).1),
         },
-        8 => Body::WindowUpdate {
+        frame_type::WINDOW_UPDATE => Body::WindowUpdate {
             step: number(payload) % 0x8000_0000,
         },
-        9 => Body::Continuation {
+        frame_type::CONTINUATION => Body::Continuation {
             block: octets(alloc, payload)?,
-            whole: head.flags & END_HEADERS != 0,
+            whole: head.flags & flag::END_HEADERS != 0,
         },
         kind => Body::Unknown { kind },
     };

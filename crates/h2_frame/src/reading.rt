@@ -9,33 +9,27 @@ use crate::fault::FrameFault;
 use crate::frame::Frame;
 use crate::head::Head;
 use crate::payload::body;
+use h2_wire::limit::{HEAD_LEN, MAX_FRAME_SIZE};
 use std::alloc::Global;
 use wl_octets::Row;
-
-/// How many bytes a head has.
-pub(crate) const HEAD: usize = 9;
-
-/// How many bytes a payload may have: what a peer may send that was told nothing else
-/// (RFC 9113, section 4.2).
-const MOST: u32 = 16_384;
 
 /// The first frame and how many bytes it takes, if it is whole.
 #[tactic(auto, unfolding(crate::specs::Reading::first_frame, crate::specs::Reading::judged))]
 fn first(alloc: Global, bytes: &[u8]) -> Result<Option<(Frame, usize)>, FrameFault>
     ensures { Steps result bytes.now }
 {
-    if bytes.len() < HEAD {
+    if bytes.len() < HEAD_LEN {
         return Ok(None);
     }
     let head = Head::read(bytes);
-    if head.length > MOST {
+    if head.length > MAX_FRAME_SIZE {
         return Err(FrameFault::TooLarge(head.length));
     }
     if head.has_wrong_length() {
         return Err(FrameFault::WrongLength(head.kind, head.length));
     }
     let length = head.length as usize;
-    let (_, after) = bytes.split_at(HEAD);
+    let (_, after) = bytes.split_at(HEAD_LEN);
     if after.len() < length {
         return Ok(None);
     }
@@ -45,7 +39,7 @@ fn first(alloc: Global, bytes: &[u8]) -> Result<Option<(Frame, usize)>, FrameFau
         stream: head.stream,
         body,
     };
-    Ok(Some((frame, HEAD + length)))
+    Ok(Some((frame, HEAD_LEN + length)))
 }
 
 /// Reads all whole frames, and tells how many bytes they take.

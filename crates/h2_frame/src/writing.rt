@@ -1,13 +1,14 @@
 //! Frames as bytes.
 
 ghost use Rattle.std.specs.Prelude.{◌≡◌, ◌≤◌, ◌<◌, ◌^◌, ℕ, if◌then◌else◌, List, flat_map, length, OnOk, nat_le, ◌++◌};
+ghost use Rattle.h2_wire.specs.declared.limit.TheConstants.{MAX_FRAME_SIZE};
 ghost use Rattle.h2_frame.specs.Reading.{first_frame, whole};
 ghost use Rattle.h2_frame.specs.Writing.{spelling, payload_of, kind_of, flags_of, setting_bytes, IsWritable};
 ghost use Rattle.list_laws.specs.Lists.{GainsFront};
 
 use crate::frame::{Body, Frame, Setting};
-use crate::head::{ACK, END_HEADERS, END_STREAM};
-use h2_wire::head_of_frame;
+use h2_wire::limit::MAX_FRAME_SIZE;
+use h2_wire::{flag, frame_type, head_of_frame};
 use wl_octets::{Memory, Octets};
 
 /// Writes one frame behind what `out` holds, without padding and priority fields. A frame
@@ -16,7 +17,7 @@ use wl_octets::{Memory, Octets};
 /// Its payload has at most 16,384 bytes, which any peer takes (RFC 9113, section 4.2).
 #[tactic(auto, using(crate::proofs::Spelled::read_again), unfolding(crate::specs::Writing::spelling, h2_wire::specs::Spelling::frame_bytes))]
 pub fn put_frame(out: &mut Octets, frame: &Frame) -> Result<(), Memory>
-    requires { length (payload_of frame.now.body) ≤ 16384 }
+    requires { length (payload_of frame.now.body) ≤ MAX_FRAME_SIZE }
     ensures ok { OnOk result (out.new ≡ out.old ++ spelling frame.now) }
     ensures front { GainsFront (spelling frame.now) out.old out.new }
     ensures read_again { IsWritable frame.now.body → frame.now.stream < 2 ^ 31 → (rest : List ℕ) → first_frame (spelling frame.now ++ rest) ≡ whole frame.now rest }
@@ -31,12 +32,12 @@ impl Body {
     /// Whether the payload has at most 16,384 bytes, as `put_frame` asks.
     #[tactic(auto, using(crate::proofs::Settings::settings_length))]
     pub fn fits(&self) -> bool
-        ensures { result ≡ nat_le (length (payload_of self.now)) 16384 }
+        ensures { result ≡ nat_le (length (payload_of self.now)) MAX_FRAME_SIZE }
     {
         match self {
-            Body::Bytes { bytes, .. } => bytes.len() <= 16_384,
-            Body::Headers { block, .. } => block.len() <= 16_384,
-            Body::Continuation { block, .. } => block.len() <= 16_384,
+            Body::Bytes { bytes, .. } => bytes.len() <= MAX_FRAME_SIZE as usize,
+            Body::Headers { block, .. } => block.len() <= MAX_FRAME_SIZE as usize,
+            Body::Continuation { block, .. } => block.len() <= MAX_FRAME_SIZE as usize,
             Body::Settings { pairs } => pairs.len() <= 2730,
             _ => true,
         }
@@ -47,22 +48,22 @@ fn kind(body: &Body) -> u8
     ensures { result ≡ kind_of body.now }
 {
     match body {
-        Body::Bytes { .. } => 0,
-        Body::Headers { .. } => 1,
-        Body::Priority => 2,
-        Body::Reset { .. } => 3,
-        Body::Settings { .. } | Body::SettingsAck => 4,
-        Body::PushPromise => 5,
-        Body::Ping { .. } => 6,
-        Body::GoAway { .. } => 7,
-        Body::WindowUpdate { .. } => 8,
-        Body::Continuation { .. } => 9,
+        Body::Bytes { .. } => frame_type::DATA,
+        Body::Headers { .. } => frame_type::HEADERS,
+        Body::Priority => frame_type::PRIORITY,
+        Body::Reset { .. } => frame_type::RST_STREAM,
+        Body::Settings { .. } | Body::SettingsAck => frame_type::SETTINGS,
+        Body::PushPromise => frame_type::PUSH_PROMISE,
+        Body::Ping { .. } => frame_type::PING,
+        Body::GoAway { .. } => frame_type::GOAWAY,
+        Body::WindowUpdate { .. } => frame_type::WINDOW_UPDATE,
+        Body::Continuation { .. } => frame_type::CONTINUATION,
         Body::Unknown { kind } => *kind,
     }
 }
 
 /// A flag where it is set.
-fn flag(set: bool, mask: u8) -> u8
+fn flag_if(set: bool, mask: u8) -> u8
     ensures { result ≡ (if set then mask else 0) }
 {
     if set { mask } else { 0 }
@@ -72,13 +73,13 @@ fn flags(body: &Body) -> u8
     ensures { result ≡ flags_of body.now }
 {
     match body {
-        Body::Bytes { ended, .. } => flag(*ended, END_STREAM),
+        Body::Bytes { ended, .. } => flag_if(*ended, flag::END_STREAM),
         Body::Headers { ended, whole, .. } => {
-            flag(*ended, END_STREAM) + flag(*whole, END_HEADERS)
+            flag_if(*ended, flag::END_STREAM) + flag_if(*whole, flag::END_HEADERS)
         }
-        Body::SettingsAck => ACK,
-        Body::Ping { ack, .. } => flag(*ack, ACK),
-        Body::Continuation { whole, .. } => flag(*whole, END_HEADERS),
+        Body::SettingsAck => flag::ACK,
+        Body::Ping { ack, .. } => flag_if(*ack, flag::ACK),
+        Body::Continuation { whole, .. } => flag_if(*whole, flag::END_HEADERS),
         _ => 0,
     }
 }
@@ -86,7 +87,7 @@ fn flags(body: &Body) -> u8
 /// The length of the payload, in bytes.
 #[tactic(auto, using(crate::proofs::Settings::settings_length))]
 fn payload_len(body: &Body) -> u32
-    requires { length (payload_of body.now) ≤ 16384 }
+    requires { length (payload_of body.now) ≤ MAX_FRAME_SIZE }
     ensures { result ≡ length (payload_of body.now) }
 {
     match body {

@@ -7,13 +7,14 @@ use Rattle.std.proofs.Common.{arith, refl, subst}
 use Rattle.std.proofs.lemmas.Slice.Eq.{bytes_eq-Decides}
 use Rattle.std.proofs.lemmas.Bool.{and_parts}
 use Rattle.std.proofs.lemmas.Bool.Decides.{nat_tests}
-use Rattle.sorted_lists.proofs.Chosen.{all_append}
+use Rattle.list_laws.proofs.Elements.{all_append}
 use Rattle.wl_entry.specs.Same.{same_ask}
+use Rattle.wl_entry.proofs.Sames.{ask_is, texts_are}
 use Rattle.wl_entry.specs.Fitness.{is_still_fresh}
 use Rattle.wl_entry.specs.declared.asks.Ask.{Ask}
 use Rattle.wl_entry.specs.declared.tokens.JwtToken.{JwtToken}
-use Rattle.jwt_cache.specs.declared.rings.Kept.{Kept}
-use Rattle.jwt_cache.specs.Keeps.{last_of, is_of_use, newest, found_among}
+use Rattle.jwt_cache.specs.declared.rings.CachedToken.{CachedToken}
+use Rattle.jwt_cache.specs.History.{last_of, is_of_use, newest, find_among}
 
 -- ---- those that stay
 
@@ -25,31 +26,6 @@ all_drop P (suc n) (x ∷ xs) all = all_drop P n xs all.1
 -- one more is kept, and the oldest may be pushed out
 pub last_holds : {A : Type 0} (P : A → Type 0) (n : ℕ) (xs : List A) (x : A) → AllByRecursion P xs → P x → AllByRecursion P (last_of n (xs ++ x ∷ []))
 last_holds P n xs x all one = all_drop P (length (xs ++ x ∷ []) - n) (xs ++ x ∷ []) (all_append P xs (x ∷ []) all (one, tt))
-
--- ---- equal by test, equal
-
-bytes_are : (xs ys : List ℕ) → bytes_eq xs ys ≡ true → xs ≡ ys
-bytes_are xs ys is = (bytes_eq-Decides xs ys).0 is
-
-texts_are : (xs ys : List (List ℕ)) → pointwise bytes_eq xs ys ≡ true → xs ≡ ys
-texts_are [] [] is = refl
-texts_are [] (y ∷ ys) is = grind (arith, is)
-texts_are (x ∷ xs) [] is = grind (arith, is)
-texts_are (x ∷ xs) (y ∷ ys) is =
-    let parts = and_parts (bytes_eq x y) (pointwise bytes_eq xs ys) is in
-    λ i. bytes_are x y parts.0 i ∷ texts_are xs ys parts.1 i
-
-ask_is : (a b : Ask) → same_ask a b ≡ true → a ≡ b
-ask_is a b is =
-    let id = and_parts (bytes_eq a.entry_id b.entry_id) _ is in
-    let spiffe = and_parts (bytes_eq a.spiffe_id b.spiffe_id) _ id.1 in
-    let names = and_parts (pointwise bytes_eq a.dns_names b.dns_names) (a.ttl == b.ttl) spiffe.1 in
-    λ i. record {
-      entry_id = bytes_are a.entry_id b.entry_id id.0 i;
-      spiffe_id = bytes_are a.spiffe_id b.spiffe_id spiffe.0 i;
-      dns_names = texts_are a.dns_names b.dns_names names.0 i;
-      ttl = (let same : a.ttl ≡ b.ttl = grind (arith, nat_tests, names.1) in same) i;
-    }
 
 -- ---- the one that is found
 
@@ -69,14 +45,14 @@ last_passes P test (x ∷ xs) before all prior = last_go P test before x (filter
 none_before : {A : Type 0} (P : A → Type 0) (test : A → Bool) → Passing P test None
 none_before P test = λ x found. cc
 
-of_use : (P : Ask → List (List ℕ) → JwtToken → Type 0) (ask : Ask) (audience : List (List ℕ)) (now : ℕ) (k : Kept) → P k.ask k.audience k.token → is_of_use ask audience now k ≡ true → P ask audience k.token
+of_use : (P : Ask → List (List ℕ) → JwtToken → Type 0) (ask : Ask) (audience : List (List ℕ)) (now : ℕ) (k : CachedToken) → P k.ask k.audience k.token → is_of_use ask audience now k ≡ true → P ask audience k.token
 unfolding is_of_use
 of_use P ask audience now k holds use_is =
     let parts = and_parts (same_ask k.ask ask) (pointwise bytes_eq k.audience audience && is_still_fresh now k.token) use_is in
     let second = and_parts (pointwise bytes_eq k.audience audience) (is_still_fresh now k.token) parts.1 in
     subst (λ a. P ask a k.token) (texts_are k.audience audience second.0) (subst (λ a. P a k.audience k.token) (ask_is k.ask ask parts.0) holds)
 
-found_go : (P : Ask → List (List ℕ) → JwtToken → Type 0) (ask : Ask) (audience : List (List ℕ)) (now : ℕ) (t : JwtToken) (o : Option Kept)
+found_go : (P : Ask → List (List ℕ) → JwtToken → Type 0) (ask : Ask) (audience : List (List ℕ)) (now : ℕ) (t : JwtToken) (o : Option CachedToken)
     → Passing (λ k. P k.ask k.audience k.token) (is_of_use ask audience now) o → option_map (λ k. k.token) o ≡ Some t → P ask audience t
 found_go P ask audience now t None passing found = cc
 found_go P ask audience now t (Some k) passing found =
@@ -86,9 +62,9 @@ found_go P ask audience now t (Some k) passing found =
 
 -- What holds of the ask, the audiences and the token of each keep holds of a token that is found, for the ask and the
 -- audiences for which it is found.
-pub found_holds : (P : Ask → List (List ℕ) → JwtToken → Type 0) (ask : Ask) (audience : List (List ℕ)) (now : ℕ) (keeps : List Kept) (t : JwtToken)
-    → AllByRecursion (λ k. P k.ask k.audience k.token) keeps → found_among ask audience now keeps ≡ Some t → P ask audience t
-unfolding found_among
-found_holds P ask audience now keeps t all found =
-    let P' : Kept → Type 0 = λ k. P k.ask k.audience k.token in
-    found_go P ask audience now t (newest (is_of_use ask audience now) keeps) (last_passes P' (is_of_use ask audience now) keeps None all (none_before P' (is_of_use ask audience now))) found
+pub found_holds : (P : Ask → List (List ℕ) → JwtToken → Type 0) (ask : Ask) (audience : List (List ℕ)) (now : ℕ) (history : List CachedToken) (t : JwtToken)
+    → AllByRecursion (λ k. P k.ask k.audience k.token) history → find_among ask audience now history ≡ Some t → P ask audience t
+unfolding find_among
+found_holds P ask audience now history t all found =
+    let P' : CachedToken → Type 0 = λ k. P k.ask k.audience k.token in
+    found_go P ask audience now t (newest (is_of_use ask audience now) history) (last_passes P' (is_of_use ask audience now) history None all (none_before P' (is_of_use ask audience now))) found

@@ -1,7 +1,7 @@
 //! The tokens of one entry.
 
 ghost use Rattle.std.specs.Prelude.{◌≡◌, [], ◌∷◌, ◌++◌, option_map, IfOk};
-ghost use Rattle.jwt_cache.specs.Keeps.{last_of, is_of_use, newest};
+ghost use Rattle.jwt_cache.specs.History.{last_of, is_of_use, newest};
 
 use circular_buffer::HeapCircularBuffer;
 use std::alloc::Global;
@@ -14,16 +14,16 @@ const RING: usize = 16;
 
 /// A token, with the ask and the audiences for which it is kept.
 #[derive(Drop)]
-pub struct Kept {
+pub struct CachedToken {
     pub ask: Ask,
     /// By ascending bytes, each once.
     pub audience: Row<Octets>,
     pub token: JwtToken,
 }
 
-impl Kept {
-    /// Whether the token is for this ask and these audiences, and less than half of its time is over.
-    #[tactic(auto, unfolding(crate::specs::Keeps::is_of_use))]
+impl CachedToken {
+    /// Whether the token is for this ask and these audiences, and less than half of its time has passed.
+    #[tactic(auto, unfolding(crate::specs::History::is_of_use))]
     fn is_of_use(&self, ask: &Ask, audience: &Row<Octets>, now: u64) -> bool
         ensures { result ≡ is_of_use ask.now audience.now now self.now }
     {
@@ -34,14 +34,14 @@ impl Kept {
 /// The last sixteen tokens of an entry.
 #[derive(Drop)]
 pub struct Ring {
-    items: HeapCircularBuffer<Kept>,
+    items: HeapCircularBuffer<CachedToken>,
 }
 
 impl Model for Ring {
     ghost use Rattle.std.specs.Prelude.{◌≡◌, List};
-    ghost use Rattle.jwt_cache.specs.declared.rings.Kept.{Kept};
+    ghost use Rattle.jwt_cache.specs.declared.rings.CachedToken.{CachedToken};
 
-    ghost Value = { List Kept };
+    ghost Value = { List CachedToken };
 
     ghost view = { λ r. r.items.items };
 
@@ -59,17 +59,17 @@ impl Ring {
     }
 
     /// Keeps one more; a seventeenth pushes out the oldest. It takes no memory.
-    pub fn push(&mut self, kept: Kept)
+    pub fn push(&mut self, kept: CachedToken)
         ensures { self.new ≡ last_of 16 (self.old ++ kept ∷ []) }
     {
         self.items.push_back(kept);
     }
 
     /// The newest of those that are of use.
-    pub fn newest(&self, ask: &Ask, audience: &Row<Octets>, now: u64) -> Option<&Kept>
+    pub fn newest(&self, ask: &Ask, audience: &Row<Octets>, now: u64) -> Option<&CachedToken>
         ensures { option_map (λ k. k.now) result ≡ newest (is_of_use ask.now audience.now now) self.now }
     {
-        let mut found: Option<&Kept> = None;
+        let mut found: Option<&CachedToken> = None;
         for i in 0..self.items.len() {
             if let Some(kept) = self.items.get(i) {
                 if kept.is_of_use(ask, audience, now) {

@@ -9,7 +9,7 @@ use wl_octets::{Memory, Octets, Row};
 
 /// The audiences by ascending bytes, each once.
 #[tactic(auto, unfolding(wl_selector::specs::Selectors::sorted_texts))]
-pub fn sorted(alloc: Global, audience: &[Octets]) -> Result<Row<Octets>, Memory>
+pub fn sort_audience(alloc: Global, audience: &[Octets]) -> Result<Row<Octets>, Memory>
     ensures { IfOk result (λ r. r ≡ sorted_texts audience.now) }
 {
     let mut kept = BTreeSet::new(alloc);

@@ -3,12 +3,12 @@
 ghost use Rattle.std.specs.Prelude.{◌≡◌, ℕ, List, [], ◌∷◌, ◌++◌, map, if◌then◌else◌, IfOk, OnOk, OnErr};
 ghost use Rattle.std.specs.Str.{bytes_eq};
 ghost use Rattle.wl_selector.specs.Selectors.{sorted_texts};
-ghost use Rattle.jwt_cache.specs.Keeps.{with_keep, keep_of, found_among, found_in, without};
-ghost use Rattle.jwt_cache.specs.Rings.{ring_at, kept_for, StandsFor};
-ghost use Rattle.jwt_cache.specs.declared.rings.Kept.{Kept};
+ghost use Rattle.jwt_cache.specs.History.{with_token, cached_token_of, find_among, find_in, without_entry};
+ghost use Rattle.jwt_cache.specs.Rings.{ring_at, tokens_for, StandsFor};
+ghost use Rattle.jwt_cache.specs.declared.rings.CachedToken.{CachedToken};
 
-use crate::rings::{Kept, Ring};
-use crate::sorting::sorted;
+use crate::rings::{CachedToken, Ring};
+use crate::sorting::sort_audience;
 use std::alloc::Global;
 use std::collections::BTreeMap;
 use std::marker::Model;
@@ -23,9 +23,9 @@ pub struct Tokens {
 
 impl Model for Tokens {
     ghost use Rattle.std.specs.Prelude.{List, ℕ, map};
-    ghost use Rattle.jwt_cache.specs.declared.rings.Kept.{Kept};
+    ghost use Rattle.jwt_cache.specs.declared.rings.CachedToken.{CachedToken};
 
-    ghost Value = { List (List ℕ × List Kept) };
+    ghost Value = { List (List ℕ × List CachedToken) };
 
     ghost view = { λ t. map (λ e. (e.0.items, e.1)) t.rings.entries };
 }
@@ -34,8 +34,8 @@ impl Model for Tokens {
 type Rings = BTreeMap<Vec<u8>, Ring>;
 
 /// Keeps one more.
-fn put(alloc: Global, rings: &mut Rings, kept: Kept) -> Result<(), Memory>
-    ensures ok { OnOk result ((q : List ℕ) → ring_at rings.new.entries q ≡ with_keep kept q (ring_at rings.old.entries q)) }
+fn put(alloc: Global, rings: &mut Rings, kept: CachedToken) -> Result<(), Memory>
+    ensures ok { OnOk result ((q : List ℕ) → ring_at rings.new.entries q ≡ with_token kept q (ring_at rings.old.entries q)) }
     ensures err { OnErr result (rings.new.entries ≡ rings.old.entries) }
 {
     match rings.get_mut(kept.ask.entry_id.as_slice()) {
@@ -62,7 +62,7 @@ impl Tokens {
     }
 
     /// The newest token that is kept for this ask and these audiences, in whatever order and however often each is
-    /// named, of which less than half of the time is over.
+    /// named, of which less than half of the time has passed.
     fn find_kept(
         &self,
         alloc: Global,
@@ -70,12 +70,12 @@ impl Tokens {
         audience: &[Octets],
         now: u64,
     ) -> Result<Option<JwtToken>, Memory>
-        ensures { IfOk result (λ t. t ≡ found_among ask.now (sorted_texts audience.now) now (kept_for self.now ask.now.entry_id)) }
+        ensures { IfOk result (λ t. t ≡ find_among ask.now (sorted_texts audience.now) now (tokens_for self.now ask.now.entry_id)) }
     {
         let Some(ring) = self.rings.get(ask.entry_id.as_slice()) else {
             return Ok(None);
         };
-        let wanted = sorted(alloc, audience)?;
+        let wanted = sort_audience(alloc, audience)?;
         match ring.newest(ask, &wanted, now) {
             Some(kept) => Ok(Some(kept.token.copy(alloc)?)),
             None => Ok(None),
@@ -90,19 +90,19 @@ impl Tokens {
         audience: &[Octets],
         token: JwtToken,
     ) -> Result<(), Memory>
-        ensures ok { OnOk result ((q : List ℕ) → kept_for self.new q ≡ with_keep (keep_of ask.now audience.now token) q (kept_for self.old q)) }
+        ensures ok { OnOk result ((q : List ℕ) → tokens_for self.new q ≡ with_token (cached_token_of ask.now audience.now token) q (tokens_for self.old q)) }
         ensures err { OnErr result (self.new ≡ self.old) }
     {
-        let kept = Kept {
+        let kept = CachedToken {
             ask: ask.copy(alloc)?,
-            audience: sorted(alloc, audience)?,
+            audience: sort_audience(alloc, audience)?,
             token,
         };
         put(alloc, &mut self.rings, kept)?;
         Ok(())
     }
 
-    /// The newest token that is kept for this ask and these audiences, of which less than half of the time is over. In
+    /// The newest token that is kept for this ask and these audiences, of which less than half of the time has passed. In
     /// what order and how often the audiences are named is all the same.
     pub fn find(
         &self,
@@ -111,15 +111,15 @@ impl Tokens {
         audience: &[Octets],
         now: u64,
     ) -> Result<Option<JwtToken>, Memory>
-        ensures found { IfOk result (λ t. t ≡ found_among ask.now (sorted_texts audience.now) now (kept_for self.now ask.now.entry_id)) }
-        // Where the cache stands for these keeps, it is the one that is found in them.
-        ensures keeps { (keeps : List Kept) → StandsFor self.now keeps → IfOk result (λ t. t ≡ found_in keeps ask.now (sorted_texts audience.now) now) }
+        ensures found { IfOk result (λ t. t ≡ find_among ask.now (sorted_texts audience.now) now (tokens_for self.now ask.now.entry_id)) }
+        // Where the cache holds what a history leaves, it is the one that is found in them.
+        ensures history { (history : List CachedToken) → StandsFor self.now history → IfOk result (λ t. t ≡ find_in history ask.now (sorted_texts audience.now) now) }
     {
         let token = self.find_kept(alloc, ask, audience, now)?;
         Ok(token)
     }
 
-    /// Keeps a token for an ask and audiences. A seventeenth of the entry pushes out the oldest. On want of memory the
+    /// Keeps a token for an ask and audiences. A seventeenth of the entry pushes out the oldest. If memory runs out the
     /// cache is as it was.
     pub fn keep(
         &mut self,
@@ -128,8 +128,8 @@ impl Tokens {
         audience: &[Octets],
         token: JwtToken,
     ) -> Result<(), Memory>
-        ensures ok { OnOk result ((q : List ℕ) → kept_for self.new q ≡ with_keep (keep_of ask.now audience.now token) q (kept_for self.old q)) }
-        ensures keeps { (keeps : List Kept) → StandsFor self.old keeps → OnOk result (StandsFor self.new (keeps ++ keep_of ask.now audience.now token ∷ [])) }
+        ensures ok { OnOk result ((q : List ℕ) → tokens_for self.new q ≡ with_token (cached_token_of ask.now audience.now token) q (tokens_for self.old q)) }
+        ensures history { (history : List CachedToken) → StandsFor self.old history → OnOk result (StandsFor self.new (history ++ cached_token_of ask.now audience.now token ∷ [])) }
         ensures err { OnErr result (self.new ≡ self.old) }
     {
         self.keep_one(alloc, ask, audience, token)?;
@@ -138,15 +138,15 @@ impl Tokens {
 
     /// Drops the tokens of an entry. It takes no memory.
     fn drop_ring(&mut self, entry_id: &[u8])
-        ensures { (q : List ℕ) → kept_for self.new q ≡ (if bytes_eq q entry_id.now then [] else kept_for self.old q) }
+        ensures { (q : List ℕ) → tokens_for self.new q ≡ (if bytes_eq q entry_id.now then [] else tokens_for self.old q) }
     {
         self.rings.remove(entry_id);
     }
 
     /// Drops the tokens of an entry. It takes no memory.
     pub fn forget(&mut self, entry_id: &[u8])
-        ensures rings { (q : List ℕ) → kept_for self.new q ≡ (if bytes_eq q entry_id.now then [] else kept_for self.old q) }
-        ensures keeps { (keeps : List Kept) → StandsFor self.old keeps → StandsFor self.new (without entry_id.now keeps) }
+        ensures rings { (q : List ℕ) → tokens_for self.new q ≡ (if bytes_eq q entry_id.now then [] else tokens_for self.old q) }
+        ensures history { (history : List CachedToken) → StandsFor self.old history → StandsFor self.new (without_entry entry_id.now history) }
     {
         self.drop_ring(entry_id);
     }

@@ -1,3 +1,4 @@
+pub mod Bytes
 pub mod Elements
 pub mod Equality
 pub mod Fronts

@@ -5,7 +5,8 @@ use Rattle.std.proofs.lemmas.List.{drop_all, get_or-drop}
 use Rattle.std.proofs.Math.Nat.{mul-le-mul_left, pow-succ', pow-le-pow_right}
 use Rattle.pb_wire.specs.declared.fault.WireFault.{WireFault}
 use Rattle.pb_wire.specs.declared.fault.WireFault.TheVariants.{Truncated, VarintLong}
-use Rattle.pb_wire.specs.Reading.{◌>>=◌, varint_from, varint_at}
+use Rattle.list_laws.specs.Results.{◌>>=◌}
+use Rattle.pb_wire.specs.Reading.{varint_from, varint_at}
 
 -- a number whose low part, below a power of 128, and first bytes are read
 abbrev pub with_low : ℕ → ℕ → ℕ → Result (ℕ × ℕ) WireFault → Result (ℕ × ℕ) WireFault

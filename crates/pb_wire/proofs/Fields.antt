@@ -5,18 +5,22 @@ use Rattle.std.proofs.lemmas.Bool.{le-ltb, ltb-false, eqb-true, eqb-false, ne_eq
 use Rattle.std.proofs.lemmas.List.{take_at, take-append-drop, length-take}
 use Rattle.pb_wire.specs.declared.fault.WireFault.{WireFault}
 use Rattle.pb_wire.specs.declared.fault.WireFault.TheVariants.{Truncated, WireKind, Number}
+use Rattle.pb_wire.specs.declared.field.TheConstants.{MAX_FIELD_NUMBER}
 use Rattle.pb_wire.specs.declared.field.Field.{Field}
 use Rattle.pb_wire.specs.declared.field.Value.{Value}
 use Rattle.pb_wire.specs.declared.field.Value.TheVariants.{Varint, Eight, Span, Four}
 use Rattle.pb_wire.specs.Varint.{Encodes}
 use Rattle.pb_wire.specs.Grammar.{kind_of, IsSpan, IsValue, IsField, StandsAt}
-use Rattle.pb_wire.specs.Reading.{◌>>=◌, varint_at, tag_at, number_at, eight_at, span_at, four_at, value_at, field_at}
-use Rattle.pb_wire.proofs.Steps.{bind_ok, guard_ok, ok_is, behind_front}
-use Rattle.pb_wire.proofs.Forms.{AreBytes, form_some, varint_begins, varint_again}
+use Rattle.list_laws.specs.Results.{◌>>=◌}
+use Rattle.pb_wire.specs.Reading.{varint_at, tag_at, number_at, fixed_at, eight_at, span_at, four_at, value_at, field_at}
+use Rattle.list_laws.proofs.Results.{bind_ok, guard_ok, ok_is}
+use Rattle.pb_wire.proofs.Steps.{behind_front}
+use Rattle.list_laws.specs.Lists.{AreBytes}
+use Rattle.pb_wire.proofs.Forms.{form_some, varint_begins, varint_again}
 
 -- ---- a value
 
--- what stands at a place begins with this value
+-- what is at a place begins with this value
 pub record Holds (bytes : List ℕ) (kind at : ℕ) (v : Value) (next : ℕ) : Type 0 where
   pub piece : List ℕ
   pub rest : List ℕ
@@ -34,45 +38,60 @@ number_holds bytes at v fits e =
     let h = bind_ok (varint_at bytes at) (λ n. Ok (Varint n.0, n.1)) v e in
     let b = varint_begins bytes at h.0 fits h.1 in
     let made : HoldsPair bytes 0 at (Varint h.0.0, h.0.1) = record { piece = b.form; rest = b.rest; parts = b.parts; is_value = b.encodes; is_kind = refl; behind = b.behind } in
-    subst (HoldsPair bytes 0 at) (ok_is (Varint h.0.0, h.0.1) v h.2) made
+    subst (HoldsPair bytes 0 at) (ok_is h.2) made
 
 number_again : (bytes : List ℕ) (at n : ℕ) (piece rest : List ℕ) → drop at bytes ≡ piece ++ rest → Encodes piece n → number_at bytes at ≡ Ok (Varint n, at + length piece)
 unfolding number_at
 number_again bytes at n piece rest parts is = rw (varint_again bytes at n piece rest parts is) refl
 
+-- so many bytes were there
+record HoldsFixed (bytes : List ℕ) (size at : ℕ) (word : List ℕ) : Type 0 where
+  pub rest : List ℕ
+  pub parts : drop at bytes ≡ word ++ rest
+  pub is_size : length word ≡ size
+
+fixed_holds : (size : ℕ) (bytes : List ℕ) (at : ℕ) (word : List ℕ) → fixed_at size bytes at ≡ Ok word → HoldsFixed bytes size at word
+unfolding fixed_at
+fixed_holds size bytes at word e =
+    let g = guard_ok (ltb (length bytes) (at + size)) (Truncated at) (take size (drop at bytes)) word e in
+    let long : at + size ≤ length bytes = ltb-false (length bytes) (at + size) g.0 in
+    let made : HoldsFixed bytes size at (take size (drop at bytes)) = record {
+      rest = drop size (drop at bytes);
+      parts = sym (take-append-drop size (drop at bytes));
+      is_size = omega (arith, long, length-take size (drop at bytes), length-drop at bytes);
+    } in
+    subst (HoldsFixed bytes size at) g.1 made
+
+fixed_again : (size : ℕ) (bytes : List ℕ) (at : ℕ) (piece rest : List ℕ) → drop at bytes ≡ piece ++ rest → length piece ≡ size → 1 ≤ size → fixed_at size bytes at ≡ Ok piece
+unfolding fixed_at
+fixed_again size bytes at piece rest parts is some =
+    let long : at + size ≤ length bytes = omega (arith, some, is, ap length parts, length-append piece rest, length-drop at bytes) in
+    let front : take size (drop at bytes) ≡ piece = ap (λ (xs : List ℕ). take size xs) parts ∙ take_at piece rest size is in
+    rw (le-ltb (length bytes) (at + size) long, front) refl
+
 eight_holds : (bytes : List ℕ) (at : ℕ) (v : Value × ℕ) → eight_at bytes at ≡ Ok v → HoldsPair bytes 1 at v
 unfolding eight_at
 eight_holds bytes at v e =
-    let n = from_le_bytes w64 (take 8 (drop at bytes)) in
-    let g = guard_ok (ltb (length bytes) (at + 8)) (Truncated at) (Eight n, at + 8) v e in
-    let long : at + 8 ≤ length bytes = ltb-false (length bytes) (at + 8) g.0 in
-    let eight : length (take 8 (drop at bytes)) ≡ 8 = omega (arith, length-take 8 (drop at bytes), length-drop at bytes) in
-    let made : HoldsPair bytes 1 at (Eight n, at + 8) = record { piece = take 8 (drop at bytes); rest = drop 8 (drop at bytes); parts = sym (take-append-drop 8 (drop at bytes)); is_value = (eight, refl); is_kind = refl; behind = omega (arith, eight) } in
-    subst (HoldsPair bytes 1 at) g.1 made
+    let h = bind_ok (fixed_at 8 bytes at) (λ word. Ok (Eight (from_le_bytes w64 word), at + 8)) v e in
+    let w = fixed_holds 8 bytes at h.0 h.1 in
+    let made : HoldsPair bytes 1 at (Eight (from_le_bytes w64 h.0), at + 8) = record { piece = h.0; rest = w.rest; parts = w.parts; is_value = (w.is_size, refl); is_kind = refl; behind = omega (arith, w.is_size) } in
+    subst (HoldsPair bytes 1 at) (ok_is h.2) made
 
 eight_again : (bytes : List ℕ) (at n : ℕ) (piece rest : List ℕ) → drop at bytes ≡ piece ++ rest → length piece ≡ 8 → n ≡ from_le_bytes w64 piece → eight_at bytes at ≡ Ok (Eight n, at + length piece)
 unfolding eight_at
-eight_again bytes at n piece rest parts eight is =
-    let long : at + 8 ≤ length bytes = omega (arith, eight, ap length parts, length-append piece rest, length-drop at bytes) in
-    let front : take 8 (drop at bytes) ≡ piece = ap (λ (xs : List ℕ). take 8 xs) parts ∙ take_at piece rest 8 eight in
-    rw (le-ltb (length bytes) (at + 8) long, front, ← is, eight) refl
+eight_again bytes at n piece rest parts eight is = rw (fixed_again 8 bytes at piece rest parts eight (omega arith), ← is, eight) refl
 
 four_holds : (bytes : List ℕ) (at : ℕ) (v : Value × ℕ) → four_at bytes at ≡ Ok v → HoldsPair bytes 5 at v
 unfolding four_at
 four_holds bytes at v e =
-    let n = from_le_bytes w32 (take 4 (drop at bytes)) in
-    let g = guard_ok (ltb (length bytes) (at + 4)) (Truncated at) (Four n, at + 4) v e in
-    let long : at + 4 ≤ length bytes = ltb-false (length bytes) (at + 4) g.0 in
-    let four : length (take 4 (drop at bytes)) ≡ 4 = omega (arith, length-take 4 (drop at bytes), length-drop at bytes) in
-    let made : HoldsPair bytes 5 at (Four n, at + 4) = record { piece = take 4 (drop at bytes); rest = drop 4 (drop at bytes); parts = sym (take-append-drop 4 (drop at bytes)); is_value = (four, refl); is_kind = refl; behind = omega (arith, four) } in
-    subst (HoldsPair bytes 5 at) g.1 made
+    let h = bind_ok (fixed_at 4 bytes at) (λ word. Ok (Four (from_le_bytes w32 word), at + 4)) v e in
+    let w = fixed_holds 4 bytes at h.0 h.1 in
+    let made : HoldsPair bytes 5 at (Four (from_le_bytes w32 h.0), at + 4) = record { piece = h.0; rest = w.rest; parts = w.parts; is_value = (w.is_size, refl); is_kind = refl; behind = omega (arith, w.is_size) } in
+    subst (HoldsPair bytes 5 at) (ok_is h.2) made
 
 four_again : (bytes : List ℕ) (at n : ℕ) (piece rest : List ℕ) → drop at bytes ≡ piece ++ rest → length piece ≡ 4 → n ≡ from_le_bytes w32 piece → four_at bytes at ≡ Ok (Four n, at + length piece)
 unfolding four_at
-four_again bytes at n piece rest parts four is =
-    let long : at + 4 ≤ length bytes = omega (arith, four, ap length parts, length-append piece rest, length-drop at bytes) in
-    let front : take 4 (drop at bytes) ≡ piece = ap (λ (xs : List ℕ). take 4 xs) parts ∙ take_at piece rest 4 four in
-    rw (le-ltb (length bytes) (at + 4) long, front, ← is, four) refl
+four_again bytes at n piece rest parts four is = rw (fixed_again 4 bytes at piece rest parts four (omega arith), ← is, four) refl
 
 span_holds : (bytes : List ℕ) (at : ℕ) (v : Value × ℕ) → AreBytes bytes → span_at bytes at ≡ Ok v → HoldsPair bytes 2 at v
 unfolding span_at
@@ -152,25 +171,25 @@ or_false : (a b : Bool) → (a || b) ≡ false → (a ≡ false) × (b ≡ false
 or_false true b e = absurd cc
 or_false false b e = (refl, e)
 
--- what stands at a place begins with this tag
+-- what is at a place begins with this tag
 pub record Tagged (bytes : List ℕ) (at number kind next : ℕ) : Type 0 where
   pub tag : List ℕ
   pub rest : List ℕ
   pub parts : drop at bytes ≡ tag ++ rest
   pub is_tag : Encodes tag (8 * number + kind)
   pub least : 1 ≤ number
-  pub most : number ≤ 536870911
+  pub most : number ≤ MAX_FIELD_NUMBER
   pub some : 1 ≤ length tag
   pub behind : next ≡ at + length tag
 
 tag_holds : (bytes : List ℕ) (at : ℕ) (t : ℕ × ℕ × ℕ) → AreBytes bytes → tag_at bytes at ≡ Ok t → Tagged bytes at t.0 t.1 t.2
 unfolding tag_at
 tag_holds bytes at t fits e =
-    let h = bind_ok (varint_at bytes at) (λ tag. cond ((eqb (tag.0 / 8) 0) || ltb 536870911 (tag.0 / 8)) (Err (Number at)) (Ok (tag.0 / 8, tag.0 % 8, tag.1))) t e in
+    let h = bind_ok (varint_at bytes at) (λ tag. cond ((eqb (tag.0 / 8) 0) || ltb MAX_FIELD_NUMBER (tag.0 / 8)) (Err (Number at)) (Ok (tag.0 / 8, tag.0 % 8, tag.1))) t e in
     let n = h.0.0 in
     let b = varint_begins bytes at h.0 fits h.1 in
-    let g = guard_ok ((eqb (n / 8) 0) || ltb 536870911 (n / 8)) (Number at) (n / 8, n % 8, h.0.1) t h.2 in
-    let tests = or_false (eqb (n / 8) 0) (ltb 536870911 (n / 8)) g.0 in
+    let g = guard_ok ((eqb (n / 8) 0) || ltb MAX_FIELD_NUMBER (n / 8)) (Number at) (n / 8, n % 8, h.0.1) t h.2 in
+    let tests = or_false (eqb (n / 8) 0) (ltb MAX_FIELD_NUMBER (n / 8)) g.0 in
     let whole : n ≡ 8 * (n / 8) + n % 8 = omega arith in
     let made : Tagged bytes at (n / 8) (n % 8) h.0.1 = record {
       tag = b.form;
@@ -178,18 +197,18 @@ tag_holds bytes at t fits e =
       parts = b.parts;
       is_tag = subst (λ (m : ℕ). Encodes b.form m) whole b.encodes;
       least = omega (arith, eqb-false (n / 8) 0 tests.0);
-      most = ltb-false 536870911 (n / 8) tests.1;
+      most = ltb-false MAX_FIELD_NUMBER (n / 8) tests.1;
       some = b.some;
       behind = b.behind;
     } in
     subst (λ (p : ℕ × ℕ × ℕ). Tagged bytes at p.0 p.1 p.2) g.1 made
 
-tag_again : (bytes : List ℕ) (at number kind : ℕ) (tag rest : List ℕ) → drop at bytes ≡ tag ++ rest → Encodes tag (8 * number + kind) → kind < 8 → 1 ≤ number → number ≤ 536870911 → tag_at bytes at ≡ Ok (number, kind, at + length tag)
+tag_again : (bytes : List ℕ) (at number kind : ℕ) (tag rest : List ℕ) → drop at bytes ≡ tag ++ rest → Encodes tag (8 * number + kind) → kind < 8 → 1 ≤ number → number ≤ MAX_FIELD_NUMBER → tag_at bytes at ≡ Ok (number, kind, at + length tag)
 unfolding tag_at
 tag_again bytes at number kind tag rest parts is small least most =
     let whole : (8 * number + kind) / 8 ≡ number = omega arith in
     let low : (8 * number + kind) % 8 ≡ kind = omega arith in
-    rw (varint_again bytes at (8 * number + kind) tag rest parts is, whole, low, ne_eqb number 0 (omega arith), le-ltb 536870911 number most) refl
+    rw (varint_again bytes at (8 * number + kind) tag rest parts is, whole, low, ne_eqb number 0 (omega arith), le-ltb MAX_FIELD_NUMBER number most) refl
 
 -- ---- a field
 
@@ -225,7 +244,7 @@ field_holds bytes at f fits e =
       };
       some = omega (arith, t.some, length-append t.tag v.piece);
     } in
-    subst (λ (f : Field). StandsAt bytes at f) (ok_is (record { number = h.0.0; value = k.0.0; next = k.0.1 }) f k.2) made
+    subst (λ (f : Field). StandsAt bytes at f) (ok_is k.2) made
 
 pub field_again : (bytes : List ℕ) (at : ℕ) (f : Field) (piece rest : List ℕ) → drop at bytes ≡ piece ++ rest → IsField at piece f → field_at bytes at ≡ Ok f
 unfolding field_at

@@ -3,13 +3,13 @@ use Rattle.std.proofs.Common.{◌≡◌, ℕ, zero, suc, ◌+◌, ◌*◌, ◌-�
 use Rattle.std.proofs.lemmas.Bool.{cases_lt, lt-ltb, le-ltb, ltb-true}
 use Rattle.std.proofs.lemmas.List.{get_or-drop}
 use Rattle.std.proofs.Math.Nat.{pow-succ', one-le-pow}
+use Rattle.pb_wire.specs.declared.fault.WireFault.{WireFault}
 use Rattle.pb_wire.specs.declared.fault.WireFault.TheVariants.{VarintLong}
 use Rattle.pb_wire.specs.Varint.{IsForm, Encodes}
-use Rattle.pb_wire.specs.Reading.{◌>>=◌, varint_from, varint_at}
-use Rattle.pb_wire.proofs.Steps.{bind_ok, needs_ok, ok_is}
-
-abbrev pub AreBytes : List ℕ → Type 0
-AreBytes bytes = (i : ℕ) → get_or bytes i 0 < 256
+use Rattle.list_laws.specs.Lists.{AreBytes}
+use Rattle.list_laws.specs.Results.{◌>>=◌}
+use Rattle.pb_wire.specs.Reading.{varint_from, varint_at}
+use Rattle.list_laws.proofs.Results.{bind_ok, needs_ok, ok_is}
 
 -- what was read from the front
 pub record TakesForm (bytes : List ℕ) (more n count : ℕ) : Type 0 where
@@ -38,7 +38,7 @@ takes_form at (suc more) (b ∷ bs) n count fits e =
     elim (cases_lt b 128) [
       | inl small ↦
           let one : varint_from at (suc more) (b ∷ bs) ≡ Ok (b, 1) = rw (lt-ltb b 128 small) refl in
-          let g = ok_is (b, 1) (n, count) (sym one ∙ e) in
+          let g = ok_is {E = WireFault} (sym one ∙ e) in
           let value : b ≡ n = ap (λ (p : ℕ × ℕ). p.0) g in
           let len : 1 ≡ count = ap (λ (p : ℕ × ℕ). p.1) g in
           record { form = b ∷ []; rest = bs; parts = refl; is_form = (small, sym value); is_count = sym len; few = omega arith; fits = omega (arith, pow-succ' 128 more, one-le-pow more 128 (omega arith)) }
@@ -46,7 +46,7 @@ takes_form at (suc more) (b ∷ bs) n count fits e =
           let one : varint_from at (suc more) (b ∷ bs) ≡ (varint_from at more bs >>= λ high. Ok ((b - 128) + 128 * high.0, suc high.1)) = rw (le-ltb b 128 large) refl in
           let h = bind_ok (varint_from at more bs) (λ high. Ok ((b - 128) + 128 * high.0, suc high.1)) (n, count) (sym one ∙ e) in
           let t = takes_form at more bs h.0.0 h.0.1 (λ i. fits (suc i)) h.1 in
-          let g = ok_is ((b - 128) + 128 * h.0.0, suc h.0.1) (n, count) h.2 in
+          let g = ok_is h.2 in
           let value : (b - 128) + 128 * h.0.0 ≡ n = ap (λ (p : ℕ × ℕ). p.0) g in
           let len : suc h.0.1 ≡ count = ap (λ (p : ℕ × ℕ). p.1) g in
           record {
@@ -94,7 +94,7 @@ unfolding varint_at
 varint_begins bytes at v fits e =
     let h = bind_ok (varint_from at 9 (drop at bytes)) (λ v. Ok (v.0, at + v.1)) v e in
     let t = takes_form at 9 (drop at bytes) h.0.0 h.0.1 (AreBytes-drop bytes at fits) h.1 in
-    let g = ok_is (h.0.0, at + h.0.1) v h.2 in
+    let g = ok_is h.2 in
     let made : Begins bytes at h.0.0 (at + h.0.1) = record {
       form = t.form;
       rest = t.rest;

@@ -7,3 +7,4 @@ pub mod Messages
 pub mod Written
 pub mod Texts
 pub mod Faults
+pub mod Strings

@@ -8,7 +8,8 @@ use Rattle.pb_wire.specs.Grammar.{kind_of, IsField}
 use Rattle.pb_wire.specs.Reading.{field_at}
 use Rattle.pb_wire.specs.Message.{AreFields, then_fields, fields_in, fields_from, text_in, texts_in, last_of}
 use Rattle.pb_wire.proofs.Steps.{behind_front}
-use Rattle.pb_wire.proofs.Forms.{AreBytes, form_some}
+use Rattle.list_laws.specs.Lists.{AreBytes}
+use Rattle.pb_wire.proofs.Forms.{form_some}
 use Rattle.pb_wire.proofs.Fields.{field_holds, field_again}
 
 -- a field takes a byte at least

@@ -1,6 +1,7 @@
 -- The grammar of a field, apart from both directions (Protocol Buffers encoding, "Message Structure").
 use Rattle.std.specs.Prelude.{◌≡◌, ◌≤◌, ℕ, ◌+◌, ◌*◌, List, ◌++◌, length, drop}
 use Rattle.std.specs.Int.{w32, w64, from_le_bytes}
+use Rattle.pb_wire.specs.declared.field.TheConstants.{MAX_FIELD_NUMBER}
 use Rattle.pb_wire.specs.declared.field.Field.{Field}
 use Rattle.pb_wire.specs.declared.field.Value.{Value}
 use Rattle.pb_wire.specs.declared.field.Value.TheVariants.{Varint, Eight, Span, Four}
@@ -36,12 +37,12 @@ pub record IsField (at : ℕ) (bytes : List ℕ) (f : Field) : Type 0 where
   pub content : List ℕ
   pub parts : bytes ≡ tag ++ content
   pub least : 1 ≤ f.number
-  pub most : f.number ≤ 536870911
+  pub most : f.number ≤ MAX_FIELD_NUMBER
   pub is_tag : Encodes tag (8 * f.number + kind_of f.value)
   pub is_value : IsValue (at + length tag) content f.value
   pub behind : f.next ≡ at + length bytes
 
--- what stands at a place in the bytes begins with this field
+-- what is at a place in the bytes begins with this field
 pub record StandsAt (bytes : List ℕ) (at : ℕ) (f : Field) : Type 0 where
   pub piece : List ℕ
   pub rest : List ℕ

@@ -3,8 +3,8 @@ use Rattle.std.specs.Prelude.{◌≡◌, ℕ, zero, suc, ◌-◌, ◌==◌, nat_
 use Rattle.std.specs.List.{flat_map}
 use Rattle.pb_wire.specs.declared.fault.WireFault.{WireFault}
 use Rattle.std.specs.Str.{IsUtf8, is_utf8}
-use Rattle.pb_wire.specs.declared.fault.TextFault.{TextFault}
-use Rattle.pb_wire.specs.declared.fault.TextFault.TheVariants.{Kind, NotUtf8}
+use Rattle.pb_wire.specs.declared.fault.FieldFault.{FieldFault}
+use Rattle.pb_wire.specs.declared.fault.FieldFault.TheVariants.{Wire, FieldKind, NotUtf8, Memory}
 use Rattle.pb_wire.specs.declared.field.Field.{Field}
 use Rattle.pb_wire.specs.declared.field.Value.{Value}
 use Rattle.pb_wire.specs.declared.field.Value.TheVariants.{Varint, Eight, Span, Four}
@@ -16,7 +16,7 @@ abbrev pub AreFields : ℕ → List ℕ → List Field → Type 0
 AreFields at bytes [] = bytes ≡ []
 AreFields at bytes (f ∷ fs) = (piece : List ℕ) × (rest : List ℕ) × (bytes ≡ piece ++ rest) × IsField at piece f × AreFields f.next rest fs
 
--- Fields as far as they go, and the fault that stands behind them, if one does.
+-- Fields as far as they go, and the fault that is after them, if there is one.
 abbrev pub then_fields : Result Field WireFault → (Field → List Field × Option WireFault) → List Field × Option WireFault
 then_fields (Ok f) others = (f ∷ (others f).0, (others f).1)
 then_fields (Err e) others = ([], Some e)
@@ -41,21 +41,21 @@ content_of bytes (Four n) = None
 abbrev pub IsText : List ℕ → Value → Type 0
 IsText bytes v = (text : List ℕ) × (content_of bytes v ≡ Some text) × IsUtf8 text
 
--- it, or what is wrong with it
-abbrev pub utf8_text : Option (List ℕ) → Result (List ℕ) TextFault
-utf8_text None = Err Kind
-utf8_text (Some text) = if is_utf8 text then Ok text else Err NotUtf8
+-- it, or what is wrong with the field of this number
+abbrev pub utf8_text : ℕ → Option (List ℕ) → Result (List ℕ) FieldFault
+utf8_text number None = Err (FieldKind number)
+utf8_text number (Some text) = if is_utf8 text then Ok text else Err (NotUtf8 number)
 
-unfoldable pub text_of : List ℕ → Value → Result (List ℕ) TextFault
-text_of bytes v = utf8_text (content_of bytes v)
+unfoldable pub text_of : List ℕ → Field → Result (List ℕ) FieldFault
+text_of bytes f = utf8_text f.number (content_of bytes f.value)
 
 -- the texts of the fields of this number, in their order
-abbrev pub text_list : Result (List ℕ) TextFault → List (List ℕ)
+abbrev pub text_list : Result (List ℕ) FieldFault → List (List ℕ)
 text_list (Ok text) = text ∷ []
 text_list (Err e) = []
 
 abbrev pub text_in : ℕ → List ℕ → Field → List (List ℕ)
-text_in number bytes f = if f.number == number then text_list (text_of bytes f.value) else []
+text_in number bytes f = if f.number == number then text_list (text_of bytes f) else []
 
 unfoldable pub texts_in : ℕ → List ℕ → List Field → List (List ℕ)
 texts_in number bytes fs = flat_map (text_in number bytes) fs
@@ -66,14 +66,14 @@ abbrev pub last_of : List ℕ → List (List ℕ) → List ℕ
 last_of before [] = before
 last_of before (text ∷ texts) = last_of text texts
 
--- The first fault in fields and in what stands behind them, where `wrong` tells what is wrong with a field.
+-- The first fault in fields and after them, where `wrong` says what is wrong with a field.
 abbrev pub or_else : {E : Type 0} → Option E → Option E → Option E
 or_else (Some e) later = Some e
 or_else None later = later
 
-abbrev pub first_fault : {E : Type 0} → (WireFault → E) → (Field → Option E) → List Field → Option WireFault → Option E
-first_fault wire wrong [] behind = option_map wire behind
-first_fault wire wrong (f ∷ fs) behind = or_else (wrong f) (first_fault wire wrong fs behind)
+abbrev pub first_fault : (Field → Option FieldFault) → List Field → Option WireFault → Option FieldFault
+first_fault wrong [] after = option_map Wire after
+first_fault wrong (f ∷ fs) after = or_else (wrong f) (first_fault wrong fs after)
 
 -- what the fields say, unless there is a fault
 abbrev pub unless_fault : {E A : Type 0} → Option E → A → Result A E

@@ -4,9 +4,12 @@ ghost use Rattle.std.specs.Prelude.{◌≡◌, Ok, Err, option_map, MatchResult}
 ghost use Rattle.std.specs.Str.{is_utf8};
 ghost use Rattle.pb_wire.specs.Message.{content_of, text_of};
 
-use crate::fault::TextFault;
+use crate::fault::FieldFault;
 
-/// A field: its number, its value, and the place behind it.
+/// The largest number of a field (proto3, "Assigning Field Numbers").
+pub const MAX_FIELD_NUMBER: u32 = 536_870_911;
+
+/// A field: its number, its value, and the place after it.
 #[derive(Clone, Copy, Debug, PartialEq, Eq)]
 pub struct Field {
     pub number: u32,
@@ -41,17 +44,21 @@ impl Value {
             Value::Varint(_) | Value::Eight(_) | Value::Four(_) => None,
         }
     }
+}
 
-    /// The content of a string that was read from these bytes: it has wire type 2 and is UTF-8.
+impl Field {
+    /// The text of a known field that is a string and was read from these bytes: it has wire type 2 and is UTF-8.
     #[tactic(auto, unfolding(crate::specs::Message::text_of))]
-    pub fn text<'a>(&self, bytes: &'a [u8]) -> Result<&'a [u8], TextFault>
-        ensures { MatchResult result (λ text. text_of bytes.now self.now ≡ Ok text.now) (λ e. text_of bytes.now self.now ≡ Err e) }
+    pub fn text<'a>(&self, bytes: &'a [u8]) -> Result<&'a [u8], FieldFault>
+        ensures { MatchResult result
+            (λ text. text_of bytes.now self.now ≡ Ok text.now)
+            (λ e. text_of bytes.now self.now ≡ Err e) }
     {
-        let Some(text) = self.content(bytes) else {
-            return Err(TextFault::Kind);
+        let Some(text) = self.value.content(bytes) else {
+            return Err(FieldFault::FieldKind(self.number));
         };
         if !is_text(text) {
-            return Err(TextFault::NotUtf8);
+            return Err(FieldFault::NotUtf8(self.number));
         }
         Ok(text)
     }

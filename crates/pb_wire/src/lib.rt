@@ -11,8 +11,8 @@ mod reading;
 mod varint;
 mod writing;
 
-pub use fault::{TextFault, WireFault};
-pub use field::{Field, Value};
+pub use fault::{FieldFault, WireFault};
+pub use field::{Field, MAX_FIELD_NUMBER, Value};
 pub use reading::read_field;
 pub use varint::{put_varint, size_of_varint};
 pub use writing::{put_bytes, put_head, size_of_bytes};

@@ -1,16 +1,17 @@
 //! A field from bytes (Protocol Buffers encoding, "Message Structure").
 
-ghost use Rattle.std.specs.Prelude.{◌≡◌, ◌≤◌, ◌<◌, ◌^◌, ◌*◌, ◌++◌, ℕ, List, length, drop, IfOk, Ok};
+ghost use Rattle.std.specs.Prelude.{◌≡◌, ◌≤◌, ◌<◌, ◌^◌, ◌+◌, ◌*◌, ◌++◌, ℕ, List, length, drop, IfOk, Ok, Err, MatchResult};
 ghost use Rattle.pb_wire.specs.declared.field.Field.{Field};
+ghost use Rattle.pb_wire.specs.declared.field.TheConstants.{MAX_FIELD_NUMBER};
 ghost use Rattle.pb_wire.specs.Varint.{varint};
 ghost use Rattle.pb_wire.specs.Spelling.{field};
 ghost use Rattle.pb_wire.specs.Grammar.{StandsAt, bytes_field, varint_field};
-ghost use Rattle.pb_wire.specs.Reading.{varint_at, tag_at, eight_at, four_at, span_at, number_at, value_at, field_at, IsWithin};
+ghost use Rattle.pb_wire.specs.Reading.{varint_at, tag_at, fixed_at, eight_at, four_at, span_at, number_at, value_at, field_at, IsWithin};
 
 use crate::fault::WireFault;
-use crate::field::{Field, Value};
+use crate::field::{Field, MAX_FIELD_NUMBER, Value};
 
-/// The varint at a place, and the place behind it.
+/// The varint at a place, and the place after it.
 fn read_varint(bytes: &[u8], at: usize) -> Result<(u64, usize), WireFault>
     requires { at ≤ length bytes.now }
     ensures value { result ≡ varint_at bytes.now at }
@@ -36,7 +37,7 @@ fn read_varint(bytes: &[u8], at: usize) -> Result<(u64, usize), WireFault>
     Err(WireFault::Truncated(at))
 }
 
-/// The number and the wire type of the tag at a place, and the place behind it.
+/// The number and the wire type of the tag at a place, and the place after it.
 #[tactic(auto, unfolding(crate::specs::Reading::tag_at))]
 fn read_tag(bytes: &[u8], at: usize) -> Result<(u32, u32, usize), WireFault>
     requires { at ≤ length bytes.now }
@@ -45,10 +46,28 @@ fn read_tag(bytes: &[u8], at: usize) -> Result<(u32, u32, usize), WireFault>
 {
     let (tag, next) = read_varint(bytes, at)?;
     let number = tag / 8;
-    if number == 0 || number > 536_870_911 {
+    if number == 0 || number > u64::from(MAX_FIELD_NUMBER) {
         return Err(WireFault::Number(at));
     }
     Ok((number as u32, (tag % 8) as u32, next))
+}
+
+/// So many bytes at a place.
+#[tactic(auto, unfolding(crate::specs::Reading::fixed_at))]
+fn read_fixed(bytes: &[u8], at: usize, size: usize) -> Result<&[u8], WireFault>
+    requires { at ≤ length bytes.now }
+    ensures value { MatchResult result
+        (λ word. fixed_at size bytes.now at ≡ Ok word.now)
+        (λ e. fixed_at size bytes.now at ≡ Err e) }
+    ensures within { IfOk result (λ _. at + size ≤ length bytes.now) }
+    ensures size { IfOk result (λ word. length word.now ≡ size) }
+{
+    if bytes.len() - at < size {
+        return Err(WireFault::Truncated(at));
+    }
+    let (_, rest) = bytes.split_at(at);
+    let (word, _) = rest.split_at(size);
+    Ok(word)
 }
 
 #[tactic(auto, unfolding(crate::specs::Reading::eight_at))]
@@ -57,11 +76,7 @@ fn read_eight(bytes: &[u8], at: usize) -> Result<(Value, usize), WireFault>
     ensures value { result ≡ eight_at bytes.now at }
     ensures within { IfOk result (λ v. IsWithin at (length bytes.now) v.0 v.1) }
 {
-    if bytes.len() - at < 8 {
-        return Err(WireFault::Truncated(at));
-    }
-    let (_, rest) = bytes.split_at(at);
-    let (word, _) = rest.split_at(8);
+    let word = read_fixed(bytes, at, 8)?;
     let number = u64::from_le_bytes([
         word[0], word[1], word[2], word[3], word[4], word[5], word[6], word[7],
     ]);
@@ -74,11 +89,7 @@ fn read_four(bytes: &[u8], at: usize) -> Result<(Value, usize), WireFault>
     ensures value { result ≡ four_at bytes.now at }
     ensures within { IfOk result (λ v. IsWithin at (length bytes.now) v.0 v.1) }
 {
-    if bytes.len() - at < 4 {
-        return Err(WireFault::Truncated(at));
-    }
-    let (_, rest) = bytes.split_at(at);
-    let (word, _) = rest.split_at(4);
+    let word = read_fixed(bytes, at, 4)?;
     let number = u32::from_le_bytes([word[0], word[1], word[2], word[3]]);
     Ok((Value::Four(number), at + 4))
 }
@@ -123,7 +134,7 @@ fn read_value(kind: u32, bytes: &[u8], start: usize, at: usize) -> Result<(Value
 }
 
 #[tactic(auto, unfolding(crate::specs::Reading::field_at))]
-fn read_whole(bytes: &[u8], at: usize) -> Result<Field, WireFault>
+fn read_field_inner(bytes: &[u8], at: usize) -> Result<Field, WireFault>
     requires { at ≤ length bytes.now }
     ensures value { result ≡ field_at bytes.now at }
     ensures within { IfOk result (λ f. IsWithin at (length bytes.now) f.value f.next) }
@@ -137,21 +148,22 @@ fn read_whole(bytes: &[u8], at: usize) -> Result<Field, WireFault>
     })
 }
 
-/// The field at a place below the length of the bytes: its number, its value and the place behind it. The first fault
-/// is told: that of the tag's varint, then its number, then its wire type, then that of the value.
+/// The field at a place below the length of the bytes: its number, its value and the place after it. The first fault
+/// is the answer: that of the tag's varint, then its number, then its wire type, then that of the value.
 pub fn read_field(bytes: &[u8], at: usize) -> Result<Field, WireFault>
     requires { at < length bytes.now }
     // Which field, or which fault, it is.
     ensures value { result ≡ field_at bytes.now at }
     ensures within { IfOk result (λ f. IsWithin at (length bytes.now) f.value f.next) }
-    // What is read stands there, and what stands there is read.
+    // What is read is there, and what is there is read.
     ensures found { IfOk result (λ f. StandsAt bytes.now at f) }
     ensures only { (f : Field) → StandsAt bytes.now at f → result ≡ Ok f }
     // What `put_bytes` and `put_varint` wrote is read back, whatever follows.
-    ensures bytes_back { (number : ℕ) (content rest : List ℕ) → 1 ≤ number → number ≤ 536_870_911
+    ensures bytes_back { (number : ℕ) (content rest : List ℕ) → 1 ≤ number → number ≤ MAX_FIELD_NUMBER
         → drop at bytes.now ≡ field number content ++ rest → result ≡ Ok (bytes_field at number content) }
-    ensures varint_back { (number n : ℕ) (rest : List ℕ) → 1 ≤ number → number ≤ 536_870_911 → n < 2 ^ 64
+    ensures varint_back { (number n : ℕ) (rest : List ℕ) → 1 ≤ number → number ≤ MAX_FIELD_NUMBER → n < 2 ^ 64
         → drop at bytes.now ≡ (varint (8 * number) ++ varint n) ++ rest → result ≡ Ok (varint_field at number n) }
 {
-    read_whole(bytes, at)
+    // The public clauses follow from those of the inner call.
+    read_field_inner(bytes, at)
 }

@@ -6,7 +6,7 @@ ghost use Rattle.list_laws.specs.Lists.{GainsFront};
 
 use wl_octets::Memory;
 
-fn write_varint(out: &mut Vec<u8>, value: u64) -> Result<(), Memory>
+fn put_varint_inner(out: &mut Vec<u8>, value: u64) -> Result<(), Memory>
     ensures ok { OnOk result (out.new.items ≡ out.old.items ++ varint value) }
     ensures err { OnErr result (GainsFront (varint value) out.old.items out.new.items) }
 {
@@ -27,7 +27,8 @@ pub fn put_varint(out: &mut Vec<u8>, value: u64) -> Result<(), Memory>
     ensures form { IsVarint (varint value) value }
     ensures only { (bytes : List ℕ) → IsVarint bytes value → bytes ≡ varint value }
 {
-    write_varint(out, value)
+    // The public clauses follow from those of the inner call.
+    put_varint_inner(out, value)
 }
 
 /// How many bytes the shortest varint of a number has, 1 to 10.

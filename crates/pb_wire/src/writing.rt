@@ -3,6 +3,7 @@
 ghost use Rattle.std.specs.Prelude.{◌≡◌, ◌≤◌, ◌+◌, ◌*◌, ◌^◌, ◌++◌, length, OnOk, OnErr};
 ghost use Rattle.pb_wire.specs.Varint.{varint};
 ghost use Rattle.pb_wire.specs.Spelling.{head, field};
+ghost use Rattle.pb_wire.specs.declared.field.TheConstants.{MAX_FIELD_NUMBER};
 ghost use Rattle.list_laws.specs.Lists.{GainsFront};
 
 use crate::varint::{put_varint, size_of_varint};
@@ -12,7 +13,7 @@ use wl_octets::Memory;
 /// a prefix of them was appended.
 pub fn put_head(out: &mut Vec<u8>, number: u32, len: u64) -> Result<(), Memory>
     requires least { 1 ≤ number }
-    requires most { number ≤ 536_870_911 }
+    requires most { number ≤ MAX_FIELD_NUMBER }
     ensures ok { OnOk result (out.new.items ≡ out.old.items ++ head number len) }
     ensures err { OnErr result (GainsFront (head number len) out.old.items out.new.items) }
 {
@@ -23,7 +24,7 @@ pub fn put_head(out: &mut Vec<u8>, number: u32, len: u64) -> Result<(), Memory>
 /// Appends a field of wire type 2: its tag, its length and its bytes. After `Memory` a prefix of it was appended.
 pub fn put_bytes(out: &mut Vec<u8>, number: u32, bytes: &[u8]) -> Result<(), Memory>
     requires least { 1 ≤ number }
-    requires most { number ≤ 536_870_911 }
+    requires most { number ≤ MAX_FIELD_NUMBER }
     ensures ok { OnOk result (out.new.items ≡ out.old.items ++ field number bytes.now) }
     ensures err { OnErr result (GainsFront (field number bytes.now) out.old.items out.new.items) }
 {

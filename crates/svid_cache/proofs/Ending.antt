@@ -1,11 +1,11 @@
--- Whether one of the SVIDs is over, by the first end.
+-- Whether one of the SVIDs has expired, by the first end.
 use Rattle.std.specs.Prelude.{◌≡◌, ◌||◌, ℕ, min, nat_le, not, Bool, true, false, if◌then◌else◌, List, [], ◌∷◌, map, filter, fold, Option, Some, None}
 use Rattle.std.specs.List.{list_any}
 use Rattle.std.proofs.Common.{arith, refl, sym, ◌∙◌, ap, subst}
 use Rattle.std.proofs.lemmas.Bool.{or_parts}
 use Rattle.std.proofs.lemmas.Bool.Decides.{nat_tests}
 use Rattle.wl_entry.specs.declared.signing.Svid.{Svid}
-use Rattle.svid_cache.specs.Caches.{Cached, lasts, has_ended, swept}
+use Rattle.svid_cache.specs.Caches.{Cached, lasts, has_ended, without_ended}
 use Rattle.svid_cache.specs.Queue.{first_end}
 
 -- the end has come
@@ -42,7 +42,7 @@ kept_go : (b : Bool) (s : Svid) (kept more : List Svid) → not b ≡ false → 
 kept_go true s kept more h same = ap (λ l. s ∷ l) same
 kept_go false s kept more h same = cc
 
--- where none is over all stay
+-- where none has expired all stay
 none_ended : (now : ℕ) (svids : List Svid) → list_any (λ s. not (lasts now s)) svids ≡ false → filter (lasts now) svids ≡ svids
 none_ended now [] h = refl
 none_ended now (s ∷ more) h =
@@ -56,6 +56,6 @@ pub ended_by : (now : ℕ) (end : Option ℕ) (c : Cached) → end ≡ first_end
 unfolding has_ended
 ended_by now end c ends = ap (has_come now) ends ∙ come_ended now c.svids
 
-pub all_kept : (now : ℕ) (c : Cached) → has_ended now c ≡ false → swept now c ≡ c
+pub all_kept : (now : ℕ) (c : Cached) → has_ended now c ≡ false → without_ended now c ≡ c
 unfolding has_ended
 all_kept now c none = ap (λ (l : List Svid). record c { svids = l }) (none_ended now c.svids none)

@@ -18,12 +18,12 @@ use Rattle.wl_entry.specs.Same.{same_ask}
 use Rattle.wl_entry.specs.declared.asks.Ask.{Ask}
 use Rattle.wl_entry.specs.declared.signing.Signed.{Signed}
 use Rattle.wl_entry.specs.declared.signing.Svid.{Svid}
-use Rattle.sorted_lists.specs.Keys.{item_at}
-use Rattle.sorted_lists.proofs.Chosen.{all_append, all_such}
-use Rattle.sorted_lists.proofs.Halving.{order, not_same, turned}
+use Rattle.list_laws.specs.Keys.{item_at}
+use Rattle.list_laws.proofs.Elements.{all_append, all_such}
+use Rattle.list_laws.proofs.Order.{order, not_same, turned}
 use Rattle.svid_cache.proofs.Keeping.{same_entry_id}
-use Rattle.svid_cache.specs.Caches.{kept_for, is_due, lasts, is_below, is_above, put}
-use Rattle.svid_cache.specs.Queue.{half_second, first_second, NotBefore, OthersNotBefore, Filed, NoneBelow, cleared}
+use Rattle.svid_cache.specs.Caches.{kept_for, is_due, lasts, is_below, is_above, with_svid}
+use Rattle.svid_cache.specs.Queue.{half_second, first_second, NotBefore, OthersNotBefore, Filed, NoneBelow, clear_second}
 
 -- ---- the first second
 
@@ -217,20 +217,20 @@ swept_go now first svids a false (Some s) come kept from =
     let ends : nat_lt now s.signed.not_after ≡ true = grind (arith, nat_tests, come, from) in
     rw (find_passing (λ k. same_ask k.ask a) (lasts now) svids s kept ends) from
 
-swept_fits : (now first : ℕ) (svids : List Svid) (a : Ask) → NotBefore svids first a → NotBefore (filter (lasts now) svids) (cleared now first) a
+swept_fits : (now first : ℕ) (svids : List Svid) (a : Ask) → NotBefore svids first a → NotBefore (filter (lasts now) svids) (clear_second now first) a
 unfolding first_second
 swept_fits now first svids a from = swept_go now first svids a (nat_le first now) (kept_for svids a) refl refl from
 
-pub filed_swept : (now size : ℕ) (svids : List Svid) (firsts : List ℕ) (asks : List Ask) → Filed (NotBefore svids) size firsts asks → Filed (NotBefore (filter (lasts now) svids)) size (map (cleared now) firsts) asks
-filed_swept now size svids firsts asks filed = filed_such (NotBefore svids) (NotBefore (filter (lasts now) svids)) (cleared now) (λ first a from. swept_fits now first svids a from) size firsts asks filed
+pub filed_swept : (now size : ℕ) (svids : List Svid) (firsts : List ℕ) (asks : List Ask) → Filed (NotBefore svids) size firsts asks → Filed (NotBefore (filter (lasts now) svids)) size (map (clear_second now) firsts) asks
+filed_swept now size svids firsts asks filed = filed_such (NotBefore svids) (NotBefore (filter (lasts now) svids)) (clear_second now) (λ first a from. swept_fits now first svids a from) size firsts asks filed
 
 -- ---- a new SVID
 
 other_ask : (s : Svid) (a : Ask) → bytes_eq s.ask.entry_id a.entry_id ≡ false → same_ask s.ask a ≡ false
 other_ask s a other = rw other refl
 
-put_go : (s : Svid) (svids : List Svid) (a : Ask) (o : Ordering) → order a.entry_id s.ask.entry_id ≡ o → is_eq o ≡ false → kept_for (put s svids) a ≡ kept_for svids a
-unfolding kept_for put
+put_go : (s : Svid) (svids : List Svid) (a : Ask) (o : Ordering) → order a.entry_id s.ask.entry_id ≡ o → is_eq o ≡ false → kept_for (with_svid s svids) a ≡ kept_for svids a
+unfolding kept_for with_svid
 put_go s svids a Less at other =
     let t : Svid → Bool = λ k. same_ask k.ask a in
     let new : t s ≡ false = other_ask s a (not_same s.ask.entry_id a.entry_id Greater (turned a.entry_id s.ask.entry_id at) refl) in
@@ -245,15 +245,15 @@ put_go s svids a Greater at other =
     ∙ rw new (find_all t (is_above s.ask.entry_id) (λ k same. subst (λ i. is_gt (order i s.ask.entry_id) ≡ true) (sym (same_entry_id k.ask a same)) (ap is_gt at)) svids)
 put_go s svids a Equal at other = cc
 
-put_other : (s : Svid) (svids : List Svid) (a : Ask) → bytes_eq a.entry_id s.ask.entry_id ≡ false → kept_for (put s svids) a ≡ kept_for svids a
+put_other : (s : Svid) (svids : List Svid) (a : Ask) → bytes_eq a.entry_id s.ask.entry_id ≡ false → kept_for (with_svid s svids) a ≡ kept_for svids a
 put_other s svids a other = put_go s svids a (order a.entry_id s.ask.entry_id) refl (is_eq-slice_cmp a.entry_id s.ask.entry_id ∙ other)
 
-put_fits : (s : Svid) (svids : List Svid) (first : ℕ) (a : Ask) → NotBefore svids first a → OthersNotBefore s.ask.entry_id (put s svids) first a
+put_fits : (s : Svid) (svids : List Svid) (first : ℕ) (a : Ask) → NotBefore svids first a → OthersNotBefore s.ask.entry_id (with_svid s svids) first a
 unfolding first_second
 put_fits s svids first a from = λ other. subst (λ o. first ≤ unwrap_or (option_map (λ k. half_second k.signed) o) 0) (sym (put_other s svids a other)) from
 
-pub filed_put : (s : Svid) (size : ℕ) (svids : List Svid) (firsts : List ℕ) (asks : List Ask) → Filed (NotBefore svids) size firsts asks → Filed (OthersNotBefore s.ask.entry_id (put s svids)) size firsts asks
-filed_put s size svids firsts asks filed = filed_same (NotBefore svids) (OthersNotBefore s.ask.entry_id (put s svids)) (λ first a from. put_fits s svids first a from) size firsts asks filed
+pub filed_put : (s : Svid) (size : ℕ) (svids : List Svid) (firsts : List ℕ) (asks : List Ask) → Filed (NotBefore svids) size firsts asks → Filed (OthersNotBefore s.ask.entry_id (with_svid s svids)) size firsts asks
+filed_put s size svids firsts asks filed = filed_same (NotBefore svids) (OthersNotBefore s.ask.entry_id (with_svid s svids)) (λ first a from. put_fits s svids first a from) size firsts asks filed
 
 pub others_at : (size : ℕ) (id id' : List ℕ) (svids svids' : List Svid) (firsts firsts' : List ℕ) (asks asks' : List Ask) → id ≡ id' → svids ≡ svids' → firsts ≡ firsts' → asks ≡ asks' → Filed (OthersNotBefore id' svids') size firsts' asks' → Filed (OthersNotBefore id svids) size firsts asks
 others_at size id id' svids svids' firsts firsts' asks asks' same_id same_svids same_firsts same_asks filed =

@@ -12,8 +12,8 @@ use Rattle.wl_entry.specs.Keys.{ask_key, svid_key}
 use Rattle.wl_entry.specs.Same.{same_ask}
 use Rattle.wl_entry.specs.declared.asks.Ask.{Ask}
 use Rattle.wl_entry.specs.declared.signing.Svid.{Svid}
-use Rattle.sorted_lists.specs.Keys.{item_at}
-use Rattle.sorted_lists.proofs.Found.{level_self}
+use Rattle.list_laws.specs.Keys.{item_at}
+use Rattle.list_laws.proofs.Order.{level_self}
 use Rattle.svid_cache.specs.Caches.{only, is_listed, kept_for}
 
 -- whether there is one that passes
@@ -22,7 +22,7 @@ passes t None = false
 passes t (Some x) = t x
 
 -- no byte string above k is k
-above_is_other : (k x : List ℕ) → slice_cmp nat_cmp k x ≡ Less → (b : Bool) → b ≡ bytes_eq x k → b ≡ false
+pub above_is_other : (k x : List ℕ) → slice_cmp nat_cmp k x ≡ Less → (b : Bool) → b ≡ bytes_eq x k → b ≡ false
 above_is_other k x less false is = refl
 above_is_other k x less true is =
     let at : slice_cmp nat_cmp k k ≡ Less = subst (λ y. slice_cmp nat_cmp k y ≡ Less) ((bytes_eq-Decides x k).0 (sym is)) less in

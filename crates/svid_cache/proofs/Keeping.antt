@@ -15,15 +15,16 @@ use Rattle.wl_entry.specs.Limits.{SignedWithin}
 use Rattle.wl_entry.specs.Same.{same_ask}
 use Rattle.wl_entry.specs.declared.asks.Ask.{Ask}
 use Rattle.wl_entry.specs.declared.signing.Svid.{Svid}
-use Rattle.sorted_lists.proofs.Chosen.{all_append, all_filter, keys_append, rises_filter}
-use Rattle.sorted_lists.proofs.Found.{level_self}
+use Rattle.list_laws.proofs.Elements.{all_append, all_filter}
+use Rattle.list_laws.proofs.Rising.{keys_append, rises_filter}
+use Rattle.list_laws.proofs.Order.{level_self}
 use Rattle.wl_entry.specs.declared.signing.Signed.{Signed}
 use Rattle.wl_entry.specs.declared.unfit.Unfit.{Unfit}
 use Rattle.wl_entry.specs.declared.unfit.Unfit.TheVariants as unfit
 use Rattle.wl_entry.specs.Fitness.{signed_unfit}
 use Rattle.svid_cache.specs.declared.install.Installed.{Installed}
 use Rattle.svid_cache.specs.declared.install.Installed.TheVariants as installed
-use Rattle.svid_cache.specs.Caches.{install, unless_unfit, unless_older, kept_for, Cached, IsCached, is_listed, lasts, is_below, is_above, put}
+use Rattle.svid_cache.specs.Caches.{install, unless_unfit, unless_older, kept_for, Cached, IsCached, is_listed, lasts, is_below, is_above, with_svid}
 
 abbrev order : List ℕ → List ℕ → Ordering
 order a b = slice_cmp nat_cmp a b
@@ -101,8 +102,8 @@ rises_join (x ∷ xs) s ys front back under over = (
   rises_join xs s ys front.1 back under.1 over,
 )
 
-pub put_cached : (s : Svid) (asks : List Ask) (svids : List Svid) → IsCached (record { asks = asks; svids = svids }) → is_listed asks s.ask ≡ true → SignedWithin s.signed → IsCached (record { asks = asks; svids = put s svids })
-unfolding put
+pub put_cached : (s : Svid) (asks : List Ask) (svids : List Svid) → IsCached (record { asks = asks; svids = svids }) → is_listed asks s.ask ≡ true → SignedWithin s.signed → IsCached (record { asks = asks; svids = with_svid s svids })
+unfolding with_svid
 put_cached s asks svids is listed within =
     let id = s.ask.entry_id in
     let L : Svid → Type 0 = λ k. is_listed asks k.ask ≡ true in

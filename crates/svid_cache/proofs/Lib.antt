@@ -1,4 +1,6 @@
+pub mod Blocks
 pub mod Filing
 pub mod Finding
+pub mod Gaps
 pub mod Keeping
 pub mod Ending

@@ -35,7 +35,7 @@ kept_for svids a = find (λ s. same_ask s.ask a) svids
 
 -- ---- what is due
 
--- no SVID is kept for the ask, or half of the time of the kept one is over
+-- no SVID is kept for the ask, or half of the time of the kept one has passed
 unfoldable pub is_due : ℕ → List Svid → Ask → Bool
 is_due now svids a = unwrap_or (option_map (λ s. is_half_over now s.signed) (kept_for svids a)) true
 
@@ -46,20 +46,20 @@ due_asks now c = filter (is_due now c.svids) c.asks
 -- ---- what changes
 
 -- other asks: the SVIDs stay whose ask is among them
-abbrev pub synced : List Ask → Cached → Cached
-synced asks c = record { asks = asks; svids = filter (λ s. is_listed asks s.ask) c.svids }
+abbrev pub with_asks : List Ask → Cached → Cached
+with_asks asks c = record { asks = asks; svids = filter (λ s. is_listed asks s.ask) c.svids }
 
 -- the SVID is not over
 abbrev pub lasts : ℕ → Svid → Bool
 lasts now s = nat_lt now s.signed.not_after
 
--- one of the SVIDs is over
+-- one of the SVIDs has expired
 unfoldable pub has_ended : ℕ → Cached → Bool
 has_ended now c = list_any (λ s. not (lasts now s)) c.svids
 
 -- the SVIDs stay that are not over
-abbrev pub swept : ℕ → Cached → Cached
-swept now c = record { asks = c.asks; svids = filter (lasts now) c.svids }
+abbrev pub without_ended : ℕ → Cached → Cached
+without_ended now c = record { asks = c.asks; svids = filter (lasts now) c.svids }
 
 -- the SVID is that of an entry below this one, or above it
 abbrev pub is_below : List ℕ → Svid → Bool
@@ -69,8 +69,8 @@ abbrev pub is_above : List ℕ → Svid → Bool
 is_above id s = is_gt (slice_cmp nat_cmp s.ask.entry_id id)
 
 -- the SVID takes the place of its entry's one
-unfoldable pub put : Svid → List Svid → List Svid
-put s svids = filter (is_below s.ask.entry_id) svids ++ s ∷ filter (is_above s.ask.entry_id) svids
+unfoldable pub with_svid : Svid → List Svid → List Svid
+with_svid s svids = filter (is_below s.ask.entry_id) svids ++ s ∷ filter (is_above s.ask.entry_id) svids
 
 -- ---- Install: the first reason against a new SVID, or else it is kept
 
@@ -90,9 +90,9 @@ install now s c =
     else installed.NoSuchAsk
 
 -- what the answer makes of the cache
-abbrev pub after : Installed → Svid → Cached → Cached
-after installed.Kept s c = record { asks = c.asks; svids = put s c.svids }
-after _ s c = c
+abbrev pub after_install : Installed → Svid → Cached → Cached
+after_install installed.Kept s c = record { asks = c.asks; svids = with_svid s c.svids }
+after_install _ s c = c
 
 -- ---- the facts that every cache has
 

@@ -1,18 +1,19 @@
 -- What a cache is made of.
-use Rattle.std.specs.Prelude.{◌≡◌, ℕ, List, [], Option, Some, None}
+use Rattle.std.specs.Prelude.{◌≡◌, ℕ, List, [], map, Option, Some, None}
 use Rattle.wl_entry.specs.declared.asks.Ask.{Ask}
 use Rattle.svid_cache.specs.Caches.{Cached, IsCached}
-use Rattle.svid_cache.specs.Queue.{Filed, NotBefore, NoneBelow, first_end}
+use Rattle.svid_cache.specs.Queue.{Filed, NotBefore, NoneBelow, svid_end, first_end}
 
 -- the asks, none before the first are told
-abbrev pub told : Option (List Ask) → List Ask
-told None = []
-told (Some asks) = asks
+abbrev pub asks_in : Option (List Ask) → List Ask
+asks_in None = []
+asks_in (Some asks) = asks
 
--- The facts of a cache; none of its asks is due before the second of its block of 64, nor before `next`; and `end` is
--- the first second at which one of its SVIDs is over.
-pub record IsKept (c : Cached) (firsts : List ℕ) (next : ℕ) (end : Option ℕ) : Type 0 where
+-- The facts of a cache; none of its asks is due before the second of its block of 64, nor before `next`; `seconds` has
+-- the one at which each of its SVIDs ends, and `end` is the first of these.
+pub record IsKept (c : Cached) (firsts : List ℕ) (next : ℕ) (seconds : List ℕ) (end : Option ℕ) : Type 0 where
   pub cached : IsCached c
   pub filed : Filed (NotBefore c.svids) 64 firsts c.asks
   pub none_below : NoneBelow next firsts
+  pub each_end : seconds ≡ map svid_end c.svids
   pub ends : end ≡ first_end c.svids

@@ -7,7 +7,7 @@ use Rattle.wl_entry.specs.declared.signing.Signed.{Signed}
 use Rattle.wl_entry.specs.declared.signing.Svid.{Svid}
 use Rattle.svid_cache.specs.Caches.{kept_for}
 
--- The second at which half of its time is over: not_before and half of the lifetime, rounded up. What ends before it
+-- The second at which half of its time has passed: not_before and half of the lifetime, rounded up. What ends before it
 -- begins counts from its end on.
 abbrev pub half_second : Signed → ℕ
 half_second g = min g.not_after ((g.not_before + g.not_after + 1) / 2)
@@ -30,13 +30,17 @@ Filed Fits size [] asks = asks ≡ []
 Filed Fits size (first ∷ firsts) asks = AllByRecursion (Fits first) (take size asks) × Filed Fits size firsts (drop size asks)
 
 -- a second that has come counts as the first of all
-abbrev pub cleared : ℕ → ℕ → ℕ
-cleared now first = if nat_le first now then 0 else first
+abbrev pub clear_second : ℕ → ℕ → ℕ
+clear_second now first = if nat_le first now then 0 else first
 
 -- none of the seconds is below this one
 abbrev pub NoneBelow : ℕ → List ℕ → Type 0
 NoneBelow least firsts = AllByRecursion (λ f. least ≤ f) firsts
 
--- the first second at which one of the SVIDs is over
+-- the second at which an SVID ends
+abbrev pub svid_end : Svid → ℕ
+svid_end s = s.signed.not_after
+
+-- the first second at which one of the SVIDs has expired
 abbrev pub first_end : List Svid → Option ℕ
-first_end svids = reduce min (map (λ s. s.signed.not_after) svids)
+first_end svids = reduce min (map svid_end svids)

@@ -8,7 +8,7 @@ ghost use Rattle.svid_cache.specs.Caches.{is_listed};
 use wl_entry::Ask;
 use sorted_lists::find_by_key;
 
-/// Whether the ask is among these, by halving.
+/// Whether the ask is among these, by binary search.
 #[tactic(auto, using(crate::proofs::Finding::listed_found))]
 pub(crate) fn lists(asks: &[Ask], ask: &Ask) -> bool
     requires { Rises (map ask_key asks.now) }

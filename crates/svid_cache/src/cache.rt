@@ -1,19 +1,20 @@
 //! The cache.
 
-ghost use Rattle.std.specs.Prelude.{◌≡◌, ◌+◌, ◌<◌, ◌^◌, true, false, [], length, map, min, IfOk, OnOk, OnErr};
+ghost use Rattle.std.specs.Prelude.{◌≡◌, ◌+◌, ◌<◌, ◌^◌, true, false, [], length, map, min, unwrap_or, IfOk, OnOk, OnErr};
 ghost use Rattle.list_laws.specs.Lists.{Rises};
 ghost use Rattle.wl_entry.specs.Limits.{SignedWithin};
 ghost use Rattle.wl_entry.specs.Keys.{ask_key};
-ghost use Rattle.svid_cache.specs.Caches.{is_listed, due_asks, synced, has_ended, swept, install, after, IsCached};
+ghost use Rattle.svid_cache.specs.Inside.{asks_in};
+ghost use Rattle.svid_cache.specs.Caches.{is_listed, due_asks, with_asks, has_ended, without_ended, install, after_install, IsCached};
 
 use crate::asks::lists;
 use crate::install::Installed;
-use crate::kept::{find_kept, judge_end, share_all, share_listed, share_with};
+use crate::kept::{ends_of, ends_with, find_gap, find_kept, judge_end, share_listed, share_with};
 use crate::queue::{clear_until, due_of, file_all, first_end, least, refile};
 use std::alloc::Global;
 use std::marker::Model;
 use wl_entry::{Ask, Svid};
-use wl_octets::{Memory, Row, Shared};
+use wl_octets::{Memory, Row, Shared, share_all};
 
 /// How many asks stand in a block of the queue.
 const BLOCK: usize = 64;
@@ -29,19 +30,21 @@ pub struct Cache {
     firsts: Vec<u64>,
     /// None of the asks is due before this second.
     next: u64,
-    /// The first second at which one of the SVIDs is over.
+    /// The second at which each of the SVIDs ends, so that finding the first of them touches no SVID.
+    ends: Vec<u64>,
+    /// The first of them.
     end: Option<u64>,
 }
 
 impl Model for Cache {
     ghost use Rattle.svid_cache.specs.Caches.{Cached};
-    ghost use Rattle.svid_cache.specs.Inside.{told, IsKept};
+    ghost use Rattle.svid_cache.specs.Inside.{asks_in, IsKept};
 
     ghost Value = { Cached };
 
-    ghost view = { λ c. record { asks = told c.asks; svids = c.svids.items } };
+    ghost view = { λ c. record { asks = asks_in c.asks; svids = c.svids.items } };
 
-    ghost invariant = { λ c. IsKept (record { asks = told c.asks; svids = c.svids.items }) c.firsts.items c.next c.end };
+    ghost invariant = { λ c. IsKept (record { asks = asks_in c.asks; svids = c.svids.items }) c.firsts.items c.next c.ends.items c.end };
 }
 
 impl Cache {
@@ -54,25 +57,33 @@ impl Cache {
             svids: Vec::new(alloc),
             firsts: Vec::new(alloc),
             next: u64::MAX,
+            ends: Vec::new(alloc),
             end: None,
         }
     }
 
-    /// The same cache once more, which shares the asks and SVIDs.
+    /// A copy of the cache, which shares the asks and SVIDs.
     pub fn copy(&self, alloc: Global) -> Result<Cache, Memory>
         ensures { IfOk result (λ c. c ≡ self.now) }
     {
-        let asks = match &self.asks {
-            Some(asks) => Some(asks.share()?),
-            None => None,
-        };
         Ok(Cache {
-            asks,
-            svids: share_all(alloc, self.svids.as_slice())?,
+            asks: self.share_asks()?,
+            svids: share_all(alloc, self.svids.as_slice())?.into_vec(),
             firsts: Vec::from_slice(alloc, self.firsts.as_slice())?,
             next: self.next,
+            ends: Vec::from_slice(alloc, self.ends.as_slice())?,
             end: self.end,
         })
+    }
+
+    /// The asks, shared.
+    fn share_asks(&self) -> Result<Option<Shared<Row<Ask>>>, Memory>
+        ensures { IfOk result (λ asks. asks_in asks ≡ self.now.asks) }
+    {
+        match &self.asks {
+            Some(asks) => Ok(Some(asks.share()?)),
+            None => Ok(None),
+        }
     }
 
     /// The asks by ascending entry id.
@@ -101,27 +112,40 @@ impl Cache {
         lists(self.asks(), ask)
     }
 
+    /// The cache with other asks. The SVIDs stay whose ask is among them.
+    pub fn prepare_sync(&self, alloc: Global, asks: Row<Ask>) -> Result<Cache, Memory>
+        requires rises { Rises (map ask_key asks) }
+        requires few { length asks < 2 ^ 32 }
+        ensures { IfOk result (λ c. c ≡ with_asks asks self.now) }
+    {
+        let svids = share_listed(alloc, self.svids.as_slice(), asks.as_slice())?;
+        let firsts = file_all(alloc, BLOCK, asks.as_slice(), svids.as_slice())?;
+        let ends = ends_of(alloc, svids.as_slice())?;
+        Ok(Cache {
+            asks: Some(Shared::new(alloc, asks)?),
+            next: least(firsts.as_slice()),
+            end: first_end(ends.as_slice()),
+            svids,
+            firsts,
+            ends,
+        })
+    }
+
     /// Takes other asks. The SVIDs stay whose ask is among them.
     pub fn sync(&mut self, alloc: Global, asks: Row<Ask>) -> Result<(), Memory>
         requires rises { Rises (map ask_key asks) }
         requires few { length asks < 2 ^ 32 }
-        ensures ok { OnOk result (self.new ≡ synced asks self.old) }
+        ensures ok { OnOk result (self.new ≡ with_asks asks self.old) }
         ensures err { OnErr result (self.new ≡ self.old) }
     {
-        let svids = share_listed(alloc, self.svids.as_slice(), asks.as_slice())?;
-        let firsts = file_all(alloc, BLOCK, asks.as_slice(), svids.as_slice())?;
-        self.asks = Some(Shared::new(alloc, asks)?);
-        self.next = least(firsts.as_slice());
-        self.end = first_end(svids.as_slice());
-        self.svids = svids;
-        self.firsts = firsts;
+        *self = self.prepare_sync(alloc, asks)?;
         Ok(())
     }
 
-    /// Whether one of the SVIDs is over, so that a sweep lets go of it. It takes no memory.
+    /// Whether one of the SVIDs has expired, so that a sweep lets go of it. It takes no memory.
     pub fn has_ended(&self, now: u64) -> bool
         ensures ended { result ≡ has_ended now self.now }
-        ensures kept { result ≡ false → swept now self.now ≡ self.now }
+        ensures kept { result ≡ false → without_ended now self.now ≡ self.now }
     {
         match self.end {
             Some(end) => end <= now,
@@ -129,9 +153,9 @@ impl Cache {
         }
     }
 
-    /// Lets go of the SVIDs that are over, and answers how many these were. It takes no memory.
+    /// Lets go of the SVIDs that have expired, and answers how many these were. It takes no memory.
     pub fn sweep(&mut self, now: u64) -> u32
-        ensures swept { self.new ≡ swept now self.old }
+        ensures swept { self.new ≡ without_ended now self.old }
         ensures count { result + length self.new.svids ≡ length self.old.svids }
     {
         if !self.has_ended(now) {
@@ -141,7 +165,8 @@ impl Cache {
         self.svids.retain(|svid| now < svid.part().signed.not_after);
         clear_until(self.firsts.as_mut_slice(), now);
         self.next = least(self.firsts.as_slice());
-        self.end = first_end(self.svids.as_slice());
+        self.ends.retain(|end| now < *end);
+        self.end = first_end(self.ends.as_slice());
         (before - self.svids.len()) as u32
     }
 
@@ -162,30 +187,49 @@ impl Cache {
         )
     }
 
-    /// Takes a new SVID in, where nothing stands against it.
-    pub fn install(&mut self, alloc: Global, svid: Svid, now: u64) -> Result<Installed, Memory>
-        ensures answer { IfOk result (λ i. i ≡ install now svid self.old) }
-        ensures kept { IfOk result (λ i. self.new ≡ after i svid self.old) }
-        ensures err { OnErr result (self.new ≡ self.old) }
+    /// What becomes of a new SVID, and the cache with it where it is kept.
+    pub fn prepare_install(
+        &self,
+        alloc: Global,
+        svid: Svid,
+        now: u64,
+    ) -> Result<(Option<Cache>, Installed), Memory>
+        ensures answer { IfOk result (λ r. r.1 ≡ install now svid self.now) }
+        ensures next { IfOk result (λ r. unwrap_or r.0 self.now ≡ after_install r.1 svid self.now) }
     {
         match self.judge(&svid, now) {
             Installed::Kept => {
-                self.keep(alloc, svid)?;
-                Ok(Installed::Kept)
+                let next = self.with_svid(alloc, svid)?;
+                Ok((Some(next), Installed::Kept))
             }
-            other => Ok(other),
+            other => Ok((None, other)),
         }
     }
 
-    /// Puts an SVID in the place of its entry's.
-    fn keep(&mut self, alloc: Global, svid: Svid) -> Result<(), Memory>
-        requires listed { is_listed self.old.asks svid.ask ≡ true }
-        requires within { SignedWithin svid.signed }
-        ensures ok { OnOk result (self.new ≡ after Installed.Kept svid self.old) }
+    /// Takes a new SVID in, where nothing stands against it.
+    pub fn install(&mut self, alloc: Global, svid: Svid, now: u64) -> Result<Installed, Memory>
+        ensures answer { IfOk result (λ i. i ≡ install now svid self.old) }
+        ensures kept { IfOk result (λ i. self.new ≡ after_install i svid self.old) }
         ensures err { OnErr result (self.new ≡ self.old) }
     {
+        let (next, installed) = self.prepare_install(alloc, svid, now)?;
+        if let Some(next) = next {
+            *self = next;
+        }
+        Ok(installed)
+    }
+
+    /// The cache with an SVID in the place of its entry's.
+    fn with_svid(&self, alloc: Global, svid: Svid) -> Result<Cache, Memory>
+        requires listed { is_listed self.now.asks svid.ask ≡ true }
+        requires within { SignedWithin svid.signed }
+        ensures { IfOk result (λ c. c ≡ after_install Installed.Kept svid self.now) }
+    {
         let id = svid.ask.entry_id.copy(alloc)?;
-        let svids = share_with(alloc, self.svids.as_slice(), svid)?;
+        let asks = self.share_asks()?;
+        let gap = find_gap(self.svids.as_slice(), &id);
+        let ends = ends_with(alloc, self.ends.as_slice(), gap, svid.signed.not_after)?;
+        let svids = share_with(alloc, self.svids.as_slice(), gap, svid)?;
         let firsts = refile(
             alloc,
             BLOCK,
@@ -194,11 +238,14 @@ impl Cache {
             svids.as_slice(),
             &id,
         )?;
-        self.next = least(firsts.as_slice());
-        self.end = first_end(svids.as_slice());
-        self.firsts = firsts;
-        self.svids = svids;
-        Ok(())
+        Ok(Cache {
+            asks,
+            next: least(firsts.as_slice()),
+            end: first_end(ends.as_slice()),
+            svids,
+            firsts,
+            ends,
+        })
     }
 
     /// What is to become of a new SVID.

@@ -1,10 +1,11 @@
 //! Lists of kept SVIDs.
 
-ghost use Rattle.std.specs.Prelude.{◌≡◌, Some, map, filter, IfOk, option_map, option_copied};
+ghost use Rattle.std.specs.Prelude.{◌≡◌, ◌≤◌, ◌++◌, ◌∷◌, Some, map, filter, take, drop, length, IfOk, OnOk, option_map, option_copied};
 ghost use Rattle.list_laws.specs.Lists.{Rises};
 ghost use Rattle.wl_entry.specs.Keys.{ask_key, svid_key};
 ghost use Rattle.wl_entry.specs.Same.{same_ask};
-ghost use Rattle.svid_cache.specs.Caches.{only, is_listed, kept_for, is_due, is_below, is_above, put, unless_older};
+ghost use Rattle.svid_cache.specs.Caches.{only, is_listed, kept_for, is_due, is_below, is_above, unless_older};
+ghost use Rattle.svid_cache.specs.Queue.{svid_end};
 
 use crate::asks::lists;
 use crate::install::Installed;
@@ -48,17 +49,6 @@ pub(crate) fn due_at(svids: &[Shared<Svid>], ask: &Ask, now: u64) -> bool
     }
 }
 
-/// The same SVIDs once more, shared.
-pub(crate) fn share_all(alloc: Global, svids: &[Shared<Svid>]) -> Result<Vec<Shared<Svid>>, Memory>
-    ensures { IfOk result (λ v. v.items ≡ svids.now) }
-{
-    let mut shared = Vec::with_capacity(alloc, svids.len())?;
-    for svid in svids {
-        shared.push(svid.share()?)?;
-    }
-    Ok(shared)
-}
-
 /// The SVIDs whose ask is among these.
 pub(crate) fn share_listed(
     alloc: Global,
@@ -77,68 +67,100 @@ pub(crate) fn share_listed(
     Ok(shared)
 }
 
-/// Whether the SVID's entry is below this one.
-fn stands_below(svid: &Svid, id: &Octets) -> bool
-    ensures { result ≡ is_below id.now svid.now }
-{
-    svid.ask.entry_id.cmp(id).is_lt()
+/// Where an SVID stands among others by ascending entry id: how many are of entries below its own, and where those of
+/// entries above it begin.
+#[derive(Clone, Copy)]
+pub(crate) struct Gap {
+    pub below: usize,
+    pub above: usize,
 }
 
-/// Whether the SVID's entry is above this one.
-fn stands_above(svid: &Svid, id: &Octets) -> bool
-    ensures { result ≡ is_above id.now svid.now }
+/// How many of the SVIDs are of entries below this one, by binary search.
+fn count_below(svids: &[Shared<Svid>], id: &Octets) -> usize
+    requires { Rises (map svid_key svids.now) }
+    ensures bound { result ≤ length svids.now }
+    ensures below { take result svids.now ≡ filter (is_below id.now) svids.now }
 {
-    svid.ask.entry_id.cmp(id).is_gt()
+    svids.partition_point(|svid| svid.part().ask.entry_id.cmp(id).is_lt())
 }
 
-/// The SVIDs of entries below this one, shared.
-fn share_below(
-    alloc: Global,
-    svids: &[Shared<Svid>],
-    id: &Octets,
-) -> Result<Vec<Shared<Svid>>, Memory>
-    ensures { IfOk result (λ v. v.items ≡ filter (is_below id.now) svids.now) }
+/// How many of the SVIDs are of entries not above this one, by binary search.
+fn count_up_to(svids: &[Shared<Svid>], id: &Octets) -> usize
+    requires { Rises (map svid_key svids.now) }
+    ensures bound { result ≤ length svids.now }
+    ensures above { drop result svids.now ≡ filter (is_above id.now) svids.now }
 {
-    let mut shared = Vec::new(alloc);
-    for svid in svids {
-        if stands_below(svid.part(), id) {
-            shared.push(svid.share()?)?;
-        }
+    svids.partition_point(|svid| !svid.part().ask.entry_id.cmp(id).is_gt())
+}
+
+/// Where an SVID of this entry stands.
+pub(crate) fn find_gap(svids: &[Shared<Svid>], id: &Octets) -> Gap
+    requires { Rises (map svid_key svids.now) }
+    ensures below_bound { result.below ≤ length svids.now }
+    ensures above_bound { result.above ≤ length svids.now }
+    ensures below { take result.below svids.now ≡ filter (is_below id.now) svids.now }
+    ensures above { drop result.above svids.now ≡ filter (is_above id.now) svids.now }
+{
+    Gap {
+        below: count_below(svids, id),
+        above: count_up_to(svids, id),
     }
-    Ok(shared)
 }
 
-/// The SVIDs of entries above this one, shared.
-fn share_above(
-    alloc: Global,
-    svids: &[Shared<Svid>],
-    id: &Octets,
-) -> Result<Vec<Shared<Svid>>, Memory>
-    ensures { IfOk result (λ v. v.items ≡ filter (is_above id.now) svids.now) }
+/// Puts the SVIDs at the end, shared.
+fn push_shares(shares: &mut Vec<Shared<Svid>>, svids: &[Shared<Svid>]) -> Result<(), Memory>
+    ensures { OnOk result (shares.new.items ≡ shares.old.items ++ svids.now) }
 {
-    let mut shared = Vec::new(alloc);
     for svid in svids {
-        if stands_above(svid.part(), id) {
-            shared.push(svid.share()?)?;
-        }
+        shares.push(svid.share()?)?;
     }
-    Ok(shared)
+    Ok(())
 }
 
-/// The SVIDs with this one in the place of its entry's.
-#[tactic(auto, using(std::proofs::lemmas::List::append_assoc), unfolding(crate::specs::Caches::put))]
+/// The SVIDs with this one in the gap.
 pub(crate) fn share_with(
     alloc: Global,
     svids: &[Shared<Svid>],
+    gap: Gap,
     svid: Svid,
 ) -> Result<Vec<Shared<Svid>>, Memory>
-    ensures { IfOk result (λ v. v.items ≡ put svid svids.now) }
+    requires below { gap.below ≤ length svids.now }
+    requires above { gap.above ≤ length svids.now }
+    ensures { IfOk result (λ v. v.items ≡ take gap.below svids.now ++ svid ∷ drop gap.above svids.now) }
 {
-    let mut above = share_above(alloc, svids, &svid.ask.entry_id)?;
-    let mut shared = share_below(alloc, svids, &svid.ask.entry_id)?;
-    shared.push(Shared::new(alloc, svid)?)?;
-    shared.append(&mut above)?;
-    Ok(shared)
+    let (front, _) = svids.split_at(gap.below);
+    let (_, back) = svids.split_at(gap.above);
+    let mut shares = Vec::with_capacity(alloc, svids.len().saturating_add(1))?;
+    push_shares(&mut shares, front)?;
+    shares.push(Shared::new(alloc, svid)?)?;
+    push_shares(&mut shares, back)?;
+    Ok(shares)
+}
+
+/// The seconds with this one in the gap.
+pub(crate) fn ends_with(alloc: Global, ends: &[u64], gap: Gap, end: u64) -> Result<Vec<u64>, Memory>
+    requires below { gap.below ≤ length ends.now }
+    requires above { gap.above ≤ length ends.now }
+    ensures { IfOk result (λ v. v.items ≡ take gap.below ends.now ++ end ∷ drop gap.above ends.now) }
+{
+    let (front, _) = ends.split_at(gap.below);
+    let (_, back) = ends.split_at(gap.above);
+    let mut all = Vec::with_capacity(alloc, ends.len().saturating_add(1))?;
+    all.extend_from_slice(front)?;
+    all.push(end)?;
+    all.extend_from_slice(back)?;
+    Ok(all)
+}
+
+/// The seconds at which the SVIDs end, in their order.
+pub(crate) fn ends_of(alloc: Global, svids: &[Shared<Svid>]) -> Result<Vec<u64>, Memory>
+    ensures { IfOk result (λ v. v.items ≡ map svid_end svids.now) }
+{
+    let mut ends = Vec::with_capacity(alloc, svids.len())?;
+    for svid in svids {
+        ends.push(svid.part().signed.not_after)?;
+    }
+    Ok(ends)
 }
 
 /// Whether the kept one ends later, or at the same second.

@@ -1,7 +1,7 @@
 //! The SVIDs that are kept for the asks of the entries.
 //!
 //! A [`Cache`] knows which asks there are, and keeps at most one SVID for each. It tells which asks are due, lets
-//! go of what is over, and takes a new SVID in where it is fit, asked for and ends later than the kept one.
+//! go of what has expired, and takes a new SVID in where it is fit, asked for and ends later than the kept one.
 #![tactic(auto)]
 
 mod asks;

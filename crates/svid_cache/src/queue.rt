@@ -1,21 +1,21 @@
 //! When asks come due. For each block of asks there is a second before which none of them is due, so that a block is
 //! passed over by one comparison until one of its asks may be due.
 
-ghost use Rattle.std.specs.Prelude.{◌≡◌, ◌≤◌, ◌<◌, ◌++◌, ℕ, nat_le, take, drop, map, filter, length, IfOk, OnOk};
-ghost use Rattle.std.specs.List.{AllByRecursion};
+ghost use Rattle.std.specs.Prelude.{◌≡◌, ◌≤◌, ◌<◌, ◌++◌, ℕ, min, nat_le, take, drop, map, filter, length, IfOk, OnOk};
+ghost use Rattle.std.specs.List.{AllByRecursion, reduce};
 ghost use Rattle.list_laws.specs.Lists.{Rises};
 ghost use Rattle.wl_entry.specs.Fitness.{is_half_over};
 ghost use Rattle.wl_entry.specs.Keys.{ask_key, svid_key};
 ghost use Rattle.svid_cache.specs.Caches.{is_due};
-ghost use Rattle.svid_cache.specs.Queue.{half_second, first_second, NotBefore, OthersNotBefore, Filed, NoneBelow, first_end, cleared};
+ghost use Rattle.svid_cache.specs.Queue.{half_second, first_second, NotBefore, OthersNotBefore, Filed, NoneBelow, clear_second};
 
 use crate::kept::{due_at, find_kept};
 use std::alloc::Global;
 use wl_entry::{Ask, Signed, Svid};
-use sorted_lists::find_by_key;
+use sorted_lists::place_by_key;
 use wl_octets::{Memory, Octets, Row, Shared};
 
-/// The first second at which half of its time is over.
+/// The first second at which half of its time has passed.
 fn half_time(signed: &Signed) -> u64
     ensures second { result ≡ half_second signed.now }
     ensures exact { signed.now.not_before ≤ signed.now.not_after → (now : ℕ) → is_half_over now signed.now ≡ nat_le result now }
@@ -82,20 +82,6 @@ pub(crate) fn file_all(
     Ok(firsts)
 }
 
-/// The block's second, or a new one where an ask of the block is that of this entry.
-#[tactic(auto, using(crate::proofs::Filing::others_all))]
-fn block_anew(first: u64, block: &[Ask], svids: &[Shared<Svid>], id: &Octets) -> u64
-    requires asks { Rises (map ask_key block.now) }
-    requires svids { Rises (map svid_key svids.now) }
-    requires others { AllByRecursion (OthersNotBefore id.now svids.now first) block.now }
-    ensures { AllByRecursion (NotBefore svids.now result) block.now }
-{
-    match find_by_key(block, id.as_slice()) {
-        Some(_) => block_time(block, svids),
-        None => first,
-    }
-}
-
 /// The blocks' seconds, with a new one for the block in which the ask of this entry stands.
 pub(crate) fn refile(
     alloc: Global,
@@ -105,31 +91,33 @@ pub(crate) fn refile(
     svids: &[Shared<Svid>],
     id: &Octets,
 ) -> Result<Vec<u64>, Memory>
+    requires size { 0 < size }
     requires asks { Rises (map ask_key asks.now) }
     requires svids { Rises (map svid_key svids.now) }
     requires others { Filed (OthersNotBefore id.now svids.now) size firsts.now asks.now }
     ensures { IfOk result (λ v. Filed (NotBefore svids.now) size v.items asks.now) }
 {
-    let mut anew = Vec::with_capacity(alloc, firsts.len())?;
-    let mut rest = asks;
-    for first in firsts {
-        let (block, others) = split_block(rest, size);
-        anew.push(block_anew(*first, block, svids, id))?;
-        rest = others;
-    }
+    let mut anew = Vec::from_slice(alloc, firsts)?;
+    let Some(place) = place_by_key(asks, id.as_slice()) else {
+        return Ok(anew);
+    };
+    let block = place / size;
+    let (_, rest) = asks.split_at(block * size);
+    let (block_asks, _) = split_block(rest, size);
+    anew[block] = block_time(block_asks, svids);
     Ok(anew)
 }
 
 /// The second, or 0 where it has come.
 fn clear(first: u64, now: u64) -> u64
-    ensures { result ≡ cleared now first }
+    ensures { result ≡ clear_second now first }
 {
     if first <= now { 0 } else { first }
 }
 
 /// Lets each block count as due whose second has come. It takes no memory.
 pub(crate) fn clear_until(firsts: &mut [u64], now: u64)
-    ensures { firsts.new ≡ map (cleared now) firsts.old }
+    ensures { firsts.new ≡ map (clear_second now) firsts.old }
 {
     for first in firsts.iter_mut() {
         *first = clear(*first, now);
@@ -147,11 +135,11 @@ pub(crate) fn least(firsts: &[u64]) -> u64
     least
 }
 
-/// The first second at which one of the SVIDs is over.
-pub(crate) fn first_end(svids: &[Shared<Svid>]) -> Option<u64>
-    ensures { result ≡ first_end svids.now }
+/// The first of the seconds.
+pub(crate) fn first_end(ends: &[u64]) -> Option<u64>
+    ensures { result ≡ reduce min ends.now }
 {
-    svids.iter().map(|svid| svid.part().signed.not_after).min()
+    ends.iter().copied().min()
 }
 
 /// Adds those of the asks that are due.

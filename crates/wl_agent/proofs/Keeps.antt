@@ -1,19 +1,19 @@
 -- Publication 0 of a document has the facts that every publication has.
 use Rattle.std.specs.Prelude.{◌≡◌, ℕ, ◌≤◌, ◌+◌, Bool, true, false, if◌then◌else◌, List, [], ◌∷◌, ◌++◌, map, length, nat_lt, nat_le, ◌==◌, Option, Some, None, IfSome, IsSomeAnd, is_none}
-use Rattle.std.specs.List.{AllByRecursion, flat_map}
+use Rattle.std.specs.List.{AllByRecursion}
 use Rattle.std.specs.List.Sorted.{IsStrictlySortedBy}
 use Rattle.std.specs.Ordering.{nat_cmp}
 use Rattle.std.specs.Cmp.Lexicographic.{slice_cmp}
 use Rattle.std.specs.Cmp.{nat_eq_equiv}
 use Rattle.std.specs.Cmp.Lexicographic.{nat_list_eq_equiv, lists_equiv}
-use Rattle.std.proofs.Common.{Less, arith, refl, sym, ◌∙◌, ap, subst}
+use Rattle.std.proofs.Common.{Less, arith, refl, sym, subst}
 use Rattle.list_laws.specs.Lists.{Rises}
 use Rattle.sorted_lists.specs.Keys.{item_at}
 use Rattle.sorted_lists.proofs.Chosen.{all_append, keys_append}
 use Rattle.sorted_lists.proofs.Found.{found_has, found_all}
 use Rattle.wl_entry.specs.Asks.{ask_of, is_ask_of}
 use Rattle.wl_entry.specs.Fitness.{signed_unfit}
-use Rattle.wl_entry.specs.Keys.{entry_key, svid_key, bundle_key}
+use Rattle.wl_entry.specs.Keys.{entry_key, svid_key}
 use Rattle.wl_entry.specs.Limits.{SignedWithin}
 use Rattle.wl_entry.specs.declared.entries.Entry.{Entry}
 use Rattle.wl_entry.specs.declared.signing.Svid.{Svid}
@@ -23,7 +23,7 @@ use Rattle.wl_entry.specs.declared.unfit.Unfit.TheVariants as unfit
 use Rattle.wl_document.specs.declared.state.DocSvid.{DocSvid}
 use Rattle.wl_document.specs.States.{State, Within}
 use Rattle.wl_document.specs.Svids.{doc_svid_key}
-use Rattle.wl_snapshot.specs.Snapshots.{Publication, IsPublication, IsAsked, SvidWithin}
+use Rattle.wl_snapshot.specs.Snapshots.{IsPublication, IsAsked, SvidWithin}
 use Rattle.wl_agent.specs.Kept.{is_fit, kept_for, kept_of, kept_in, publication_of}
 
 last_test : {A : Type 0} (a b c d e : Bool) (v w x y z : A) → is_none (if a then Some v else if b then Some w else if c then Some x else if d then Some y else if e then Some z else None) ≡ true → e ≡ false

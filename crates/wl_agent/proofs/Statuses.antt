@@ -1,7 +1,7 @@
 -- From how a run ends to the rows of its statuses.
-use Rattle.std.specs.Prelude.{◌≡◌, ◌⊎◌, ℕ, List, [], take, Option, Some, None, IsSome, IfSome, Result, Ok, Err}
-use Rattle.std.proofs.Common.{refl, sym, ◌∙◌, ap, subst, arith, inl, inr}
-use Rattle.wl_edge.specs.Edge.{Rose, Drained, Gained, GainedFront}
+use Rattle.std.specs.Prelude.{◌≡◌, ◌⊎◌, ℕ, List, Option, Some, None, IsSome, Result, Ok, Err}
+use Rattle.std.proofs.Common.{refl, sym, ◌∙◌, ap, subst, inl, inr}
+use Rattle.wl_edge.specs.Edge.{Drained}
 use Rattle.wl_document.specs.declared.fault.DocFault.{DocFault}
 use Rattle.wl_document.specs.States.{State}
 use Rattle.wl_document.specs.Documents.{document_state}
@@ -9,58 +9,60 @@ use Rattle.wl_snapshot.specs.declared.answers.Answer.{Answer}
 use Rattle.wl_snapshot.specs.declared.answers.Answer.TheVariants.{Denied, Wait, TooLong, Message}
 use Rattle.wl_agent.specs.declared.command.Command.{Command}
 use Rattle.wl_agent.specs.declared.command.Command.TheVariants.{Preview, Check}
-use Rattle.wl_agent.specs.Lines.{fault_line, count_line, message_line}
-use Rattle.wl_agent.specs.Due.{Due, usage_due, fault_due, answer_due, preview_due, check_due, due_of, preview_answer}
-use Rattle.wl_agent.specs.Ends.{read_limit, IsDue, Ends, Tells, IsAnswered, IsChecked, IsFaulted, YieldsTo, ComesFor, lacks_memory, fails_read, fails_write, ends_well, previewed, checked, unfit, faulted, denied, waits, long, unread, unwritten, memory}
+use Rattle.wl_agent.specs.Outcomes.{answer_outcome, preview_outcome, check_outcome, outcome_of, preview_answer}
+use Rattle.wl_agent.specs.declared.outcome.Outcome.{Outcome}
+use Rattle.wl_agent.specs.declared.program.TheConstants.{READ_LIMIT}
+use Rattle.wl_agent.specs.declared.status.TheConstants.{READ_FAILED, WRITE_FAILED, OUT_OF_MEMORY}
+use Rattle.wl_agent.specs.Ends.{Traffic, Wrote, IsOutcome, Ends, StatusExplains, StatusGiven, lacks_memory, fails_read, fails_write, ends_well, previewed, checked, unfit, faulted, denied, waits, long, unread, unwritten, memory}
 
--- what an answer is written as tells its row
-answered : (selectors : List (List ℕ)) (left old new : Option (List ℕ)) (rb rn wb wn : ℕ) (document : List ℕ) → Drained left read_limit document → (s : State) → document_state None document ≡ Ok s → (a : Answer) → preview_answer selectors s ≡ a → Gained old new (answer_due a).text → Tells (Some (Preview selectors)) left old new rb rn wb wn (answer_due a).status
-answered selectors left old new rb rn wb wn document read s has Denied is gained = denied (record { selectors = selectors; previews = refl; document = document; read = read; state = s; has = has; answers = is }) gained
-answered selectors left old new rb rn wb wn document read s has Wait is gained = waits (record { selectors = selectors; previews = refl; document = document; read = read; state = s; has = has; answers = is }) gained
-answered selectors left old new rb rn wb wn document read s has (TooLong n) is gained = long n (record { selectors = selectors; previews = refl; document = document; read = read; state = s; has = has; answers = is }) gained
-answered selectors left old new rb rn wb wn document read s has (Message m) is gained = previewed m (record { selectors = selectors; previews = refl; document = document; read = read; state = s; has = has; answers = is }) gained
+-- the output of an answer explains its status
+answered : (selectors : List (List ℕ)) (t : Traffic) (document : List ℕ) → Drained t.content READ_LIMIT document → (s : State) → document_state None document ≡ Ok s → (a : Answer) → preview_answer selectors s ≡ a → Wrote t (answer_outcome a).output → StatusExplains (Some (Preview selectors)) t (answer_outcome a).status
+answered selectors t document read s has Denied is gained = denied (record { selectors = selectors; previews = refl; document = document; read = read; state = s; has = has; answers = is }) gained
+answered selectors t document read s has Wait is gained = waits (record { selectors = selectors; previews = refl; document = document; read = read; state = s; has = has; answers = is }) gained
+answered selectors t document read s has (TooLong n) is gained = long n (record { selectors = selectors; previews = refl; document = document; read = read; state = s; has = has; answers = is }) gained
+answered selectors t document read s has (Message m) is gained = previewed m (record { selectors = selectors; previews = refl; document = document; read = read; state = s; has = has; answers = is }) gained
 
-previewing : (selectors : List (List ℕ)) (left old new : Option (List ℕ)) (rb rn wb wn : ℕ) (document : List ℕ) → Drained left read_limit document → (r : Result State DocFault) → document_state None document ≡ r → Gained old new (preview_due selectors r).text → Tells (Some (Preview selectors)) left old new rb rn wb wn (preview_due selectors r).status
-previewing selectors left old new rb rn wb wn document read (Ok s) has gained = answered selectors left old new rb rn wb wn document read s has (preview_answer selectors s) refl gained
-previewing selectors left old new rb rn wb wn document read (Err e) has gained = faulted e (record { fits = refl; document = document; read = read; first = has }) gained
+previewing : (selectors : List (List ℕ)) (t : Traffic) (document : List ℕ) → Drained t.content READ_LIMIT document → (r : Result State DocFault) → document_state None document ≡ r → Wrote t (preview_outcome selectors r).output → StatusExplains (Some (Preview selectors)) t (preview_outcome selectors r).status
+previewing selectors t document read (Ok s) has gained = answered selectors t document read s has (preview_answer selectors s) refl gained
+previewing selectors t document read (Err e) has gained = faulted e (record { fits = refl; document = document; read = read; first = has }) gained
 
-checking : (left old new : Option (List ℕ)) (rb rn wb wn : ℕ) (document : List ℕ) → Drained left read_limit document → (r : Result State DocFault) → document_state None document ≡ r → Gained old new (check_due r).text → Tells (Some Check) left old new rb rn wb wn (check_due r).status
-checking left old new rb rn wb wn document read (Ok s) has gained = checked s (record { checks = refl; document = document; read = read; has = has }) gained
-checking left old new rb rn wb wn document read (Err e) has gained = faulted e (record { fits = refl; document = document; read = read; first = has }) gained
+checking : (t : Traffic) (document : List ℕ) → Drained t.content READ_LIMIT document → (r : Result State DocFault) → document_state None document ≡ r → Wrote t (check_outcome r).output → StatusExplains (Some Check) t (check_outcome r).status
+checking t document read (Ok s) has gained = checked s (record { checks = refl; document = document; read = read; has = has }) gained
+checking t document read (Err e) has gained = faulted e (record { fits = refl; document = document; read = read; first = has }) gained
 
-owed : (c : Command) (left old new : Option (List ℕ)) (rb rn wb wn : ℕ) (document : List ℕ) → Drained left read_limit document → Gained old new (due_of c document).text → Tells (Some c) left old new rb rn wb wn (due_of c document).status
-unfolding due_of
-owed (Preview selectors) left old new rb rn wb wn document read gained = previewing selectors left old new rb rn wb wn document read (document_state None document) refl gained
-owed Check left old new rb rn wb wn document read gained = checking left old new rb rn wb wn document read (document_state None document) refl gained
+on_document : (c : Command) (t : Traffic) (document : List ℕ) → Drained t.content READ_LIMIT document → Wrote t (outcome_of c document).output → StatusExplains (Some c) t (outcome_of c document).status
+unfolding outcome_of
+on_document (Preview selectors) t document read gained = previewing selectors t document read (document_state None document) refl gained
+on_document Check t document read gained = checking t document read (document_state None document) refl gained
 
-done_tells : (command : Option Command) (left old new : Option (List ℕ)) (rb rn wb wn : ℕ) (due : Due) → IsDue command left due → Gained old new due.text → Tells command left old new rb rn wb wn due.status
-done_tells None left old new rb rn wb wn due is gained = subst (λ n. Tells None left old new rb rn wb wn n) (sym (ap (λ d. d.status) is)) (unfit refl (subst (λ d. Gained old new d.text) is gained))
-done_tells (Some c) left old new rb rn wb wn due is gained =
-    subst (λ n. Tells (Some c) left old new rb rn wb wn n) (sym (ap (λ d. d.status) is.2)) (owed c left old new rb rn wb wn is.0 is.1 (subst (λ d. Gained old new d.text) is.2 gained))
+explains_done : (command : Option Command) (t : Traffic) (outcome : Outcome) → IsOutcome command t.content outcome → Wrote t outcome.output → StatusExplains command t outcome.status
+explains_done None t outcome is gained = subst (λ n. StatusExplains None t n) (sym (ap (λ (o : Outcome). o.status) is)) (unfit refl (subst (λ (o : Outcome). Wrote t o.output) is gained))
+explains_done (Some c) t outcome is gained =
+    subst (λ n. StatusExplains (Some c) t n) (sym (ap (λ (o : Outcome). o.status) is.2)) (on_document c t is.0 is.1 (subst (λ (o : Outcome). Wrote t o.output) is.2 gained))
 
-pub tells_of : (command : Option Command) (left old new : Option (List ℕ)) (rb rn wb wn status : ℕ) → Ends command left old new rb rn wb wn status → Tells command left old new rb rn wb wn status
-tells_of command left old new rb rn wb wn status (lacks_memory same) = memory same
-tells_of command left old new rb rn wb wn status (fails_read fits rose same) = unread fits rose same
-tells_of command left old new rb rn wb wn status (fails_write due is rose front) = unwritten due is rose front
-tells_of command left old new rb rn wb wn status (ends_well due is gained) = done_tells command left old new rb rn wb wn due is gained
+pub explained : (command : Option Command) (t : Traffic) (status : ℕ) → Ends command t status → StatusExplains command t status
+explained command t status (lacks_memory same) = memory same
+explained command t status (fails_read fits rose same) = unread fits rose same
+explained command t status (fails_write outcome is rose prefix) = unwritten outcome is rose prefix
+explained command t status (ends_well outcome is gained) = explains_done command t outcome is gained
 
-done_comes : (command : Option Command) (left : Option (List ℕ)) (due : Due) → IsDue command left due → ComesFor command left due.status
-done_comes None left due is = inl (ap (λ d. d.status) is)
-done_comes (Some c) None due is = tt
-done_comes (Some c) (Some bytes) due is = inl (ap (λ d. d.status) is.2 ∙ ap (λ document. (due_of c document).status) is.1)
+given_done : (command : Option Command) (content : Option (List ℕ)) (outcome : Outcome) → IsOutcome command content outcome → StatusGiven command content outcome.status
+given_done None content outcome is = inl (ap (λ (o : Outcome). o.status) is)
+given_done (Some c) None outcome is = tt
+given_done (Some c) (Some bytes) outcome is = inl (ap (λ (o : Outcome). o.status) is.2 ∙ ap (λ document. (outcome_of c document).status) is.1)
 
-yields_read : (command : Option Command) (left : Option (List ℕ)) → IsSome command → ComesFor command left 6
-yields_read None left fits = absurd cc
+yields_read : (command : Option Command) (content : Option (List ℕ)) → IsSome command → StatusGiven command content READ_FAILED
+yields_read None content fits = absurd cc
 yields_read (Some c) None fits = tt
 yields_read (Some c) (Some bytes) fits = inr (inl refl)
 
-yields : (command : Option Command) (left : Option (List ℕ)) (status : ℕ) → (status ≡ 7) ⊎ (status ≡ 8) → ComesFor command left status
-yields None left status why = inr why
+yields : (command : Option Command) (content : Option (List ℕ)) (status : ℕ) → (status ≡ WRITE_FAILED) ⊎ (status ≡ OUT_OF_MEMORY) → StatusGiven command content status
+yields None content status why = inr why
 yields (Some c) None status why = tt
 yields (Some c) (Some bytes) status why = inr (inr why)
 
-pub comes_of : (command : Option Command) (left old new : Option (List ℕ)) (rb rn wb wn status : ℕ) → Ends command left old new rb rn wb wn status → ComesFor command left status
-comes_of command left old new rb rn wb wn status (lacks_memory same) = yields command left 8 (inr refl)
-comes_of command left old new rb rn wb wn status (fails_read fits rose same) = yields_read command left fits
-comes_of command left old new rb rn wb wn status (fails_write due is rose front) = yields command left 7 (inl refl)
-comes_of command left old new rb rn wb wn status (ends_well due is gained) = done_comes command left due is
+pub status_given : (command : Option Command) (t : Traffic) (status : ℕ) → Ends command t status → StatusGiven command t.content status
+status_given command t status (lacks_memory same) = yields command t.content OUT_OF_MEMORY (inr refl)
+status_given command t status (fails_read fits rose same) = yields_read command t.content fits
+status_given command t status (fails_write outcome is rose prefix) = yields command t.content WRITE_FAILED (inl refl)
+status_given command t status (ends_well outcome is gained) = given_done command t.content outcome is

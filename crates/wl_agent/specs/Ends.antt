@@ -1,6 +1,6 @@
 -- How a run ends (own rules).
 use Rattle.std.specs.Prelude.{◌≡◌, ◌⊎◌, ℕ, List, [], take, Option, Some, None, IsSome, IfSome, Ok, Err}
-use Rattle.wl_edge.specs.Edge.{Rose, Drained, Gained, GainedFront}
+use Rattle.wl_edge.specs.Edge.{Rose, Drained, Gained, GainedPrefix}
 use Rattle.wl_document.specs.declared.fault.DocFault.{DocFault}
 use Rattle.wl_document.specs.States.{State}
 use Rattle.wl_document.specs.Documents.{document_state}
@@ -9,81 +9,96 @@ use Rattle.wl_snapshot.specs.declared.answers.Answer.TheVariants.{Denied, Wait, 
 use Rattle.wl_agent.specs.declared.command.Command.{Command}
 use Rattle.wl_agent.specs.declared.command.Command.TheVariants.{Preview, Check}
 use Rattle.wl_agent.specs.Lines.{fault_line, count_line, message_line}
-use Rattle.wl_agent.specs.Due.{Due, usage_due, due_of, preview_answer}
+use Rattle.wl_agent.specs.Outcomes.{usage_outcome, outcome_of, preview_answer}
+use Rattle.wl_agent.specs.declared.outcome.Outcome.{Outcome}
+use Rattle.wl_agent.specs.declared.program.TheConstants.{READ_LIMIT}
+use Rattle.wl_agent.specs.declared.status.TheConstants.{DONE, USAGE, DOCUMENT_FAULT, DENIED, NO_SVID, READ_FAILED, WRITE_FAILED, OUT_OF_MEMORY, TOO_LONG}
 
--- one byte past the limit of a document, so that a longer one is known as such
-abbrev pub read_limit : ℕ
-read_limit = 16777217
-
--- The usage where the words fit no command; else what the command owes for the document that was read, which is what
+-- The usage where the words fit no command; else the outcome of the command on the document that was read, which is what
 -- the source has, where it tells that.
-abbrev pub IsDue : Option Command → Option (List ℕ) → Due → Type 0
-IsDue None left due = due ≡ usage_due
-IsDue (Some c) left due = (document : List ℕ) × Drained left read_limit document × (due ≡ due_of c document)
+abbrev pub IsOutcome : Option Command → Option (List ℕ) → Outcome → Type 0
+IsOutcome None content outcome = outcome ≡ usage_outcome
+IsOutcome (Some c) content outcome = (document : List ℕ) × Drained content READ_LIMIT document × (outcome ≡ outcome_of c document)
 
--- By the command that the words fit, if any, the source's content, what the sink took before and after, both counts
--- of faults before and after, and the status.
-pub data Ends (command : Option Command) (left old new : Option (List ℕ)) (reads_before reads_now writes_before writes_now : ℕ) : ℕ → Type 0 where
-  -- want of memory; nothing was written
-  lacks_memory : new ≡ old → Ends command left old new reads_before reads_now writes_before writes_now 8
+-- What a run did to its two streams: the source's content before it, what the sink took before it and after it, each
+-- where it is told, and how often a read and a write failed before it and after it.
+pub record Traffic : Type 0 where
+  pub content : Option (List ℕ)
+  pub before : Option (List ℕ)
+  pub after : Option (List ℕ)
+  pub reads_before : ℕ
+  pub reads_after : ℕ
+  pub writes_before : ℕ
+  pub writes_after : ℕ
+
+-- the sink took exactly this text
+abbrev pub Wrote : Traffic → List ℕ → Type 0
+Wrote t text = Gained t.before t.after text
+
+-- By the command that the words fit, if any, the traffic, and the status.
+pub data Ends (command : Option Command) (t : Traffic) : ℕ → Type 0 where
+  -- out of memory; nothing was written
+  lacks_memory : t.after ≡ t.before → Ends command t OUT_OF_MEMORY
   -- the words fit, and a read failed; nothing was written
-  fails_read : IsSome command → Rose reads_before reads_now → new ≡ old → Ends command left old new reads_before reads_now writes_before writes_now 6
-  -- a write failed; a front of what is due was written
-  fails_write : (due : Due) → IsDue command left due → Rose writes_before writes_now → GainedFront old new due.text → Ends command left old new reads_before reads_now writes_before writes_now 7
-  -- all that is due was written
-  ends_well : (due : Due) → IsDue command left due → Gained old new due.text → Ends command left old new reads_before reads_now writes_before writes_now due.status
+  fails_read : IsSome command → Rose t.reads_before t.reads_after → t.after ≡ t.before → Ends command t READ_FAILED
+  -- a write failed; a prefix of the output was written
+  fails_write : (outcome : Outcome) → IsOutcome command t.content outcome → Rose t.writes_before t.writes_after →
+    GainedPrefix t.before t.after outcome.output → Ends command t WRITE_FAILED
+  -- the whole output was written
+  ends_well : (outcome : Outcome) → IsOutcome command t.content outcome → Wrote t outcome.output → Ends command t outcome.status
 
 -- ---- the rows of the table of statuses
 
 -- The document has this first fault, and the words fit.
-pub record IsFaulted (command : Option Command) (left : Option (List ℕ)) (fault : DocFault) : Type 0 where
+pub record IsFaulted (command : Option Command) (content : Option (List ℕ)) (fault : DocFault) : Type 0 where
   pub fits : IsSome command
   pub document : List ℕ
-  pub read : Drained left read_limit document
+  pub read : Drained content READ_LIMIT document
   pub first : document_state None document ≡ Err fault
 
 -- The words are those of `preview`, the document has a state, and on its view the caller gets this answer.
-pub record IsAnswered (command : Option Command) (left : Option (List ℕ)) (answer : Answer) : Type 0 where
+pub record IsAnswered (command : Option Command) (content : Option (List ℕ)) (answer : Answer) : Type 0 where
   pub selectors : List (List ℕ)
   pub previews : command ≡ Some (Preview selectors)
   pub document : List ℕ
-  pub read : Drained left read_limit document
+  pub read : Drained content READ_LIMIT document
   pub state : State
   pub has : document_state None document ≡ Ok state
   pub answers : preview_answer selectors state ≡ answer
 
 -- The words are those of `check`, and the document has this state.
-pub record IsChecked (command : Option Command) (left : Option (List ℕ)) (state : State) : Type 0 where
+pub record IsChecked (command : Option Command) (content : Option (List ℕ)) (state : State) : Type 0 where
   pub checks : command ≡ Some Check
   pub document : List ℕ
-  pub read : Drained left read_limit document
+  pub read : Drained content READ_LIMIT document
   pub has : document_state None document ≡ Ok state
 
 -- Each status with its cause and with what was written.
-pub data Tells (command : Option Command) (left old new : Option (List ℕ)) (reads_before reads_now writes_before writes_now : ℕ) : ℕ → Type 0 where
-  -- 0: `preview` wrote the message, or `check` the counts
-  previewed : (m : List ℕ) → IsAnswered command left (Message m) → Gained old new (message_line m) → Tells command left old new reads_before reads_now writes_before writes_now 0
-  checked : (s : State) → IsChecked command left s → Gained old new (count_line s) → Tells command left old new reads_before reads_now writes_before writes_now 0
-  -- 2: the words fit no command
-  unfit : command ≡ None → Gained old new usage_due.text → Tells command left old new reads_before reads_now writes_before writes_now 2
-  -- 3: the document's first fault
-  faulted : (e : DocFault) → IsFaulted command left e → Gained old new (fault_line e) → Tells command left old new reads_before reads_now writes_before writes_now 3
-  -- 4, 5, 11: the caller sees nothing, an SVID is missing, the message is too long; nothing was written
-  denied : IsAnswered command left Denied → Gained old new [] → Tells command left old new reads_before reads_now writes_before writes_now 4
-  waits : IsAnswered command left Wait → Gained old new [] → Tells command left old new reads_before reads_now writes_before writes_now 5
-  long : (n : ℕ) → IsAnswered command left (TooLong n) → Gained old new [] → Tells command left old new reads_before reads_now writes_before writes_now 11
-  -- 6: a read failed; nothing was written
-  unread : IsSome command → Rose reads_before reads_now → new ≡ old → Tells command left old new reads_before reads_now writes_before writes_now 6
-  -- 7: a write failed; a front of what is due was written
-  unwritten : (due : Due) → IsDue command left due → Rose writes_before writes_now → GainedFront old new due.text → Tells command left old new reads_before reads_now writes_before writes_now 7
-  -- 8: want of memory; nothing was written
-  memory : new ≡ old → Tells command left old new reads_before reads_now writes_before writes_now 8
+pub data StatusExplains (command : Option Command) (t : Traffic) : ℕ → Type 0 where
+  -- `preview` wrote the message, or `check` the counts
+  previewed : (m : List ℕ) → IsAnswered command t.content (Message m) → Wrote t (message_line m) → StatusExplains command t DONE
+  checked : (s : State) → IsChecked command t.content s → Wrote t (count_line s) → StatusExplains command t DONE
+  -- the words fit no command
+  unfit : command ≡ None → Wrote t usage_outcome.output → StatusExplains command t USAGE
+  -- the document's first fault
+  faulted : (e : DocFault) → IsFaulted command t.content e → Wrote t (fault_line e) → StatusExplains command t DOCUMENT_FAULT
+  -- the caller sees nothing, an SVID is missing, the message is too long; nothing was written
+  denied : IsAnswered command t.content Denied → Wrote t [] → StatusExplains command t DENIED
+  waits : IsAnswered command t.content Wait → Wrote t [] → StatusExplains command t NO_SVID
+  long : (n : ℕ) → IsAnswered command t.content (TooLong n) → Wrote t [] → StatusExplains command t TOO_LONG
+  -- a read failed; nothing was written
+  unread : IsSome command → Rose t.reads_before t.reads_after → t.after ≡ t.before → StatusExplains command t READ_FAILED
+  -- a write failed; a prefix of the output was written
+  unwritten : (outcome : Outcome) → IsOutcome command t.content outcome → Rose t.writes_before t.writes_after →
+    GainedPrefix t.before t.after outcome.output → StatusExplains command t WRITE_FAILED
+  -- out of memory; nothing was written
+  memory : t.after ≡ t.before → StatusExplains command t OUT_OF_MEMORY
 
--- a status, or one to which it yields: a failed read, a failed write, want of memory
+-- a status, or one to which it yields: a failed read, a failed write, out of memory
 abbrev pub YieldsTo : ℕ → ℕ → Type 0
-YieldsTo due status = (status ≡ due) ⊎ ((status ≡ 6) ⊎ ((status ≡ 7) ⊎ (status ≡ 8)))
+YieldsTo due status = (status ≡ due) ⊎ ((status ≡ READ_FAILED) ⊎ ((status ≡ WRITE_FAILED) ⊎ (status ≡ OUT_OF_MEMORY)))
 
--- The status that is due comes, wherever the source tells its content. Where the words fit no command nothing is read.
-abbrev pub ComesFor : Option Command → Option (List ℕ) → ℕ → Type 0
-ComesFor None left status = (status ≡ 2) ⊎ ((status ≡ 7) ⊎ (status ≡ 8))
-ComesFor (Some c) left status = IfSome left (λ bytes. YieldsTo (due_of c (take read_limit bytes)).status status)
+-- The status that is due is given, wherever the source tells its content. Where the words fit no command nothing is read.
+abbrev pub StatusGiven : Option Command → Option (List ℕ) → ℕ → Type 0
+StatusGiven None content status = (status ≡ USAGE) ⊎ ((status ≡ WRITE_FAILED) ⊎ (status ≡ OUT_OF_MEMORY))
+StatusGiven (Some c) content status = IfSome content (λ bytes. YieldsTo (outcome_of c (take READ_LIMIT bytes)).status status)

@@ -1,6 +1,6 @@
 -- The publication of a document alone: of its signed identities those are kept whose entry is there and which are fit
 -- at their own first second (own rule).
-use Rattle.std.specs.Prelude.{ℕ, Bool, if◌then◌else◌, List, [], ◌∷◌, Option, Some, None, is_none}
+use Rattle.std.specs.Prelude.{Bool, if◌then◌else◌, List, [], ◌∷◌, Option, Some, None, is_none}
 use Rattle.std.specs.List.{flat_map}
 use Rattle.sorted_lists.specs.Keys.{item_at}
 use Rattle.wl_entry.specs.Asks.{ask_of}

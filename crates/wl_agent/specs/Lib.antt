@@ -1,5 +1,5 @@
-pub mod Words
+pub mod Args
 pub mod Kept
 pub mod Lines
-pub mod Due
+pub mod Outcomes
 pub mod Ends

@@ -1,16 +1,17 @@
 //! The program's one call: words, a source and a sink in, a status out.
 //!
-//! [`run`] reads the words, then the document, judges it, makes what the command owes and writes it. All that is
-//! due is made before the first byte is written, so that nothing partial stands where the answer is a fault.
+//! [`run`] reads the words, then the document, judges it, makes the command's output and writes it. All that is to be
+//! written is made before the first byte is written, so that nothing partial stands where the outcome is a fault.
 #![tactic(auto)]
 
+mod args;
 mod command;
-mod keeping;
-mod lines;
-mod owing;
-mod running;
+mod outcome;
+mod output;
+mod program;
+mod publication;
+pub mod status;
 #[cfg(test)]
 mod tests;
-mod words;
 
-pub use running::{Host, run};
+pub use program::{Host, READ_LIMIT, run};

@@ -1,7 +1,9 @@
-use crate::keeping::publication;
+use crate::publication::publication;
+use crate::status::{DONE, TOO_LONG};
 use crate::{Host, run};
+use spiffe_id::SpiffeId;
 use std::alloc::{AllocGlobal, Global};
-use std::string::String;
+use std::string::{String, ToString};
 use std::test::Fail;
 use wl_document::read_state;
 use wl_edge::{MemorySink, MemorySource};
@@ -328,70 +330,110 @@ fn failing_third_write(rt: HostRuntime) -> Result<(), Fail> {
     Ok(())
 }
 
-/// A document whose bundle has 1,048,576 bytes, with so many entries of one selector, at most ten, and their SVIDs.
-fn long_document(alloc: Global, entries: u8) -> Result<Octets, Memory> {
-    let mut text = Octets::empty(alloc);
-    text.push_slice(
-        br#"{"version":1,"trust_domain":"a.b","bundles":[{"trust_domain":"a.b","x509":""#,
-    )?;
-    for _ in 0..349_525 {
-        text.push_slice(b"AAAA")?;
+/// Writes so many items, which differ in one number.
+fn put_items(text: &mut String, count: u32, front: &str, back: &str) -> Result<(), Memory> {
+    for number in 0..count {
+        if number > 0 {
+            text.push_str(",")?;
+        }
+        text.push_str(front)?;
+        text.push_str(number.to_string(*text.allocator())?.as_str())?;
+        text.push_str(back)?;
     }
-    text.push_slice(br#"AA=="}],"entries":["#)?;
+    Ok(())
+}
+
+/// Writes so many groups of base64.
+fn put_groups(text: &mut String, count: u32) -> Result<(), Memory> {
+    for _ in 0..count {
+        text.push_str("AAAA")?;
+    }
+    Ok(())
+}
+
+/// A document with so many bundles beside the own one, which has three times `groups` bytes and one more, and so many
+/// entries of one selector, each with its SVID.
+fn document_of(alloc: Global, groups: u32, bundles: u32, entries: u32) -> Result<String, Memory> {
+    let mut text = String::from_str(alloc, r#"{"version":1,"trust_domain":"a.b","bundles":["#)?;
+    put_items(&mut text, bundles, r#"{"trust_domain":"d"#, r#""},"#)?;
+    text.push_str(r#"{"trust_domain":"a.b","x509":""#)?;
+    put_groups(&mut text, groups)?;
+    text.push_str(r#"AA=="}],"entries":["#)?;
     put_items(
         &mut text,
         entries,
-        br#"{"spiffe_id":"spiffe://a.b/w","selectors":["unix:uid:1"],"id":"e"#,
-        br#""}"#,
+        r#"{"spiffe_id":"spiffe://a.b/w","selectors":["unix:uid:1"],"id":"e"#,
+        r#""}"#,
     )?;
-    text.push_slice(br#"],"svids":["#)?;
+    text.push_str(r#"],"svids":["#)?;
     put_items(
         &mut text,
         entries,
-        br#"{"chain":"AQ==","key":"Ag==","not_before":100,"not_after":200,"entry":"e"#,
-        br#""}"#,
+        r#"{"chain":"AQ==","key":"Ag==","not_before":100,"not_after":200,"entry":"e"#,
+        r#""}"#,
     )?;
-    text.push_slice(b"]}")?;
+    text.push_str("]}")?;
     Ok(text)
 }
 
-/// Items that differ in one digit.
-fn put_items(text: &mut Octets, count: u8, front: &[u8], back: &[u8]) -> Result<(), Memory> {
-    for digit in 0..count.min(10) {
-        if digit > 0 {
-            text.push_slice(b",")?;
-        }
-        text.push_slice(front)?;
-        text.push_slice(&[b'0' + digit])?;
-        text.push_slice(back)?;
-    }
-    Ok(())
+/// A preview of such a document, with the status and how many bytes it writes.
+struct Size {
+    groups: u32,
+    bundles: u32,
+    entries: u32,
+    status: u8,
+    written: usize,
 }
 
-/// The status of `preview` on such a document.
-fn long_status(alloc: Global, entries: u8) -> Result<u8, Memory> {
+/// Bundles of 1,048,576 bytes in three and in four SVIDs, and as many bundles, entries and SVIDs as a document may have.
+const SIZES: [Size; 3] = [
+    Size {
+        groups: 349_525,
+        bundles: 0,
+        entries: 3,
+        status: DONE,
+        written: 6_291_647,
+    },
+    Size {
+        groups: 349_525,
+        bundles: 0,
+        entries: 4,
+        status: TOO_LONG,
+        written: 0,
+    },
+    Size {
+        groups: 0,
+        bundles: 1_023,
+        entries: 10_000,
+        status: DONE,
+        written: 540_011,
+    },
+];
+
+/// The status of `preview` on such a document, and how many bytes it wrote.
+fn long_preview(alloc: Global, size: &Size) -> Result<(u8, usize), Memory> {
     let list = word_list(alloc, &["preview", "unix:uid:1"])?;
+    let text = document_of(alloc, size.groups, size.bundles, size.entries)?;
+    let document = Octets::from_slice(alloc, text.as_bytes())?;
     let mut host = Host {
-        input: MemorySource::start(long_document(alloc, entries)?, 65_536, Row::empty(alloc)),
+        input: MemorySource::start(document, 65_536, Row::empty(alloc)),
         output: MemorySink::start(alloc, 1_000, 8_000_000, 1_000_000, Row::empty(alloc))?,
     };
-    Ok(run(alloc, list.as_slice(), &mut host))
+    let status = run(alloc, list.as_slice(), &mut host);
+    Ok((status, host.output.bytes().len()))
 }
 
 #[test]
-fn preview_long(rt: HostRuntime) -> Result<(), Fail> {
-    assert_eq!(rt; long_status(rt.alloc(), 4)?, 11);
-    Ok(())
-}
-
-#[test]
-fn preview_within_the_limit(rt: HostRuntime) -> Result<(), Fail> {
-    assert_eq!(rt; long_status(rt.alloc(), 3)?, 0);
+fn long_previews(rt: HostRuntime) -> Result<(), Fail> {
+    for size in &SIZES {
+        let found = long_preview(rt.alloc(), size)?;
+        assert_eq!(rt; found, (size.status, size.written), "{}", size.entries);
+    }
     Ok(())
 }
 
 /// What a caller with this selector sees of a document.
-fn seen(alloc: Global, document: &str, selector: &[u8]) -> Result<View, Fail> {
+fn view_on(alloc: Global, document: &str, selector: &[u8]) -> Result<View, Fail> {
     let state = read_state(alloc, document.as_bytes(), None)?;
     let snapshot = publication(alloc, state)?;
     let mut items = Vec::new(alloc);
@@ -407,14 +449,18 @@ fn answered(
     selector: &[u8],
     method: Method3,
 ) -> Result<Answer, Fail> {
-    let view = seen(alloc, document, selector)?;
+    let view = view_on(alloc, document, selector)?;
     Ok(answer(alloc, method, &view)?)
 }
 
-/// How many tokens a call asks for on a document.
-fn asked(alloc: Global, document: &str, selector: &[u8]) -> Result<usize, Fail> {
-    let view = seen(alloc, document, selector)?;
-    Ok(jwt_asks(alloc, &view, None)?.len())
+/// How many tokens a call of a caller with this selector asks for on DOC, where it names this id, or none if it is empty.
+fn count_asks(alloc: Global, selector: &[u8], id: &[u8]) -> Result<usize, Fail> {
+    let view = view_on(alloc, DOC, selector)?;
+    if id.is_empty() {
+        return Ok(jwt_asks(alloc, &view, None)?.len());
+    }
+    let id = SpiffeId::parse(alloc, id)?;
+    Ok(jwt_asks(alloc, &view, Some(&id))?.len())
 }
 
 /// Whether a call of `unix:uid:1` gets this message on a document.
@@ -468,10 +514,19 @@ fn view_answers_wait(rt: HostRuntime) -> Result<(), Fail> {
     }
 }
 
+/// A selector, an id or none, and how many tokens are asked for.
+const ASKS: [(&[u8], &[u8], usize); 4] = [
+    (b"unix:uid:1", b"", 1),
+    (b"unix:uid:2", b"", 0),
+    (b"unix:uid:1", b"spiffe://a.b/w", 1),
+    (b"unix:uid:1", b"spiffe://a.b/v", 0),
+];
+
 #[test]
 fn view_asks(rt: HostRuntime) -> Result<(), Fail> {
-    assert_eq!(rt; asked(rt.alloc(), DOC, b"unix:uid:1")?, 1);
-    assert_eq!(rt; asked(rt.alloc(), DOC, b"unix:uid:2")?, 0);
+    for (selector, id, count) in &ASKS {
+        assert_eq!(rt; count_asks(rt.alloc(), selector, id)?, *count);
+    }
     Ok(())
 }
 

@@ -23,7 +23,7 @@ use Rattle.wl_document.specs.declared.fault.DocFault.TheVariants.{NoOwnBundle}
 use Rattle.wl_document.specs.declared.state.DocSvid.{DocSvid}
 use Rattle.wl_document.proofs.Checks.{ok_is, bind_ok, when_ok}
 use Rattle.wl_document.proofs.Orders.{keyed_put, keyed_none}
-use Rattle.wl_document.proofs.Limits.{bundle_within, entry_within, svid_within}
+use Rattle.wl_document.proofs.Withins.{bundle_within, entry_within, svid_within}
 
 module _ {X : Type 0} (P : X → Type 0) (key : List ℕ) (x : X) where
   few_after : (o : Ordering) (e : List ℕ × X) (es more : Kept X) → length more ≤ length es + 1 → length (match_ordering o ((key, x) ∷ e ∷ es) ((e.0, x) ∷ es) (e ∷ more)) ≤ length (e ∷ es) + 1

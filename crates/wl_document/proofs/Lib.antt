@@ -3,6 +3,6 @@ mod Texts
 mod Walks
 mod Orders
 mod Checks
-mod Limits
+mod Withins
 mod Keeping
 mod Plain

@@ -15,6 +15,7 @@ use Rattle.wl_document.specs.Entries.{entries_of}
 use Rattle.wl_document.specs.Svids.{svids_of}
 use Rattle.wl_document.specs.States.{State}
 use Rattle.wl_document.specs.declared.fault.DocFault.{DocFault}
+use Rattle.wl_document.specs.declared.limits.TheConstants.{DOCUMENT_LIMIT}
 use Rattle.wl_document.specs.declared.fault.DocFault.TheVariants.{NotJson, Version, ForeignDomain, NoOwnBundle, TooLong}
 
 unfoldable pub version_of : Data → Result ℕ DocFault
@@ -89,4 +90,4 @@ value_of document = if is_utf8 document then read document else None
 
 -- the state of a document, where an own domain may be given
 unfoldable pub document_state : Option (List ℕ) → List ℕ → Result State DocFault
-document_state own document = if nat_lt 16777216 (length document) then Err (TooLong (at_top 0) (length document)) else (or_fault NotJson (value_of document) >>= state_of own)
+document_state own document = if nat_lt DOCUMENT_LIMIT (length document) then Err (TooLong (at_top 0) (length document)) else (or_fault NotJson (value_of document) >>= state_of own)

@@ -2,7 +2,7 @@
 //!
 //! [`read_state`] tries the checks in their order; the first that fails is the [`DocFault`], with its [`Place`].
 //! An [`AuthorityState`] has its bundles, entries and signed identities by ascending key, each key once, and
-//! nothing in it passes the limits.
+//! nothing in it passes its limit.
 #![tactic(auto)]
 
 mod bundles;
@@ -10,9 +10,9 @@ mod copies;
 mod entries;
 mod fault;
 mod kept;
-mod keys;
 #[cfg(test)]
 mod limit_tests;
+mod limits;
 mod lists;
 mod members;
 mod names;
@@ -24,5 +24,6 @@ mod tests;
 mod top;
 
 pub use fault::{DocFault, Place};
+pub use limits::DOCUMENT_LIMIT;
 pub use read::read_state;
 pub use state::{AuthorityState, DocSvid};

@@ -5,6 +5,7 @@ use crate::tests::{Numbers, outcome};
 use spiffe_id::TrustDomain;
 use std::alloc::{AllocError, Global};
 use std::process::Abort;
+use std::string::ToString;
 use std::test::Fail;
 
 /// A document with a text that is repeated.
@@ -291,5 +292,51 @@ fn copies(rt: HostRuntime) -> Result<(), Fail> {
     let state = state_of(rt.alloc(), UNORDERED)?;
     let copy = state.copy(rt.alloc()).map_err(|_| AllocError)?;
     are_same(&rt, &state, &copy);
+    Ok(())
+}
+
+/// Writes so many items, which differ in one number.
+fn put_items(text: &mut String, count: u32, front: &str, back: &str) -> Result<(), AllocError> {
+    for number in 0..count {
+        if number > 0 {
+            text.push_str(",")?;
+        }
+        text.push_str(front)?;
+        text.push_str(number.to_string(*text.allocator())?.as_str())?;
+        text.push_str(back)?;
+    }
+    Ok(())
+}
+
+/// A document with as many bundles, entries and signed identities as one may have.
+fn largest_document(alloc: Global) -> Result<String, AllocError> {
+    let mut text = String::from_str(alloc, r#"{"version":1,"trust_domain":"d0","bundles":["#)?;
+    put_items(&mut text, 1_024, r#"{"trust_domain":"d"#, r#"","x509":"Aw=="}"#)?;
+    text.push_str(r#"],"entries":["#)?;
+    put_items(
+        &mut text,
+        10_000,
+        r#"{"spiffe_id":"spiffe://d0/w","selectors":["u:1"],"id":"e"#,
+        r#""}"#,
+    )?;
+    text.push_str(r#"],"svids":["#)?;
+    put_items(
+        &mut text,
+        10_000,
+        r#"{"chain":"AQ==","key":"Ag==","not_before":1,"not_after":2,"entry":"e"#,
+        r#""}"#,
+    )?;
+    text.push_str("]}")?;
+    Ok(text)
+}
+
+#[test]
+fn largest(rt: HostRuntime) -> Result<(), Fail> {
+    let alloc = rt.alloc();
+    let document = largest_document(alloc)?;
+    let state = read_state(alloc, document.as_bytes(), None)?;
+    assert_eq!(rt; state.bundles.len(), 1_024);
+    assert_eq!(rt; state.entries.len(), 10_000);
+    assert_eq!(rt; state.svids.len(), 10_000);
     Ok(())
 }

@@ -18,6 +18,7 @@ use crate::bundles::bundles;
 use crate::entries::entries;
 use crate::fault::{DocFault, Place};
 use crate::kept::{find, values};
+use crate::limits::DOCUMENT_LIMIT;
 use crate::state::{AuthorityState, DocSvid};
 use crate::svids::svids;
 use crate::top::head_of;
@@ -27,9 +28,6 @@ use std::alloc::Global;
 use std::collections::BTreeMap;
 use wl_entry::{Bundle, Entry};
 use wl_octets::{Octets, Row};
-
-/// How many bytes a document has at most.
-const DOCUMENT_LIMIT: usize = 16_777_216;
 
 /// Whether the domain has an X.509 bundle that is not empty.
 fn has_x509(kept: &BTreeMap<Octets, Bundle>, domain: &Octets) -> bool

@@ -4,7 +4,7 @@ use Rattle.std.proofs.Common.{sym, ◌∙◌, ap, subst}
 use Rattle.std.proofs.lemmas.List.{append_assoc, take-append-drop}
 use Rattle.wl_edge.specs.Edge.{Gained}
 
--- A front was sent, and the rest of the text is left.
+-- A prefix was sent, and the rest of the text is left.
 pub record Sending (old new : Option (List ℕ)) (whole rest : List ℕ) : Type 0 where
   pub part : List ℕ
   pub split : whole ≡ part ++ rest

@@ -45,22 +45,26 @@ abbrev pub StepGives : Option (List ℕ) → Option (List ℕ) → List ℕ → 
 StepGives old new before after room true = ReadsOn old new before after room
 StepGives old new before after room false = (after ≡ before) × IfSome old (λ left. (left ≡ []) × (new ≡ Some []))
 
--- what reading up to a limit gives, where the content is told: its front
+-- what reading up to a limit gives, where the content is told: its first bytes, as many as the limit
 abbrev pub Drained : Option (List ℕ) → ℕ → List ℕ → Type 0
 Drained old limit bytes = IfSome old (λ left. bytes ≡ take limit left)
+
+-- what such reading leaves: what comes after the bytes that it gave, so that it took no more
+abbrev pub Leaves : Option (List ℕ) → Option (List ℕ) → List ℕ → Type 0
+Leaves old new bytes = IfSome old (λ left. new ≡ Some (drop (length bytes) left))
 
 -- a sink gained this text, where it tells its content
 abbrev pub Gained : Option (List ℕ) → Option (List ℕ) → List ℕ → Type 0
 Gained old new text = IfSome old (λ taken. new ≡ Some (taken ++ text))
 
--- a sink gained a front of this text
-abbrev pub GainedFront : Option (List ℕ) → Option (List ℕ) → List ℕ → Type 0
-GainedFront old new text = (part : List ℕ) × BeginsWith text part × Gained old new part
+-- a sink gained a prefix of this text
+abbrev pub GainedPrefix : Option (List ℕ) → Option (List ℕ) → List ℕ → Type 0
+GainedPrefix old new text = (part : List ℕ) × BeginsWith text part × Gained old new part
 
 -- all was sent, or a write failed
 abbrev pub SendGives : Option (List ℕ) → Option (List ℕ) → ℕ → ℕ → List ℕ → Bool → Type 0
 SendGives old new before now text true = Gained old new text
-SendGives old new before now text false = Rose before now × GainedFront old new text
+SendGives old new before now text false = Rose before now × GainedPrefix old new text
 
 -- one sending of a whole text
 pub record Sends (old new : Option (List ℕ)) (before now : ℕ) (text : List ℕ) (answer : Bool) : Type 0 where

@@ -1,7 +1,7 @@
 //! Reading a source to its end, and sending a whole text.
 
 ghost use Rattle.std.specs.Prelude.{vec_len, ◌≤◌, ◌^◌, ◌<◌, IfOk, IfErr, IsErrOf, ◌≡◌, length};
-ghost use Rattle.wl_edge.specs.Edge.{Rose, Drained, Sends, StepGives};
+ghost use Rattle.wl_edge.specs.Edge.{Rose, Drained, Leaves, Sends, StepGives};
 ghost use Rattle.wl_edge.specs.declared.drain.ReadFault.TheVariants as ReadFault;
 
 use crate::sink::{Sent, Sink};
@@ -13,7 +13,7 @@ use std::alloc::Global;
 pub enum ReadFault {
     /// A read failed; the source's count of faults rose.
     Failed,
-    /// There was no memory.
+    /// Memory ran out.
     Memory,
 }
 
@@ -51,7 +51,9 @@ fn read_on<I: Source>(input: &mut I, room: &mut [u8], done: &mut Vec<u8>) -> Res
 /// Reads the source to its end, or so many bytes of it.
 pub fn read_all<I: Source>(alloc: Global, input: &mut I, limit: usize) -> Result<Vec<u8>, ReadFault>
     requires { limit < 2 ^ 60 }
+    ensures few { IfOk result (λ v. length v.items ≤ limit) }
     ensures bytes { IfOk result (λ v. Drained (I.left input.old) limit v.items) }
+    ensures left { IfOk result (λ v. Leaves (I.left input.old) (I.left input.new) v.items) }
     ensures failed { IsErrOf result ReadFault.Failed → Rose (I.faults input.old) (I.faults input.new) }
     ensures later { I.faults input.old ≤ I.faults input.new }
 {
@@ -66,7 +68,7 @@ pub fn read_all<I: Source>(alloc: Global, input: &mut I, limit: usize) -> Result
     Ok(done)
 }
 
-/// Sends the whole text. False where a write failed: then the sink's count rose, and it took a front of the text.
+/// Sends the whole text. False where a write failed: then the sink's count rose, and it took a prefix of the text.
 pub fn write_all<O: Sink>(output: &mut O, text: &[u8]) -> bool
     ensures { Sends (O.taken output.old) (O.taken output.new) (O.faults output.old) (O.faults output.new) text.now result }
 {

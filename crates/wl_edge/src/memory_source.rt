@@ -56,7 +56,7 @@ impl Source for MemorySource {
     }
 }
 
-/// Copies a front of the bytes, as long as it may be, and says how long it is.
+/// Copies a prefix of the bytes, as long as it may be, and says how long it is.
 fn copy_front(bytes: &[u8], into: &mut [u8], most: usize) -> usize
     requires bytes { 0 < length bytes.now }
     requires room { 0 < length into.old }

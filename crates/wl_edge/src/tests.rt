@@ -3,6 +3,9 @@ use crate::{
     write_all,
 };
 use std::alloc::{AllocGlobal, Global};
+use std::fs;
+use std::io;
+use std::io::{Read, Write};
 use std::test::Fail;
 use wl_octets::{Memory, Octets, Row};
 
@@ -70,15 +73,44 @@ fn writes_the_whole_or_a_front(rt: HostRuntime) -> Result<(), Fail> {
     Ok(())
 }
 
+/// The file of the test, where the tests run.
+const FILE: &str = "wl_edge_adapters";
+
 #[test]
 fn real_streams(rt: HostRuntime) -> Result<(), Fail> {
     let alloc = rt.alloc();
-    let mut source = RealSource::start(b"ab".as_slice());
-    assert_eq!(rt;
-        read_all(alloc, &mut source, 9)?.as_slice(),
-        b"ab".as_slice()
-    );
-    let mut sink = RealSink::start(Vec::new(alloc));
-    assert_eq!(rt; sink.write(b"ab"), Sent::Took(2));
+    let mut sink = RealSink::start(fs::create(&rt, FILE)?);
+    assert!(rt; write_all(&mut sink, b"abc"));
+    let mut source = RealSource::start(fs::open(&rt, FILE)?);
+    let bytes = read_all(alloc, &mut source, 9)?;
+    fs::remove_file(&rt, FILE)?;
+    assert_eq!(rt; bytes.as_slice(), b"abc".as_slice());
     Ok(())
+}
+
+/// A stream of which each call fails.
+#[derive(Drop)]
+struct Broken;
+
+impl Read for Broken {
+    fn read(&mut self, _: &mut [u8]) -> io::Result<usize> {
+        Err(io::Error::from(io::ErrorKind::BrokenPipe))
+    }
+}
+
+impl Write for Broken {
+    fn write(&mut self, _: &[u8]) -> io::Result<usize> {
+        Err(io::Error::from(io::ErrorKind::BrokenPipe))
+    }
+
+    fn flush(&mut self) -> io::Result<()> {
+        Ok(())
+    }
+}
+
+#[test]
+fn real_streams_that_fail(rt: HostRuntime) {
+    let mut one = [0];
+    assert_eq!(rt; RealSource::start(Broken).read(&mut one), Taken::Failed);
+    assert_eq!(rt; RealSink::start(Broken).write(b"ab"), Sent::Failed);
 }

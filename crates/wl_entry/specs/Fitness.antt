@@ -22,7 +22,7 @@ signed_unfit now s =
 abbrev pub is_half_over : ℕ → Signed → Bool
 is_half_over now s = nat_le (s.not_before + s.not_after) (2 * now)
 
--- Less than half of its time is over: 2 * (now - issued_at) < expires_at - issued_at in whole numbers.
+-- Less than half of its time has passed: 2 * (now - issued_at) < expires_at - issued_at in whole numbers.
 abbrev pub is_still_fresh : ℕ → JwtToken → Bool
 is_still_fresh now t = nat_lt (2 * now) (t.issued_at + t.expires_at)
 

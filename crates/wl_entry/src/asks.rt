@@ -2,10 +2,9 @@
 
 ghost use Rattle.std.specs.Prelude.{◌≡◌, IfOk};
 
-use crate::copying::{copy_id, copy_row};
 use spiffe_id::SpiffeId;
 use std::alloc::Global;
-use wl_octets::{Memory, Octets, Row};
+use wl_octets::{Memory, Octets, Row, clone_all};
 
 /// What a signer is asked for: an identity for an entry, with its DNS names, for so many seconds.
 #[derive(PartialEq, Drop)]
@@ -18,14 +17,14 @@ pub struct Ask {
 }
 
 impl Ask {
-    /// The same ask once more.
+    /// A copy of the ask.
     pub fn copy(&self, alloc: Global) -> Result<Ask, Memory>
         ensures { IfOk result (λ a. a ≡ self.now) }
     {
         Ok(Ask {
             entry_id: self.entry_id.copy(alloc)?,
-            spiffe_id: copy_id(alloc, &self.spiffe_id)?,
-            dns_names: copy_row(alloc, &self.dns_names)?,
+            spiffe_id: self.spiffe_id.copy(alloc)?,
+            dns_names: clone_all(alloc, self.dns_names.as_slice())?,
             ttl: self.ttl,
         })
     }

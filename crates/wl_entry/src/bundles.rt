@@ -2,7 +2,6 @@
 
 ghost use Rattle.std.specs.Prelude.{◌≡◌, IfOk};
 
-use crate::copying::copy_domain;
 use spiffe_id::TrustDomain;
 use std::alloc::Global;
 use wl_octets::{Memory, Octets};
@@ -18,12 +17,12 @@ pub struct Bundle {
 }
 
 impl Bundle {
-    /// The same bundle once more.
+    /// A copy of the bundle.
     pub fn copy(&self, alloc: Global) -> Result<Bundle, Memory>
         ensures { IfOk result (λ b. b ≡ self.now) }
     {
         Ok(Bundle {
-            domain: copy_domain(alloc, &self.domain)?,
+            domain: self.domain.copy(alloc)?,
             x509: self.x509.copy(alloc)?,
             jwks: self.jwks.copy(alloc)?,
         })

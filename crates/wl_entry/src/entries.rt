@@ -4,10 +4,9 @@ ghost use Rattle.std.specs.Prelude.{◌≡◌, IfOk};
 ghost use Rattle.wl_entry.specs.Asks.{ask_of, is_ask_of};
 
 use crate::asks::Ask;
-use crate::copying::{copy_domains, copy_id, copy_row, copy_selectors};
 use spiffe_id::{SpiffeId, TrustDomain};
 use std::alloc::Global;
-use wl_octets::{Memory, Octets, Row};
+use wl_octets::{Memory, Octets, Row, clone_all};
 use wl_selector::Selectors;
 
 /// A registration entry: the identity of the workloads that have all its selectors.
@@ -32,8 +31,8 @@ impl Entry {
     {
         Ok(Ask {
             entry_id: self.id.copy(alloc)?,
-            spiffe_id: copy_id(alloc, &self.spiffe_id)?,
-            dns_names: copy_row(alloc, &self.dns_names)?,
+            spiffe_id: self.spiffe_id.copy(alloc)?,
+            dns_names: clone_all(alloc, self.dns_names.as_slice())?,
             ttl: self.ttl,
         })
     }
@@ -48,16 +47,16 @@ impl Entry {
             && self.ttl == ask.ttl
     }
 
-    /// The same entry once more.
+    /// A copy of the entry.
     pub fn copy(&self, alloc: Global) -> Result<Entry, Memory>
         ensures { IfOk result (λ e. e ≡ self.now) }
     {
         Ok(Entry {
             id: self.id.copy(alloc)?,
-            spiffe_id: copy_id(alloc, &self.spiffe_id)?,
-            selectors: copy_selectors(alloc, &self.selectors)?,
-            federates_with: copy_domains(alloc, &self.federates_with)?,
-            dns_names: copy_row(alloc, &self.dns_names)?,
+            spiffe_id: self.spiffe_id.copy(alloc)?,
+            selectors: self.selectors.copy(alloc)?,
+            federates_with: clone_all(alloc, self.federates_with.as_slice())?,
+            dns_names: clone_all(alloc, self.dns_names.as_slice())?,
             ttl: self.ttl,
             hint: self.hint.copy(alloc)?,
         })

@@ -7,9 +7,9 @@
 
 mod asks;
 mod bundles;
-mod copying;
 mod entries;
 mod keys;
+mod laws;
 mod signing;
 #[cfg(test)]
 mod tests;
@@ -20,6 +20,7 @@ mod vouchers;
 pub use asks::Ask;
 pub use bundles::Bundle;
 pub use entries::Entry;
+pub use laws::tests_decide;
 pub use signing::{Signed, Svid};
 pub use tokens::JwtToken;
 pub use unfit::{CertFault, JwtUnfit, Unfit};

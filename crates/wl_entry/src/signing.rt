@@ -47,14 +47,14 @@ impl Signed {
         None
     }
 
-    /// Whether half of its time is over, so that a new one is due.
+    /// Whether half of its time has passed, so that a new one is due.
     pub fn is_due(&self, now: u64) -> bool
         ensures { result ≡ is_half_over now self.now }
     {
         self.not_before as u128 + self.not_after as u128 <= 2 * now as u128
     }
 
-    /// The same identity once more.
+    /// A copy of the identity.
     pub fn copy(&self, alloc: Global) -> Result<Signed, Memory>
         ensures { IfOk result (λ s. s ≡ self.now) }
     {
@@ -75,7 +75,7 @@ pub struct Svid {
 }
 
 impl Svid {
-    /// The same SVID once more.
+    /// A copy of the SVID.
     pub fn copy(&self, alloc: Global) -> Result<Svid, Memory>
         ensures { IfOk result (λ s. s ≡ self.now) }
     {

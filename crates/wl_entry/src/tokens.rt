@@ -53,14 +53,14 @@ impl JwtToken {
         }
     }
 
-    /// Whether less than half of its time is over.
+    /// Whether less than half of its time has passed.
     pub fn is_fresh(&self, now: u64) -> bool
         ensures { result ≡ is_still_fresh now self.now }
     {
         (2 * now as u128) < self.issued_at as u128 + self.expires_at as u128
     }
 
-    /// The same token once more.
+    /// A copy of the token.
     pub fn copy(&self, alloc: Global) -> Result<JwtToken, Memory>
         ensures { IfOk result (λ t. t ≡ self.now) }
     {

@@ -41,7 +41,7 @@ pub enum Unfit {
     EmptyKey,
     /// Chain and key have so many bytes together, more than 65,536.
     TooLong(usize),
-    /// The leaf can't be read; never for want of memory.
+    /// The leaf can't be read; never because memory ran out.
     Cert(CertFault),
     /// The leaf names another id than the one asked for.
     OtherId { asked: Octets, named: Octets },
@@ -50,7 +50,7 @@ pub enum Unfit {
 }
 
 impl Unfit {
-    /// The same reason once more.
+    /// A copy of the reason.
     pub fn copy(&self, alloc: Global) -> Result<Unfit, Memory>
         ensures { IfOk result (λ u. u ≡ self.now) }
     {

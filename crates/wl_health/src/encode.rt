@@ -1,6 +1,7 @@
 //! A response to bytes.
 
-ghost use Rattle.std.specs.Prelude.{◌≡◌, ◌≤◌, ◌++◌, IfOk, OnOk};
+ghost use Rattle.std.specs.Prelude.{◌≡◌, ◌≤◌, ◌++◌, length, IfOk, OnOk};
+ghost use Rattle.wl_health.specs.declared.health.TheConstants.{SERVING, SERVICE_UNKNOWN};
 ghost use Rattle.wl_health.specs.Messages.{spell_state};
 
 use pb_wire::put_varint;
@@ -15,11 +16,12 @@ fn put_state(out: &mut Vec<u8>, state: u32) -> Result<(), Memory>
     put_varint(out, u64::from(state))
 }
 
-/// The spelling of a `HealthCheckResponse` of this state, which is 1, 2 or 3: two bytes.
+/// The encoding of a `HealthCheckResponse` of this state, which is one of those of [`state`](crate::state): two bytes.
 pub fn encode_health(alloc: Global, state: u32) -> Result<Octets, Memory>
-    requires least { 1 ≤ state }
-    requires most { state ≤ 3 }
-    ensures { IfOk result (λ o. o ≡ spell_state state) }
+    requires least { SERVING ≤ state }
+    requires most { state ≤ SERVICE_UNKNOWN }
+    ensures value { IfOk result (λ o. o ≡ spell_state state) }
+    ensures size { IfOk result (λ o. length o ≡ 2) }
 {
     let mut out = Vec::with_capacity(alloc, 2)?;
     put_state(&mut out, state)?;

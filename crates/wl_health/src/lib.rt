@@ -6,13 +6,13 @@
 
 mod decode;
 mod encode;
-mod fault;
 mod health;
 
 pub use decode::decode_health;
 pub use encode::encode_health;
-pub use fault::HealthFault;
-pub use health::state;
+pub use health::{NOT_SERVING, SERVICE_UNKNOWN, SERVING, state};
+/// The first fault in the bytes of a message, or running out of memory.
+pub use pb_wire::FieldFault as HealthFault;
 
 #[cfg(test)]
 mod tests;

@@ -6,10 +6,10 @@ use Rattle.std.specs.Cmp.Lexicographic.{bytes_decides, nat_list_eq_equiv}
 use Rattle.std.proofs.lemmas.List.{take_more}
 use Rattle.std.proofs.lemmas.List.Folds.{list_any-append}
 use Rattle.wl_selector.specs.Selectors.{has_text}
-use Rattle.jwt_cache.specs.declared.rings.Kept.{Kept}
-use Rattle.jwt_cache.specs.Keeps.{last_of, is_of, ring_of}
-use Rattle.jwt_cache.specs.Rings.{kept_for, StandsFor}
-use Rattle.wl_manager.specs.Keeps.{without_all}
+use Rattle.jwt_cache.specs.declared.rings.CachedToken.{CachedToken}
+use Rattle.jwt_cache.specs.History.{last_of, is_of, ring_of}
+use Rattle.jwt_cache.specs.Rings.{tokens_for, StandsFor}
+use Rattle.wl_manager.specs.Tokens.{without_all}
 
 turned_go : (a b : Bool) (xs ys : List ℕ) → bytes_eq xs ys ≡ a → bytes_eq ys xs ≡ b → a ≡ b
 turned_go true true xs ys p q = refl
@@ -22,13 +22,13 @@ turned xs ys = turned_go (bytes_eq xs ys) (bytes_eq ys xs) xs ys refl refl
 
 -- ---- entry by entry
 
-one_more : (a b : Bool) (old : List Kept) → (if b then [] else (if a then [] else old)) ≡ (if a || (b || false) then [] else old)
+one_more : (a b : Bool) (old : List CachedToken) → (if b then [] else (if a then [] else old)) ≡ (if a || (b || false) then [] else old)
 one_more true true old = refl
 one_more true false old = refl
 one_more false true old = refl
 one_more false false old = refl
 
-pub forgotten_more : (q id : List ℕ) (ids : List (List ℕ)) (i : ℕ) (old now new : List Kept) → i < length ids → id ≡ get_or ids i id
+pub forgotten_more : (q id : List ℕ) (ids : List (List ℕ)) (i : ℕ) (old now new : List CachedToken) → i < length ids → id ≡ get_or ids i id
     → now ≡ (if has_text (take i ids) q then [] else old) → new ≡ (if bytes_eq q id then [] else now) → new ≡ (if has_text (take (i + 1) ids) q then [] else old)
 unfolding has_text
 forgotten_more q id ids i old now new below at is step =
@@ -42,7 +42,7 @@ forgotten_more q id ids i old now new below at is step =
 absurd_bool : {A : Type 0} → false ≡ true → A
 absurd_bool is = cc
 
-sift_go : (t b h : Bool) (q : List ℕ) (k : Kept) (rest all : List Kept) → is_of q k ≡ t → (t ≡ true → h ≡ b) → filter (is_of q) rest ≡ (if b then [] else all)
+sift_go : (t b h : Bool) (q : List ℕ) (k : CachedToken) (rest all : List CachedToken) → is_of q k ≡ t → (t ≡ true → h ≡ b) → filter (is_of q) rest ≡ (if b then [] else all)
     → filter (is_of q) (cond (not h) (k ∷ rest) rest) ≡ (if b then [] else cond t (k ∷ all) all)
 sift_go true true true q k rest all is same left = left
 sift_go true true false q k rest all is same left = absurd_bool (same refl)
@@ -51,24 +51,24 @@ sift_go true false false q k rest all is same left = ap (λ x. cond x (k ∷ fil
 sift_go false b true q k rest all is same left = left
 sift_go false b false q k rest all is same left = ap (λ x. cond x (k ∷ filter (is_of q) rest) (filter (is_of q) rest)) is ∙ left
 
-same_owner : (ids : List (List ℕ)) (q : List ℕ) (k : Kept) → is_of q k ≡ true → has_text ids k.ask.entry_id ≡ has_text ids q
+same_owner : (ids : List (List ℕ)) (q : List ℕ) (k : CachedToken) → is_of q k ≡ true → has_text ids k.ask.entry_id ≡ has_text ids q
 same_owner ids q k is = ap (has_text ids) (sym ((bytes_decides q k.ask.entry_id).0 is))
 
-nothing : (b : Bool) (xs : List Kept) → xs ≡ [] → xs ≡ (if b then [] else xs)
+nothing : (b : Bool) (xs : List CachedToken) → xs ≡ [] → xs ≡ (if b then [] else xs)
 nothing true xs is = is
 nothing false xs is = refl
 
-sifted : (ids : List (List ℕ)) (q : List ℕ) (keeps : List Kept) → filter (is_of q) (filter (λ k. not (has_text ids k.ask.entry_id)) keeps) ≡ (if has_text ids q then [] else filter (is_of q) keeps)
+sifted : (ids : List (List ℕ)) (q : List ℕ) (history : List CachedToken) → filter (is_of q) (filter (λ k. not (has_text ids k.ask.entry_id)) history) ≡ (if has_text ids q then [] else filter (is_of q) history)
 sifted ids q [] = nothing (has_text ids q) [] refl
 sifted ids q (k ∷ ks) =
     sift_go (is_of q k) (has_text ids q) (has_text ids k.ask.entry_id) q k (filter (λ x. not (has_text ids x.ask.entry_id)) ks) (filter (is_of q) ks) refl (same_owner ids q k) (sifted ids q ks)
 
-last_by : (b : Bool) (xs : List Kept) → (if b then [] else last_of 16 xs) ≡ last_of 16 (if b then [] else xs)
+last_by : (b : Bool) (xs : List CachedToken) → (if b then [] else last_of 16 xs) ≡ last_of 16 (if b then [] else xs)
 last_by true xs = refl
 last_by false xs = refl
 
-pub stands_without : (ids : List (List ℕ)) (rings next : List (List ℕ × List Kept)) (keeps : List Kept) → ((q : List ℕ) → kept_for next q ≡ (if has_text ids q then [] else kept_for rings q))
-    → StandsFor rings keeps → StandsFor next (without_all ids keeps)
+pub stands_without : (ids : List (List ℕ)) (rings next : List (List ℕ × List CachedToken)) (history : List CachedToken) → ((q : List ℕ) → tokens_for next q ≡ (if has_text ids q then [] else tokens_for rings q))
+    → StandsFor rings history → StandsFor next (without_all ids history)
 unfolding ring_of without_all
-stands_without ids rings next keeps step s =
-    record { each = λ q. step q ∙ (ap (λ l. if has_text ids q then [] else l) (s.each q) ∙ (last_by (has_text ids q) (filter (is_of q) keeps) ∙ ap (last_of 16) (sym (sifted ids q keeps)))) }
+stands_without ids rings next history step s =
+    record { each = λ q. step q ∙ (ap (λ l. if has_text ids q then [] else l) (s.each q) ∙ (last_by (has_text ids q) (filter (is_of q) history) ∙ ap (last_of 16) (sym (sifted ids q history)))) }

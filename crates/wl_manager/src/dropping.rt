@@ -4,8 +4,8 @@ ghost use Rattle.std.specs.Prelude.{◌≡◌, ℕ, List, [], if◌then◌else�
 ghost use Rattle.list_laws.specs.Lists.{Rises};
 ghost use Rattle.wl_selector.specs.Selectors.{has_text};
 ghost use Rattle.wl_store.specs.Stores.{asks_of};
-ghost use Rattle.jwt_cache.specs.Rings.{kept_for};
-ghost use Rattle.wl_manager.specs.Keeps.{changed_ids};
+ghost use Rattle.jwt_cache.specs.Rings.{tokens_for};
+ghost use Rattle.wl_manager.specs.Tokens.{changed_ids};
 
 use jwt_cache::Tokens;
 use std::alloc::Global;
@@ -14,7 +14,7 @@ use wl_octets::{Memory, Octets, Row};
 use wl_store::Store;
 
 /// The entry ids of the asks that are not among those of the later store.
-#[tactic(auto, unfolding(crate::specs::Keeps::changed_ids))]
+#[tactic(auto, unfolding(crate::specs::Tokens::changed_ids))]
 pub(crate) fn changed_ids<V: Voucher>(
     alloc: Global,
     asks: &[Ask],
@@ -33,7 +33,7 @@ pub(crate) fn changed_ids<V: Voucher>(
 
 /// Drops the tokens of these entries. It takes no memory.
 pub(crate) fn forget_all(tokens: &mut Tokens, ids: &[Octets])
-    ensures kept { (q : List ℕ) → kept_for tokens.new q ≡ (if has_text ids.now q then [] else kept_for tokens.old q) }
+    ensures kept { (q : List ℕ) → tokens_for tokens.new q ≡ (if has_text ids.now q then [] else tokens_for tokens.old q) }
     ensures none { ids.now ≡ [] → tokens.new ≡ tokens.old }
 {
     for id in ids {

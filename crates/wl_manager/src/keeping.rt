@@ -2,14 +2,14 @@
 
 ghost use Rattle.std.specs.Prelude.{◌≡◌, ◌∷◌, [], ◌++◌, ℕ, List, min, sum, map, length, IfOk, IfSome, OnErr};
 ghost use Rattle.wl_selector.specs.Selectors.{sorted_texts};
-ghost use Rattle.jwt_cache.specs.Keeps.{found_among, found_in, keep_of};
-ghost use Rattle.jwt_cache.specs.Rings.{kept_for, StandsFor};
-ghost use Rattle.jwt_cache.specs.declared.rings.Kept.{Kept};
+ghost use Rattle.jwt_cache.specs.History.{find_among, find_in, cached_token_of};
+ghost use Rattle.jwt_cache.specs.Rings.{tokens_for, StandsFor};
+ghost use Rattle.jwt_cache.specs.declared.rings.CachedToken.{CachedToken};
 ghost use Rattle.wl_store.specs.Stores.{asks_of};
-ghost use Rattle.wl_manager.specs.Keeps.{size_of, keeping};
+ghost use Rattle.wl_manager.specs.Tokens.{size_of, keep_verdict};
 
 use crate::manager::Manager;
-use jwt_cache::sorted;
+use jwt_cache::sort_audience;
 use std::alloc::Global;
 use wl_entry::{Ask, JwtToken, JwtUnfit, Voucher};
 use wl_octets::{Memory, Octets};
@@ -31,7 +31,7 @@ pub enum Keeping {
 }
 
 /// The bytes of audiences together; the count stands still at its type's end.
-#[tactic(auto, unfolding(crate::specs::Keeps::size_of))]
+#[tactic(auto, unfolding(crate::specs::Tokens::size_of))]
 fn size_of(audience: &[Octets]) -> u64
     ensures { result ≡ size_of audience.now }
 {
@@ -43,7 +43,7 @@ fn size_of(audience: &[Octets]) -> u64
 }
 
 impl<V: Voucher> Manager<V> {
-    /// The newest token that is kept for this ask and these audiences, of which less than half of the time is over. In
+    /// The newest token that is kept for this ask and these audiences, of which less than half of the time has passed. In
     /// what order and how often the audiences are named is all the same.
     pub fn token(
         &self,
@@ -52,8 +52,8 @@ impl<V: Voucher> Manager<V> {
         audience: &[Octets],
         now: u64,
     ) -> Result<Option<JwtToken>, Memory>
-        ensures found { IfOk result (λ t. t ≡ found_among ask.now (sorted_texts audience.now) now (kept_for self.now.tokens ask.now.entry_id)) }
-        ensures keeps { (keeps : List Kept) → StandsFor self.now.tokens keeps → IfOk result (λ t. t ≡ found_in keeps ask.now (sorted_texts audience.now) now) }
+        ensures found { IfOk result (λ t. t ≡ find_among ask.now (sorted_texts audience.now) now (tokens_for self.now.tokens ask.now.entry_id)) }
+        ensures history { (history : List CachedToken) → StandsFor self.now.tokens history → IfOk result (λ t. t ≡ find_in history ask.now (sorted_texts audience.now) now) }
         ensures vouched { IfOk result (λ t. IfSome t (V.token ask.now (sorted_texts audience.now))) }
     {
         let token = self.tokens.find(alloc, ask, audience, now)?;
@@ -61,7 +61,7 @@ impl<V: Voucher> Manager<V> {
     }
 
     /// What is to become of a token.
-    #[tactic(auto, unfolding(crate::specs::Keeps::keeping))]
+    #[tactic(auto, unfolding(crate::specs::Tokens::keep_verdict))]
     fn judge_token(
         &self,
         alloc: Global,
@@ -70,7 +70,7 @@ impl<V: Voucher> Manager<V> {
         token: &JwtToken,
         now: u64,
     ) -> Result<Keeping, Memory>
-        ensures { IfOk result (λ k. k ≡ keeping now (asks_of self.now.stored.store.entries) ask.now audience.now token.now) }
+        ensures { IfOk result (λ k. k ≡ keep_verdict now (asks_of self.now.stored.store.entries) ask.now audience.now token.now) }
     {
         if let Some(unfit) = token.unfit(now) {
             return Ok(Keeping::Unfit(unfit));
@@ -78,8 +78,8 @@ impl<V: Voucher> Manager<V> {
         if !self.store.lists(ask) {
             return Ok(Keeping::NoSuchAsk);
         }
-        let sorted = sorted(alloc, audience)?;
-        let size = size_of(sorted.as_slice());
+        let sort_audience = sort_audience(alloc, audience)?;
+        let size = size_of(sort_audience.as_slice());
         if size > AUDIENCE_LIMIT {
             return Ok(Keeping::AudienceLong(size));
         }
@@ -87,7 +87,7 @@ impl<V: Voucher> Manager<V> {
     }
 
     /// Keeps a token, which has to be vouched for the ask and the audiences, where nothing stands against it. A
-    /// seventeenth of the entry pushes out the oldest. Else, and on want of memory, nothing changes.
+    /// seventeenth of the entry pushes out the oldest. Else, and if memory runs out, nothing changes.
     pub fn keep_token(
         &mut self,
         alloc: Global,
@@ -97,8 +97,8 @@ impl<V: Voucher> Manager<V> {
         now: u64,
     ) -> Result<Keeping, Memory>
         requires { V.token ask.now (sorted_texts audience.now) token }
-        ensures answer { IfOk result (λ k. k ≡ keeping now (asks_of self.old.stored.store.entries) ask.now audience.now token) }
-        ensures kept { (keeps : List Kept) → StandsFor self.old.tokens keeps → IfOk result (λ k. k ≡ Keeping.Kept → StandsFor self.new.tokens (keeps ++ keep_of ask.now audience.now token ∷ [])) }
+        ensures answer { IfOk result (λ k. k ≡ keep_verdict now (asks_of self.old.stored.store.entries) ask.now audience.now token) }
+        ensures kept { (history : List CachedToken) → StandsFor self.old.tokens history → IfOk result (λ k. k ≡ Keeping.Kept → StandsFor self.new.tokens (history ++ cached_token_of ask.now audience.now token ∷ [])) }
         ensures refused { IfOk result (λ k. (k ≡ Keeping.Kept → ⊥) → self.new ≡ self.old) }
         ensures stored { self.new.stored ≡ self.old.stored }
         ensures err { OnErr result (self.new ≡ self.old) }

@@ -8,9 +8,9 @@ ghost use Rattle.wl_entry.specs.Entitled.{is_entitled};
 ghost use Rattle.wl_match.specs.Indexes.{entitled_places, items_at};
 ghost use Rattle.wl_document.specs.Checks.{Faults};
 ghost use Rattle.wl_document.specs.Documents.{document_state};
-ghost use Rattle.wl_store.specs.Stores.{flies};
-ghost use Rattle.wl_store.specs.Steps.{spending, AllTrusted};
-ghost use Rattle.wl_manager.specs.Managers.{begun};
+ghost use Rattle.wl_store.specs.Stores.{has_ticket};
+ghost use Rattle.wl_store.specs.Steps.{after_failed, AllTrusted};
+ghost use Rattle.wl_manager.specs.Managers.{first_managed};
 
 use jwt_cache::Tokens;
 use std::alloc::Global;
@@ -44,7 +44,7 @@ impl<V: Voucher> Manager<V> {
     /// A manager that begins with a document, in which neither SVID nor token is kept. Leaves are not judged in it. The
     /// first check of the document that fails is the fault.
     pub fn start(alloc: Global, document: &[u8]) -> Result<Manager<V>, DocFault>
-        ensures ok { IfOk result (λ m. IsOkAnd (document_state None document.now) (λ d. m ≡ begun false d)) }
+        ensures ok { IfOk result (λ m. IsOkAnd (document_state None document.now) (λ d. m ≡ first_managed false d)) }
         ensures fault { IfErr result (λ e. Faults e (document_state None document.now)) }
     {
         let store = Store::start(alloc, document)?;
@@ -57,7 +57,7 @@ impl<V: Voucher> Manager<V> {
     /// As `start`, and the store is strict for good: no SVID is kept whose leaf names another id than its ask's, or has
     /// other times.
     pub fn start_strict(alloc: Global, document: &[u8]) -> Result<Manager<V>, DocFault>
-        ensures ok { IfOk result (λ m. IsOkAnd (document_state None document.now) (λ d. m ≡ begun true d)) }
+        ensures ok { IfOk result (λ m. IsOkAnd (document_state None document.now) (λ d. m ≡ first_managed true d)) }
         ensures fault { IfErr result (λ e. Faults e (document_state None document.now)) }
     {
         let store = Store::start_strict(alloc, document)?;
@@ -96,7 +96,7 @@ impl<V: Voucher> Manager<V> {
 
     /// Whether a ticket of this number is in flight. It takes no memory.
     pub fn in_flight(&self, number: u64) -> bool
-        ensures { result ≡ list_any (λ f. f.number == number) self.now.stored.store.flying }
+        ensures { result ≡ list_any (λ f. f.number == number) self.now.stored.store.in_flight }
     {
         self.store.in_flight(number)
     }
@@ -104,8 +104,8 @@ impl<V: Voucher> Manager<V> {
     /// Takes back a ticket without an identity: it is in flight no more. Nothing changes where it was not in flight.
     /// It takes no memory.
     pub fn failed(&mut self, ticket: Ticket)
-        ensures left { flies ticket.number ticket.ask self.old.stored.store.flying ≡ true → self.new.stored ≡ spending ticket.number self.old.stored }
-        ensures other { flies ticket.number ticket.ask self.old.stored.store.flying ≡ false → self.new.stored ≡ self.old.stored }
+        ensures left { has_ticket ticket.number ticket.ask self.old.stored.store.in_flight ≡ true → self.new.stored ≡ after_failed ticket.number self.old.stored }
+        ensures other { has_ticket ticket.number ticket.ask self.old.stored.store.in_flight ≡ false → self.new.stored ≡ self.old.stored }
         ensures tokens { self.new.tokens ≡ self.old.tokens }
     {
         self.store.failed(ticket);

@@ -4,11 +4,11 @@ ghost use Rattle.std.specs.Prelude.{◌≡◌, [], List, true, false, Ok, None, 
 ghost use Rattle.wl_document.specs.Checks.{Faults};
 ghost use Rattle.wl_document.specs.Documents.{document_state};
 ghost use Rattle.jwt_cache.specs.Rings.{StandsFor};
-ghost use Rattle.jwt_cache.specs.declared.rings.Kept.{Kept};
+ghost use Rattle.jwt_cache.specs.declared.rings.CachedToken.{CachedToken};
 ghost use Rattle.wl_store.specs.Flights.{flights_of};
-ghost use Rattle.wl_store.specs.Steps.{keeping, change_to, synced_to, news, spending, AllTrusted};
-ghost use Rattle.wl_store.specs.Stores.{asks_of, claimed, claimed_asks, numbered, flies, install, landed};
-ghost use Rattle.wl_manager.specs.Keeps.{changed_ids, without_all, keeps_after};
+ghost use Rattle.wl_store.specs.Steps.{stored_after, change_to, after_sync, news, after_failed, AllTrusted};
+ghost use Rattle.wl_store.specs.Stores.{asks_of, after_claim, asks_to_claim, flights_from, has_ticket, install, after_signed};
+ghost use Rattle.wl_manager.specs.Tokens.{changed_ids, without_all, history_after};
 
 use crate::dropping::{changed_ids, forget_all};
 use crate::manager::Manager;
@@ -35,10 +35,10 @@ impl<V: Voucher> Prepared<V> {
         self.step.snapshot()
     }
 
-    /// Lets go of the step, and of its tickets.
-    pub fn let_go(self) {
+    /// Gives up the step and its tickets.
+    pub fn abandon(self) {
         let Prepared { step, dropped: _ } = self;
-        step.let_go();
+        step.abandon();
     }
 }
 
@@ -53,8 +53,8 @@ impl<V: Voucher> Manager<V> {
     /// Prepares the step that a document is read. Its own domain has to be the manager's. The tokens are to be dropped
     /// of each entry whose ask it changes or removes.
     pub fn prepare_sync(&self, alloc: Global, document: &[u8]) -> Result<Prepared<V>, DocFault>
-        ensures next { IfOk result (λ p. IsOkAnd (document_state (Some self.now.stored.published.domain) document.now) (λ d. p.step.next ≡ keeping (synced_to d self.now.stored) self.now.stored)) }
-        ensures answer { IfOk result (λ p. IsOkAnd (document_state (Some self.now.stored.published.domain) document.now) (λ d. p.step.answer ≡ record { change = change_to (synced_to d self.now.stored) self.now.stored; tickets = []; installed = None })) }
+        ensures next { IfOk result (λ p. IsOkAnd (document_state (Some self.now.stored.published.domain) document.now) (λ d. p.step.next ≡ stored_after (after_sync d self.now.stored) self.now.stored)) }
+        ensures answer { IfOk result (λ p. IsOkAnd (document_state (Some self.now.stored.published.domain) document.now) (λ d. p.step.answer ≡ record { change = change_to (after_sync d self.now.stored) self.now.stored; tickets = []; installed = None })) }
         ensures dropped { IfOk result (λ p. p.dropped ≡ changed_ids (asks_of self.now.stored.store.entries) (asks_of p.step.next.store.entries)) }
         ensures fault { IfErr result (λ e. Faults e (document_state (Some self.now.stored.published.domain) document.now)) }
     {
@@ -62,18 +62,18 @@ impl<V: Voucher> Manager<V> {
         match self.dropped_by(alloc, &step) {
             Ok(dropped) => Ok(Prepared { step, dropped }),
             Err(Memory) => {
-                step.let_go();
+                step.abandon();
                 Err(DocFault::Memory)
             }
         }
     }
 
-    /// Prepares a claim: what is over is let go, and there is one ticket, by ascending entry id, for each ask that is
+    /// Prepares a claim: what has expired is let go, and there is one ticket, by ascending entry id, for each ask that is
     /// due then and has none in flight.
     pub fn prepare_claim(&self, alloc: Global, now: u64) -> Result<Prepared<V>, Memory>
-        ensures next { IfOk result (λ p. p.step.next ≡ keeping (claimed now self.now.stored.store) self.now.stored) }
-        ensures change { IfOk result (λ p. p.step.answer.change ≡ change_to (claimed now self.now.stored.store) self.now.stored) }
-        ensures tickets { IfOk result (λ p. flights_of p.step.answer.tickets ≡ numbered self.now.stored.store.last (claimed_asks now self.now.stored.store)) }
+        ensures next { IfOk result (λ p. p.step.next ≡ stored_after (after_claim now self.now.stored.store) self.now.stored) }
+        ensures change { IfOk result (λ p. p.step.answer.change ≡ change_to (after_claim now self.now.stored.store) self.now.stored) }
+        ensures tickets { IfOk result (λ p. flights_of p.step.answer.tickets ≡ flights_from self.now.stored.store.last_ticket (asks_to_claim now self.now.stored.store)) }
         ensures installed { IfOk result (λ p. p.step.answer.installed ≡ None) }
         ensures dropped { IfOk result (λ p. p.dropped ≡ []) }
     {
@@ -95,12 +95,12 @@ impl<V: Voucher> Manager<V> {
         requires { V.signed ticket.now.ask signed.now }
 
         // A ticket that is not in flight changes nothing.
-        ensures spent { flies ticket.now.number ticket.now.ask self.now.stored.store.flying ≡ false → IfOk result (λ p. (p.step.next ≡ self.now.stored) × (p.step.answer.change ≡ Change.Same) × (p.step.answer.installed ≡ Some Installed.Spent)) }
+        ensures spent { has_ticket ticket.now.number ticket.now.ask self.now.stored.store.in_flight ≡ false → IfOk result (λ p. (p.step.next ≡ self.now.stored) × (p.step.answer.change ≡ Change.Same) × (p.step.answer.installed ≡ Some Installed.Spent)) }
 
         // The ticket leaves, and the answer is that of Install.
-        ensures next { flies ticket.now.number ticket.now.ask self.now.stored.store.flying ≡ true → IfOk result (λ p. p.step.next ≡ keeping (landed now ticket.now.number ticket.now.ask signed.now self.now.stored.store) self.now.stored) }
-        ensures change { flies ticket.now.number ticket.now.ask self.now.stored.store.flying ≡ true → IfOk result (λ p. p.step.answer.change ≡ change_to (landed now ticket.now.number ticket.now.ask signed.now self.now.stored.store) self.now.stored) }
-        ensures installed { flies ticket.now.number ticket.now.ask self.now.stored.store.flying ≡ true → IfOk result (λ p. p.step.answer.installed ≡ Some (install now ticket.now.ask signed.now self.now.stored.store)) }
+        ensures next { has_ticket ticket.now.number ticket.now.ask self.now.stored.store.in_flight ≡ true → IfOk result (λ p. p.step.next ≡ stored_after (after_signed now ticket.now.number ticket.now.ask signed.now self.now.stored.store) self.now.stored) }
+        ensures change { has_ticket ticket.now.number ticket.now.ask self.now.stored.store.in_flight ≡ true → IfOk result (λ p. p.step.answer.change ≡ change_to (after_signed now ticket.now.number ticket.now.ask signed.now self.now.stored.store) self.now.stored) }
+        ensures installed { has_ticket ticket.now.number ticket.now.ask self.now.stored.store.in_flight ≡ true → IfOk result (λ p. p.step.answer.installed ≡ Some (install now ticket.now.ask signed.now self.now.stored.store)) }
         ensures tickets { IfOk result (λ p. p.step.answer.tickets ≡ []) }
         ensures dropped { IfOk result (λ p. p.dropped ≡ []) }
     {
@@ -114,7 +114,7 @@ impl<V: Voucher> Manager<V> {
     /// Takes a prepared step. The manager has to be as it was when the step was prepared. It takes no memory.
     pub fn adopt(&mut self, prepared: Prepared<V>) -> Adopted
         ensures stored { self.new.stored ≡ prepared.step.next }
-        ensures keeps { (keeps : List Kept) → StandsFor self.old.tokens keeps → StandsFor self.new.tokens (without_all prepared.dropped keeps) }
+        ensures history { (history : List CachedToken) → StandsFor self.old.tokens history → StandsFor self.new.tokens (without_all prepared.dropped history) }
         ensures tokens { prepared.dropped ≡ [] → self.new.tokens ≡ self.old.tokens }
         ensures answer { result ≡ prepared.step.answer }
     {
@@ -127,9 +127,9 @@ impl<V: Voucher> Manager<V> {
     /// removed. Its own domain has to be the manager's. The first check that fails is the fault, and nothing changes
     /// then.
     pub fn sync(&mut self, alloc: Global, document: &[u8]) -> Result<Change, DocFault>
-        ensures ok { OnOk result (IsOkAnd (document_state (Some self.old.stored.published.domain) document.now) (λ d. self.new.stored ≡ keeping (synced_to d self.old.stored) self.old.stored)) }
-        ensures keeps { (keeps : List Kept) → StandsFor self.old.tokens keeps → OnOk result (StandsFor self.new.tokens (keeps_after self.old.stored.store.entries self.new.stored.store.entries keeps)) }
-        ensures change { IfOk result (λ c. IsOkAnd (document_state (Some self.old.stored.published.domain) document.now) (λ d. c ≡ change_to (synced_to d self.old.stored) self.old.stored)) }
+        ensures ok { OnOk result (IsOkAnd (document_state (Some self.old.stored.published.domain) document.now) (λ d. self.new.stored ≡ stored_after (after_sync d self.old.stored) self.old.stored)) }
+        ensures history { (history : List CachedToken) → StandsFor self.old.tokens history → OnOk result (StandsFor self.new.tokens (history_after self.old.stored.store.entries self.new.stored.store.entries history)) }
+        ensures change { IfOk result (λ c. IsOkAnd (document_state (Some self.old.stored.published.domain) document.now) (λ d. c ≡ change_to (after_sync d self.old.stored) self.old.stored)) }
         ensures fault { IfErr result (λ e. Faults e (document_state (Some self.old.stored.published.domain) document.now)) }
         ensures err { OnErr result (self.new ≡ self.old) }
     {
@@ -137,19 +137,19 @@ impl<V: Voucher> Manager<V> {
             Ok(prepared) => {
                 let answer = self.adopt(prepared);
                 let change = answer.change;
-                answer.let_go();
+                answer.abandon();
                 Ok(change)
             }
             Err(fault) => Err(fault),
         }
     }
 
-    /// Lets go of what is over, and gives one ticket, by ascending entry id, for each ask that is due then and has none
+    /// Lets go of what has expired, and gives one ticket, by ascending entry id, for each ask that is due then and has none
     /// in flight.
     pub fn claim(&mut self, alloc: Global, now: u64) -> Result<Claim, Memory>
-        ensures ok { OnOk result (self.new.stored ≡ keeping (claimed now self.old.stored.store) self.old.stored) }
-        ensures swept { IfOk result (λ c. c.swept ≡ change_to (claimed now self.old.stored.store) self.old.stored) }
-        ensures tickets { IfOk result (λ c. flights_of c.tickets ≡ numbered self.old.stored.store.last (claimed_asks now self.old.stored.store)) }
+        ensures ok { OnOk result (self.new.stored ≡ stored_after (after_claim now self.old.stored.store) self.old.stored) }
+        ensures swept { IfOk result (λ c. c.swept ≡ change_to (after_claim now self.old.stored.store) self.old.stored) }
+        ensures tickets { IfOk result (λ c. flights_of c.tickets ≡ flights_from self.old.stored.store.last_ticket (asks_to_claim now self.old.stored.store)) }
         ensures tokens { self.new.tokens ≡ self.old.tokens }
         ensures err { OnErr result (self.new ≡ self.old) }
     {
@@ -157,7 +157,7 @@ impl<V: Voucher> Manager<V> {
     }
 
     /// Takes a ticket back with a signed identity, which has to be vouched for the ticket's ask, and tells what became
-    /// of it. The ticket is spent in each case; on want of memory nothing else changes.
+    /// of it. The ticket is spent in each case; if memory runs out nothing else changes.
     pub fn signed(
         &mut self,
         alloc: Global,
@@ -168,13 +168,13 @@ impl<V: Voucher> Manager<V> {
         requires { V.signed ticket.ask signed }
 
         // A ticket that is not in flight changes nothing.
-        ensures spent { flies ticket.number ticket.ask self.old.stored.store.flying ≡ false → (result ≡ Ok Installed.Spent) × (self.new ≡ self.old) }
+        ensures spent { has_ticket ticket.number ticket.ask self.old.stored.store.in_flight ≡ false → (result ≡ Ok Installed.Spent) × (self.new ≡ self.old) }
 
         // The ticket leaves, and the answer is that of Install.
-        ensures ok { flies ticket.number ticket.ask self.old.stored.store.flying ≡ true → OnOk result (self.new.stored ≡ keeping (landed now ticket.number ticket.ask signed self.old.stored.store) self.old.stored) }
-        ensures installed { flies ticket.number ticket.ask self.old.stored.store.flying ≡ true → IfOk result (λ i. i ≡ install now ticket.ask signed self.old.stored.store) }
+        ensures ok { has_ticket ticket.number ticket.ask self.old.stored.store.in_flight ≡ true → OnOk result (self.new.stored ≡ stored_after (after_signed now ticket.number ticket.ask signed self.old.stored.store) self.old.stored) }
+        ensures installed { has_ticket ticket.number ticket.ask self.old.stored.store.in_flight ≡ true → IfOk result (λ i. i ≡ install now ticket.ask signed self.old.stored.store) }
         ensures tokens { self.new.tokens ≡ self.old.tokens }
-        ensures err { OnErr result (self.new.stored ≡ spending ticket.number self.old.stored) }
+        ensures err { OnErr result (self.new.stored ≡ after_failed ticket.number self.old.stored) }
     {
         self.store.signed(alloc, ticket, signed, now)
     }

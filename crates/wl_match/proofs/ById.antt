@@ -10,7 +10,7 @@ use Rattle.std.proofs.lemmas.Map.Text.{is_eq-slice_cmp}
 use Rattle.std.proofs.lemmas.List.{take_more, take-append-drop}
 use Rattle.std.proofs.Math.Seq.{drop-cons}
 use Rattle.list_laws.specs.Lists.{Rises}
-use Rattle.sorted_lists.proofs.Halving.{parts_of}
+use Rattle.list_laws.proofs.Keys.{parts_of}
 use Rattle.wl_entry.specs.Keys.{entry_key}
 use Rattle.wl_entry.specs.declared.entries.Entry.{Entry}
 use Rattle.wl_match.specs.declared.changes.Change.{Change}

@@ -11,7 +11,7 @@ use Rattle.std.proofs.lemmas.List.Elements.{filter-append}
 use Rattle.std.proofs.lemmas.Map.Text.{is_eq-slice_cmp}
 use Rattle.std.specs.List.Sorted.{IsStrictlySortedBy}
 use Rattle.list_laws.specs.Lists.{Rises}
-use Rattle.sorted_lists.specs.Keys.{item_at}
+use Rattle.list_laws.specs.Keys.{item_at}
 use Rattle.wl_entry.specs.Keys.{entry_key}
 use Rattle.wl_entry.specs.declared.entries.Entry.{Entry}
 use Rattle.wl_match.specs.declared.postings.Posting.{Posting}

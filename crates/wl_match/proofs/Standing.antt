@@ -6,8 +6,8 @@ use Rattle.std.specs.List.Sorted.{IsStrictlySortedBy}
 use Rattle.std.specs.Cmp.Lexicographic.{bytes_decides}
 use Rattle.std.proofs.lemmas.Bool.Decides.{nat_tests}
 use Rattle.list_laws.specs.Lists.{Rises}
-use Rattle.sorted_lists.specs.Keys.{place_at}
-use Rattle.sorted_lists.proofs.Halving.{order, not_same, turned}
+use Rattle.list_laws.specs.Keys.{place_at}
+use Rattle.list_laws.proofs.Order.{order, not_same, turned}
 use Rattle.wl_entry.specs.Keys.{entry_key}
 use Rattle.wl_entry.specs.declared.entries.Entry.{Entry}
 

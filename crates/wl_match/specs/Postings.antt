@@ -3,7 +3,7 @@
 use Rattle.std.specs.Prelude.{◌≡◌, ℕ, ◌<◌, ◌^◌, ◌&&◌, Bool, false, List, [], ◌∷◌, map, filter, length, Option, Some, None}
 use Rattle.std.specs.Str.{bytes_eq}
 use Rattle.list_laws.specs.Lists.{Rises}
-use Rattle.sorted_lists.specs.Keys.{item_at}
+use Rattle.list_laws.specs.Keys.{item_at}
 use Rattle.wl_selector.specs.Selectors.{has_text}
 use Rattle.wl_entry.specs.Keys.{entry_key}
 use Rattle.wl_entry.specs.declared.entries.Entry.{Entry}

@@ -37,7 +37,7 @@ fn put(alloc: Global, entries: &mut ById, entry: &Shared<Entry>) -> Result<(), M
 }
 
 /// The entries by id.
-fn keyed(alloc: Global, entries: &[Shared<Entry>]) -> Result<ById, Memory>
+fn entries_by_id(alloc: Global, entries: &[Shared<Entry>]) -> Result<ById, Memory>
     requires { Rises (map entry_key entries.now) }
     ensures { IfOk result (λ m. m.entries ≡ by_id entries.now) }
 {
@@ -72,7 +72,7 @@ fn make_all(alloc: Global, entries: &mut ById, changes: &[Change]) -> Result<(),
 }
 
 /// The entries, by ascending id.
-fn listed(alloc: Global, entries: ById) -> Result<Vec<Shared<Entry>>, Memory>
+fn entries_in_order(alloc: Global, entries: ById) -> Result<Vec<Shared<Entry>>, Memory>
     ensures value { IfOk result (λ v. v.items ≡ values_of entries.entries) }
     ensures ordered { IsStrictlySortedBy (slice_cmp nat_cmp) (keys_of entries.entries) }
 {
@@ -94,8 +94,8 @@ pub fn changed_list(
     ensures rises { IfOk result (λ v. Rises (map entry_key v.items)) }
     ensures few { IfOk result (λ v. length v.items ≤ length entries.now + length changes.now) }
 {
-    let mut all = keyed(alloc, entries)?;
+    let mut all = entries_by_id(alloc, entries)?;
     make_all(alloc, &mut all, changes)?;
-    let list = listed(alloc, all)?;
+    let list = entries_in_order(alloc, all)?;
     Ok(list)
 }

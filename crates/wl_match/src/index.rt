@@ -17,7 +17,7 @@ use crate::postings::{Posting, post};
 use std::alloc::Global;
 use std::marker::Model;
 use wl_entry::Entry;
-use wl_octets::{Memory, Row, Shared};
+use wl_octets::{Memory, Row, Shared, share_all};
 use wl_selector::Selectors;
 
 /// Entries by ascending id, and what is needed to find those to which a caller is entitled.
@@ -39,19 +39,8 @@ impl Model for Index {
     ghost invariant = { λ i. IsIndex i.entries.items i.postings.items };
 }
 
-/// The same entries, shared.
-fn share_all(alloc: Global, entries: &[Shared<Entry>]) -> Result<Vec<Shared<Entry>>, Memory>
-    ensures { IfOk result (λ v. v.items ≡ entries.now) }
-{
-    let mut shares = Vec::with_capacity(alloc, entries.len())?;
-    for entry in entries {
-        shares.push(entry.share()?)?;
-    }
-    Ok(shares)
-}
-
 /// The index of these entries, sharing those of these postings that did not change.
-fn indexed(
+fn index_with(
     alloc: Global,
     entries: Vec<Shared<Entry>>,
     old: &[Shared<Posting>],
@@ -72,7 +61,7 @@ impl Index {
         requires few { length entries.now < 2 ^ 32 }
         ensures { IfOk result (λ index. index ≡ entries.now) }
     {
-        let index = indexed(alloc, share_all(alloc, entries)?, &[])?;
+        let index = index_with(alloc, share_all(alloc, entries)?.into_vec(), &[])?;
         Ok(index)
     }
 
@@ -82,7 +71,7 @@ impl Index {
         requires few { length entries.now < 2 ^ 32 }
         ensures { IfOk result (λ index. index ≡ entries.now) }
     {
-        let index = indexed(alloc, share_all(alloc, entries)?, self.postings.as_slice())?;
+        let index = index_with(alloc, share_all(alloc, entries)?.into_vec(), self.postings.as_slice())?;
         Ok(index)
     }
 
@@ -113,11 +102,11 @@ impl Index {
         ensures { IfOk result (λ index. index ≡ changed_entries changes.now self.now) }
     {
         let entries = changed_list(alloc, self.entries.as_slice(), changes)?;
-        let index = indexed(alloc, entries, self.postings.as_slice())?;
+        let index = index_with(alloc, entries, self.postings.as_slice())?;
         Ok(index)
     }
 
-    /// Changes the entries, in turn. On want of memory the index is as it was.
+    /// Changes the entries, in turn. If memory runs out the index is as it was.
     pub fn change(&mut self, alloc: Global, changes: &[Change]) -> Result<(), Memory>
         requires { length self.old + length changes.now < 2 ^ 32 }
         ensures ok { OnOk result (self.new ≡ changed_entries changes.now self.old) }

@@ -57,7 +57,7 @@ fn gather(
 
 /// The places of the entries to which the caller is entitled, among what is filed under the caller's selectors or
 /// under none.
-fn gathered(
+fn gather_all(
     alloc: Global,
     entries: &[Shared<Entry>],
     postings: &[Shared<Posting>],
@@ -78,7 +78,7 @@ fn gathered(
 }
 
 /// The places, in their order.
-fn listed(alloc: Global, places: BTreeSet<u32>) -> Result<Vec<u32>, Memory>
+fn places_in_order(alloc: Global, places: BTreeSet<u32>) -> Result<Vec<u32>, Memory>
     ensures value { IfOk result (λ v. v.items ≡ places.keys) }
     ensures ordered { IfOk result (λ v. IsStrictlySortedBy nat_cmp v.items) }
 {
@@ -95,7 +95,7 @@ pub fn entitled_in(
     requires { IsIndex entries.now postings.now }
     ensures { IfOk result (λ places. places ≡ entitled_places selectors.now entries.now) }
 {
-    let places = gathered(alloc, entries, postings, selectors)?;
-    let list = listed(alloc, places)?;
+    let places = gather_all(alloc, entries, postings, selectors)?;
+    let list = places_in_order(alloc, places)?;
     Ok(Row::from_vec(list))
 }

@@ -59,7 +59,7 @@ fn file(
 }
 
 /// The ids of the entries, by the selector under which each is filed.
-fn filed(alloc: Global, entries: &[Shared<Entry>]) -> Result<BTreeMap<Octets, Row<Octets>>, Memory>
+fn file_all(alloc: Global, entries: &[Shared<Entry>]) -> Result<BTreeMap<Octets, Row<Octets>>, Memory>
     ensures { IfOk result (λ groups. (q : List ℕ) → unwrap_or (btree.get (slice_cmp nat_cmp) groups q) [] ≡ ids_under q entries.now) }
 {
     let mut groups = BTreeMap::new(alloc);
@@ -70,7 +70,7 @@ fn filed(alloc: Global, entries: &[Shared<Entry>]) -> Result<BTreeMap<Octets, Ro
 }
 
 /// A posting to share: one of these, where it is among them.
-fn shared(alloc: Global, fresh: Posting, old: &[Shared<Posting>]) -> Result<Shared<Posting>, Memory>
+fn share_posting(alloc: Global, fresh: Posting, old: &[Shared<Posting>]) -> Result<Shared<Posting>, Memory>
     requires { Rises (map posting_key old.now) }
     ensures { IfOk result (λ p. p ≡ fresh) }
 {
@@ -83,7 +83,7 @@ fn shared(alloc: Global, fresh: Posting, old: &[Shared<Posting>]) -> Result<Shar
 }
 
 /// The postings of what is filed, by ascending selector, sharing those of these that did not change.
-fn posted(
+fn make_postings(
     alloc: Global,
     groups: BTreeMap<Octets, Row<Octets>>,
     old: &[Shared<Posting>],
@@ -94,7 +94,7 @@ fn posted(
 {
     let mut postings = Vec::new(alloc);
     for (selector, ids) in groups {
-        postings.push(shared(alloc, Posting { selector, ids }, old)?)?;
+        postings.push(share_posting(alloc, Posting { selector, ids }, old)?)?;
     }
     Ok(postings)
 }
@@ -109,8 +109,8 @@ pub fn post(
     ensures keys { IfOk result (λ postings. Rises (map posting_key postings.items)) }
     ensures filed { IfOk result (λ postings. (q : List ℕ) → ids_at postings.items q ≡ ids_under q entries.now) }
 {
-    let groups = filed(alloc, entries)?;
-    let postings = posted(alloc, groups, old)?;
+    let groups = file_all(alloc, entries)?;
+    let postings = make_postings(alloc, groups, old)?;
     Ok(postings)
 }
 

@@ -29,7 +29,7 @@ fn entry(alloc: Global, id: &[u8], texts: &[&[u8]]) -> Result<Shared<Entry>, Fai
         hint: Octets::empty(alloc),
     };
     match Shared::new(alloc, entry) {
-        Ok(shared) => Ok(shared),
+        Ok(share_posting) => Ok(share_posting),
         Err((_, Memory)) => Err(Fail::from("no memory")),
     }
 }

@@ -1,4 +1,5 @@
 pub mod Choices
 pub mod Sights
+pub mod Equalities
 mod Writing
 mod Marking

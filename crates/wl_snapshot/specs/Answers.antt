@@ -2,6 +2,7 @@
 use Rattle.std.specs.Prelude.{ℕ, ◌<◌, ◌≤◌, ◌==◌, Bool, true, false, not, nat_lt, if◌then◌else◌, List, [], ◌∷◌, ◌++◌, length, filter, map, codes, Option, Some, None}
 use Rattle.std.specs.Str.{bytes_eq}
 use Rattle.std.specs.List.{flat_map}
+use Rattle.grpc_wire.specs.Messages.{framed}
 use Rattle.workload_proto.specs.declared.message.X509Response.{X509Response}
 use Rattle.workload_proto.specs.declared.message.X509Item.{X509Item}
 use Rattle.workload_proto.specs.declared.message.MapItem.{MapItem}
@@ -15,12 +16,12 @@ use Rattle.wl_entry.specs.declared.entries.Entry.{Entry}
 use Rattle.wl_entry.specs.declared.signing.Svid.{Svid}
 use Rattle.wl_entry.specs.declared.bundles.Bundle.{Bundle}
 use Rattle.wl_snapshot.specs.Views.{Sight, is_whole}
-use Rattle.wl_snapshot.specs.declared.seen.Held.{Held}
+use Rattle.wl_snapshot.specs.declared.views.Held.{Held}
 use Rattle.wl_snapshot.specs.declared.answers.Answer.{Answer}
 use Rattle.wl_snapshot.specs.declared.answers.Answer.TheVariants.{Denied, Wait, TooLong, Message}
 use Rattle.wl_snapshot.specs.declared.answers.Method3.{Method3}
 use Rattle.wl_snapshot.specs.declared.answers.Method3.TheVariants.{X509Svid, X509Bundles, JwtBundles}
-use Rattle.wl_snapshot.specs.declared.wanted.Wanted.{Wanted}
+use Rattle.wl_snapshot.specs.declared.token_asks.Wanted.{Wanted}
 
 -- ---- the messages
 
@@ -92,6 +93,20 @@ IsShort Denied = Unit {0}
 IsShort Wait = Unit {0}
 IsShort (TooLong n) = 4194304 < n
 IsShort (Message m) = length m ≤ 4194304
+
+-- the same answer, with a message after its gRPC prefix
+abbrev pub with_prefix : Answer → Answer
+with_prefix Denied = Denied
+with_prefix Wait = Wait
+with_prefix (TooLong n) = TooLong n
+with_prefix (Message m) = Message (framed m)
+
+-- a message after its prefix of five bytes is within its limit
+abbrev pub IsFramed : Answer → Type 0
+IsFramed Denied = Unit {0}
+IsFramed Wait = Unit {0}
+IsFramed (TooLong n) = 4194304 < n
+IsFramed (Message m) = (5 ≤ length m) × (length m ≤ 4194309)
 
 -- ---- the tokens that a FetchJWTSVID call asks for
 

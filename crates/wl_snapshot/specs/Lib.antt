@@ -1,3 +1,4 @@
 pub mod Snapshots
 pub mod Views
+pub mod Same
 pub mod Answers

@@ -12,7 +12,7 @@ use Rattle.wl_entry.specs.declared.entries.Entry.{Entry}
 use Rattle.wl_entry.specs.declared.signing.Svid.{Svid}
 use Rattle.wl_entry.specs.declared.bundles.Bundle.{Bundle}
 use Rattle.wl_snapshot.specs.Snapshots.{Publication}
-use Rattle.wl_snapshot.specs.declared.seen.Held.{Held}
+use Rattle.wl_snapshot.specs.declared.views.Held.{Held}
 
 -- what a caller sees: the own domain, the entries to which it is entitled, each with its SVID, and bundles
 pub record Sight : Type 0 where

@@ -5,20 +5,20 @@
 //! for. Nothing here keeps a state: a view and an answer are functions of one publication.
 #![tactic(auto)]
 
-mod answering;
+mod answer_call;
 mod answers;
+mod make_view;
 mod messages;
-mod seen;
+mod sameness;
 mod sizes;
 mod snapshot;
-mod viewing;
-mod wanted;
-mod wanting;
+mod token_asks;
+mod views;
 
-pub use answering::answer;
+pub use answer_call::{answer, framed_answer};
 pub use answers::{Answer, Method3};
-pub use seen::{Held, View};
+pub use make_view::{view, view_of};
+pub use sameness::same_view;
 pub use snapshot::Snapshot;
-pub use viewing::{view, view_of};
-pub use wanted::Wanted;
-pub use wanting::jwt_asks;
+pub use token_asks::{Wanted, jwt_asks};
+pub use views::{Held, View};

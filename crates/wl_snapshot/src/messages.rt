@@ -6,7 +6,7 @@ ghost use Rattle.workload_proto.specs.Spelling.{x509_field, map_field, spell_x50
 ghost use Rattle.wl_snapshot.specs.Answers.{x509_bundle, x509_items, federated_item, map_item, x509_map_item, jwks_map_item, x509_message, message_of};
 
 use crate::answers::Method3;
-use crate::seen::{Held, View};
+use crate::views::{Held, View};
 use std::alloc::Global;
 use wl_entry::Bundle;
 use sorted_lists::find_by_key;

@@ -9,7 +9,7 @@ ghost use Rattle.wl_snapshot.specs.declared.answers.Method3.TheVariants as Metho
 
 use crate::answers::Method3;
 use crate::messages::own_bundle;
-use crate::seen::{Held, View};
+use crate::views::{Held, View};
 use wl_entry::Bundle;
 use wl_octets::Shared;
 use workload_proto::{map_item_size, x509_item_size};

@@ -12,12 +12,12 @@ use Rattle.std.proofs.lemmas.Map.Text.{is_eq-slice_cmp}
 use Rattle.wl_entry.specs.Same.{same_ask}
 use Rattle.wl_entry.specs.declared.asks.Ask.{Ask}
 use Rattle.wl_store.specs.declared.tickets.Flight.{Flight}
-use Rattle.wl_store.specs.Stores.{is_flying}
-use Rattle.wl_store.specs.Groups.{flown, asks_under}
+use Rattle.wl_store.specs.Stores.{is_in_flight}
+use Rattle.wl_store.specs.Groups.{flight_ask, asks_under}
 
 -- ---- one more flight
 
-one_by : (b : Bool) (f : Flight) → map flown (cond b (f ∷ []) []) ≡ cond b (f.ask ∷ []) []
+one_by : (b : Bool) (f : Flight) → map flight_ask (cond b (f ∷ []) []) ≡ cond b (f.ask ∷ []) []
 one_by true f = refl
 one_by false f = refl
 
@@ -27,8 +27,8 @@ asks_one q f = one_by (bytes_eq f.ask.entry_id q) f
 
 asks_under-append : (q : List ℕ) (xs ys : List Flight) → asks_under q (xs ++ ys) ≡ asks_under q xs ++ asks_under q ys
 unfolding asks_under
-asks_under-append q xs ys = ap (map flown) (filter-append (λ f. bytes_eq f.ask.entry_id q) xs ys)
-    ∙ map-append flown (filter (λ f. bytes_eq f.ask.entry_id q) xs) (filter (λ f. bytes_eq f.ask.entry_id q) ys)
+asks_under-append q xs ys = ap (map flight_ask) (filter-append (λ f. bytes_eq f.ask.entry_id q) xs ys)
+    ∙ map-append flight_ask (filter (λ f. bytes_eq f.ask.entry_id q) xs) (filter (λ f. bytes_eq f.ask.entry_id q) ys)
 
 pub asks_more : (q : List ℕ) (xs : List Flight) (i : ℕ) (f : Flight) → i < length xs → f ≡ get_or xs i f → asks_under q (take (i + 1) xs) ≡ asks_under q (take i xs) ++ asks_under q (f ∷ [])
 asks_more q xs i f lt is = ap (asks_under q) (take_more xs i f lt ∙ ap (λ (x : Flight). take i xs ++ x ∷ []) (sym is)) ∙ asks_under-append q (take i xs) (f ∷ [])
@@ -54,19 +54,19 @@ group_step f q es mid new m n =
 
 -- ---- an ask is the same as none of another entry's
 
-flying_by : (b : Bool) (a : Ask) (f : Flight) (fs : List Flight) (rest : Bool) → bytes_eq f.ask.entry_id a.entry_id ≡ b → list_any (λ x. same_ask x a) (map flown fs) ≡ rest
-    → list_any (λ x. same_ask x a) (map flown (cond b (f ∷ fs) fs)) ≡ (same_ask f.ask a || rest)
-flying_by true a f fs rest is h = ap (λ (r : Bool). same_ask f.ask a || r) h
-flying_by false a f fs rest is h = h ∙ ap (λ (b : Bool). (b && (bytes_eq f.ask.spiffe_id a.spiffe_id && (pointwise bytes_eq f.ask.dns_names a.dns_names && (f.ask.ttl == a.ttl)))) || rest) (sym is)
+in_flight_by : (b : Bool) (a : Ask) (f : Flight) (fs : List Flight) (rest : Bool) → bytes_eq f.ask.entry_id a.entry_id ≡ b → list_any (λ x. same_ask x a) (map flight_ask fs) ≡ rest
+    → list_any (λ x. same_ask x a) (map flight_ask (cond b (f ∷ fs) fs)) ≡ (same_ask f.ask a || rest)
+in_flight_by true a f fs rest is h = ap (λ (r : Bool). same_ask f.ask a || r) h
+in_flight_by false a f fs rest is h = h ∙ ap (λ (b : Bool). (b && (bytes_eq f.ask.spiffe_id a.spiffe_id && (pointwise bytes_eq f.ask.dns_names a.dns_names && (f.ask.ttl == a.ttl)))) || rest) (sym is)
 
-pub flying_under : (a : Ask) (flying : List Flight) → list_any (λ x. same_ask x a) (asks_under a.entry_id flying) ≡ is_flying flying a
+pub in_flight_under : (a : Ask) (in_flight : List Flight) → list_any (λ x. same_ask x a) (asks_under a.entry_id in_flight) ≡ is_in_flight in_flight a
 unfolding asks_under
-flying_under a [] = refl
-flying_under a (f ∷ fs) = flying_by (bytes_eq f.ask.entry_id a.entry_id) a f (filter (λ g. bytes_eq g.ask.entry_id a.entry_id) fs) (is_flying fs a) refl (flying_under a fs)
+in_flight_under a [] = refl
+in_flight_under a (f ∷ fs) = in_flight_by (bytes_eq f.ask.entry_id a.entry_id) a f (filter (λ g. bytes_eq g.ask.entry_id a.entry_id) fs) (is_in_flight fs a) refl (in_flight_under a fs)
 
 -- the asks that have no ticket in flight, one ask further
-pub grounded_more : (flying : List Flight) (asks : List Ask) (i : ℕ) (a : Ask) (flies : Bool) → i < length asks → a ≡ get_or asks i a → is_flying flying a ≡ flies
-    → filter (λ x. not (is_flying flying x)) (take i asks) ++ cond (not flies) (a ∷ []) [] ≡ filter (λ x. not (is_flying flying x)) (take (i + 1) asks)
-grounded_more flying asks i a flies lt is told =
-    let left : Ask → Bool = (λ x. not (is_flying flying x)) in
+pub without_in_flight_more : (in_flight : List Flight) (asks : List Ask) (i : ℕ) (a : Ask) (has_ticket : Bool) → i < length asks → a ≡ get_or asks i a → is_in_flight in_flight a ≡ has_ticket
+    → filter (λ x. not (is_in_flight in_flight x)) (take i asks) ++ cond (not has_ticket) (a ∷ []) [] ≡ filter (λ x. not (is_in_flight in_flight x)) (take (i + 1) asks)
+without_in_flight_more in_flight asks i a has_ticket lt is told =
+    let left : Ask → Bool = (λ x. not (is_in_flight in_flight x)) in
     sym (ap (filter left) (take_more asks i a lt ∙ ap (λ (x : Ask). take i asks ++ x ∷ []) (sym is)) ∙ filter-append left (take i asks) (a ∷ []) ∙ ap (λ (b : Bool). filter left (take i asks) ++ cond (not b) (a ∷ []) []) told)

@@ -4,8 +4,8 @@ use Rattle.std.specs.Str.{bytes_eq}
 use Rattle.std.specs.List.Sorted.{IsStrictlySortedBy}
 use Rattle.std.proofs.Common.{arith, refl, sym, ◌∙◌, ap}
 use Rattle.list_laws.specs.Lists.{Rises}
-use Rattle.sorted_lists.specs.Keys.{item_at}
-use Rattle.sorted_lists.proofs.Chosen.{all_such}
+use Rattle.list_laws.specs.Keys.{item_at}
+use Rattle.list_laws.proofs.Elements.{all_such}
 use Rattle.wl_entry.specs.Asks.{ask_of, is_ask_of}
 use Rattle.wl_entry.specs.Keys.{entry_key}
 use Rattle.wl_entry.specs.Same.{same_ask}

@@ -6,7 +6,7 @@ use Rattle.std.specs.Ordering.{nat_cmp, is_lt}
 use Rattle.std.specs.Cmp.Lexicographic.{slice_cmp}
 use Rattle.std.proofs.lemmas.Slice.Eq.{bytes_eq-Decides}
 use Rattle.std.proofs.lemmas.Bool.Decides.{nat_tests}
-use Rattle.sorted_lists.proofs.Found.{level_self}
+use Rattle.list_laws.proofs.Order.{level_self}
 use Rattle.wl_entry.specs.Fitness.{signed_unfit}
 use Rattle.wl_entry.specs.declared.unfit.Unfit.{Unfit}
 use Rattle.svid_cache.specs.Caches as caches
@@ -15,30 +15,32 @@ use Rattle.svid_cache.specs.declared.install.Installed.TheVariants as installed
 use Rattle.std.specs.Cmp.Lexicographic.{pointwise}
 use Rattle.std.proofs.Common.{arith, refl, sym, ◌∙◌, ap, subst}
 use Rattle.wl_entry.specs.Same.{same_ask, same_entry, same_svid, same_bundle}
-use Rattle.sorted_lists.proofs.Chosen.{all_filter, length_filter}
+use Rattle.list_laws.proofs.Elements.{all_filter, length_filter}
 use Rattle.wl_entry.specs.declared.asks.Ask.{Ask}
 use Rattle.wl_entry.specs.declared.signing.Signed.{Signed}
 use Rattle.wl_entry.specs.declared.entries.Entry.{Entry}
 use Rattle.wl_entry.specs.declared.bundles.Bundle.{Bundle}
 use Rattle.wl_entry.specs.declared.signing.Svid.{Svid}
 use Rattle.wl_snapshot.specs.Snapshots.{Publication}
-use Rattle.wl_store.specs.Stores.{Store, asks_of, cached_of, refused, install, svids_after, as_unfit, leaf_judged, shows, shows_parts, publish}
-use Rattle.svid_cache.specs.Caches.{Cached, is_listed, kept_for, put, is_below, is_above, unless_older, unless_unfit}
+use Rattle.wl_store.specs.Stores.{Store, asks_of, cached_of, refusal, install, svids_after, as_unfit, leaf_judged, shows, shows_parts, publish}
+use Rattle.svid_cache.specs.Caches.{Cached, is_listed, kept_for, with_svid, is_below, is_above, unless_older, unless_unfit}
 use Rattle.wl_store.specs.declared.tickets.Change.TheVariants as change
-use Rattle.wl_store.specs.Steps.{Stored, keeping, stored, change_to, cached_in, Trusted, AllTrusted, is_refused, Lands}
-use Rattle.wl_store.proofs.Sames.{both, entries_are, svids_are, bundles_are, ask_self, shows_itself}
+use Rattle.wl_store.specs.Steps.{Stored, stored_after, stored_of, change_to, cached_in, Trusted, AllTrusted, is_refused, IsInstalled}
+use Rattle.std.proofs.lemmas.Bool.{and_parts}
+use Rattle.wl_entry.proofs.Sames.{entries_are, svids_are, bundles_are, ask_self}
+use Rattle.wl_store.proofs.Sames.{shows_itself}
 
 -- where the last publication shows what is kept
-pub settled_same : (s : Store) (m : Stored) → shows_parts m.published s.entries s.svids s.bundles ≡ true → stored s.strict m.published s.flying s.last ≡ keeping s m
+pub settled_same : (s : Store) (m : Stored) → shows_parts m.published s.entries s.svids s.bundles ≡ true → stored s.strict m.published s.in_flight s.last_ticket ≡ stored_after s m
 unfolding shows
 settled_same s m is =
-    let entries = both (pointwise same_entry m.published.entries s.entries) _ is in
-    let parts = both (pointwise same_svid m.published.svids s.svids) (pointwise same_bundle m.published.bundles s.bundles) entries.1 in
-    (λ i. record { store = record { strict = s.strict; entries = entries_are m.published.entries s.entries entries.0 i; bundles = bundles_are m.published.bundles s.bundles parts.1 i; svids = svids_are m.published.svids s.svids parts.0 i; flying = s.flying; last = s.last }; published = m.published })
+    let entries = and_parts (pointwise same_entry m.published.entries s.entries) _ is in
+    let parts = and_parts (pointwise same_svid m.published.svids s.svids) (pointwise same_bundle m.published.bundles s.bundles) entries.1 in
+    (λ i. record { store = record { strict = s.strict; entries = entries_are m.published.entries s.entries entries.0 i; bundles = bundles_are m.published.bundles s.bundles parts.1 i; svids = svids_are m.published.svids s.svids parts.0 i; in_flight = s.in_flight; last_ticket = s.last_ticket }; published = m.published })
     ∙ (λ i. record { store = s; published = if sym is i then m.published else publish (m.published.number + 1) m.published.domain s })
 
 -- where it does not
-pub settled_new : (s : Store) (m : Stored) → shows_parts m.published s.entries s.svids s.bundles ≡ false → stored s.strict (publish (m.published.number + 1) m.published.domain s) s.flying s.last ≡ keeping s m
+pub settled_new : (s : Store) (m : Stored) → shows_parts m.published s.entries s.svids s.bundles ≡ false → stored s.strict (publish (m.published.number + 1) m.published.domain s) s.in_flight s.last_ticket ≡ stored_after s m
 unfolding shows
 settled_new s m is = λ i. record { store = s; published = if sym is i then m.published else publish (m.published.number + 1) m.published.domain s }
 
@@ -53,8 +55,8 @@ change_new s m is = λ i. if sym is i then change.Same else change.New
 -- a cache of what the last publication shows
 pub shown_cached : (p : Publication) (entries : List Entry) (bundles : List Bundle) (c : Cached) → shows_parts p entries c.svids bundles ≡ true → c.asks ≡ asks_of entries → c ≡ cached_in p
 shown_cached p entries bundles c is are =
-    let front = both (pointwise same_entry p.entries entries) _ is in
-    let parts = both (pointwise same_svid p.svids c.svids) (pointwise same_bundle p.bundles bundles) front.1 in
+    let front = and_parts (pointwise same_entry p.entries entries) _ is in
+    let parts = and_parts (pointwise same_svid p.svids c.svids) (pointwise same_bundle p.bundles bundles) front.1 in
     let asks = are ∙ ap asks_of (sym (entries_are p.entries entries front.0)) in
     let svids = sym (svids_are p.svids c.svids parts.0) in
     λ i. record { asks = asks i; svids = svids i }
@@ -110,8 +112,8 @@ find_last id v a rest [] own same = rw same refl
 find_last id v a rest (s ∷ ss) own same = find_go id v a rest s ss own (is_below id s) refl (find_last id v a rest ss own same)
 
 -- the new one is kept for its ask
-put_kept : (v : Svid) (svids : List Svid) → kept_for (put v svids) v.ask ≡ Some v
-unfolding put kept_for
+put_kept : (v : Svid) (svids : List Svid) → kept_for (with_svid v svids) v.ask ≡ Some v
+unfolding with_svid kept_for
 put_kept v svids = find_last v.ask.entry_id v v.ask (filter (is_above v.ask.entry_id) svids) svids refl (ask_self v.ask)
 
 le_self : (n : ℕ) → nat_le n n ≡ true
@@ -120,22 +122,22 @@ le_self n = grind (arith, nat_tests)
 newer : (n : ℕ) (k : ℕ) → (if nat_le n n then installed.Older k else installed.Kept) ≡ installed.Kept → false ≡ true
 newer n k is = grind (arith, is, le_self n)
 
-differs : (v : Svid) (svids : List Svid) → unless_older v.signed (kept_for svids v.ask) ≡ installed.Kept → (b : Bool) → b ≡ pointwise same_svid svids (put v svids) → b ≡ false
+differs : (v : Svid) (svids : List Svid) → unless_older v.signed (kept_for svids v.ask) ≡ installed.Kept → (b : Bool) → b ≡ pointwise same_svid svids (with_svid v svids) → b ≡ false
 differs v svids kept false is = refl
 differs v svids kept true is =
-    let found : kept_for svids v.ask ≡ Some v = ap (λ l. kept_for l v.ask) (svids_are svids (put v svids) (sym is)) ∙ put_kept v svids in
+    let found : kept_for svids v.ask ≡ Some v = ap (λ l. kept_for l v.ask) (svids_are svids (with_svid v svids) (sym is)) ∙ put_kept v svids in
     sym (newer v.signed.not_after v.signed.not_after (ap (unless_older v.signed) (sym found) ∙ kept))
 
 -- a new SVID that is kept changes the list
-pub put_differs : (v : Svid) (svids : List Svid) → unless_older v.signed (kept_for svids v.ask) ≡ installed.Kept → pointwise same_svid svids (put v svids) ≡ false
-put_differs v svids kept = differs v svids kept (pointwise same_svid svids (put v svids)) refl
+pub put_differs : (v : Svid) (svids : List Svid) → unless_older v.signed (kept_for svids v.ask) ≡ installed.Kept → pointwise same_svid svids (with_svid v svids) ≡ false
+put_differs v svids kept = differs v svids kept (pointwise same_svid svids (with_svid v svids)) refl
 
 all_join : {X : Type 0} (P : X → Type 0) (xs ys : List X) → AllByRecursion P xs → AllByRecursion P ys → AllByRecursion P (xs ++ ys)
 all_join P [] ys a b = b
 all_join P (x ∷ xs) ys a b = (a.0, all_join P xs ys a.1 b)
 
-pub put_trusted : (signed : Ask → Signed → Type 0) (strict : Bool) (v : Svid) (svids : List Svid) → AllTrusted signed strict svids → Trusted signed strict v.ask v.signed → AllTrusted signed strict (put v svids)
-unfolding put
+pub put_trusted : (signed : Ask → Signed → Type 0) (strict : Bool) (v : Svid) (svids : List Svid) → AllTrusted signed strict svids → Trusted signed strict v.ask v.signed → AllTrusted signed strict (with_svid v svids)
+unfolding with_svid
 put_trusted signed strict v svids all one =
     all_join (λ s. Trusted signed strict s.ask s.signed) (filter (is_below v.ask.entry_id) svids) (v ∷ filter (is_above v.ask.entry_id) svids) (still_trusted signed strict (is_below v.ask.entry_id) svids all) (one, still_trusted signed strict (is_above v.ask.entry_id) svids all)
 
@@ -148,15 +150,15 @@ refused_go true (Some u) l is = grind (arith, is)
 refused_go false u l is = grind (arith, is)
 
 -- where nothing is refused the cache's answer is Install's
-pub cache_installs : (now : ℕ) (v : Svid) (s : Store) → refused now v.ask v.signed s ≡ None → caches.install now v (cached_of s) ≡ install now v.ask v.signed s
-unfolding refused install caches.install
+pub cache_installs : (now : ℕ) (v : Svid) (s : Store) → refusal now v.ask v.signed s ≡ None → caches.install now v (cached_of s) ≡ install now v.ask v.signed s
+unfolding refusal install caches.install
 cache_installs now v s none =
     let parts = refused_go (is_listed (asks_of s.entries) v.ask) (signed_unfit now v.signed) (leaf_judged s.strict v.ask v.signed) none in
     (λ i. if parts.0 i then unless_unfit (parts.1 i) (unless_older v.signed (kept_for s.svids v.ask)) else installed.NoSuchAsk)
     ∙ (λ i. unwrap_or (sym none i) (unless_older v.signed (kept_for s.svids v.ask)))
 
 -- what is refused is the answer
-pub refusal_installs : (now : ℕ) (a : Ask) (g : Signed) (s : Store) (r : Installed) → refused now a g s ≡ Some r → install now a g s ≡ r
+pub refusal_installs : (now : ℕ) (a : Ask) (g : Signed) (s : Store) (r : Installed) → refusal now a g s ≡ Some r → install now a g s ≡ r
 unfolding install
 refusal_installs now a g s r is = λ i. unwrap_or (is i) (unless_older g (kept_for s.svids a))
 
@@ -167,8 +169,8 @@ refusal_go true (Some u) l r is = subst (λ o. is_refused (unwrap_or o installed
 refusal_go false u l r is = subst (λ o. is_refused (unwrap_or o installed.NoSuchAsk) ≡ true) is refl
 
 -- what is refused is not kept
-refusal_is : (now : ℕ) (a : Ask) (g : Signed) (s : Store) (r : Installed) → refused now a g s ≡ Some r → is_refused r ≡ true
-unfolding refused
+refusal_is : (now : ℕ) (a : Ask) (g : Signed) (s : Store) (r : Installed) → refusal now a g s ≡ Some r → is_refused r ≡ true
+unfolding refusal
 refusal_is now a g s r is = refusal_go (is_listed (asks_of s.entries) a) (signed_unfit now g) (leaf_judged s.strict a g) r is
 
 stays : (i : Installed) (v : Svid) (svids : List Svid) → is_refused i ≡ true → svids_after i v svids ≡ svids
@@ -178,23 +180,23 @@ stays (installed.Unfit u) v svids away = refl
 stays (installed.Older x) v svids away = refl
 stays installed.Spent v svids away = refl
 
-pub refused_lands : (signed : Ask → Signed → Type 0) (now : ℕ) (s : Store) (v : Svid) (r : Installed) (c : Cached) → AllTrusted signed s.strict s.svids → refused now v.ask v.signed s ≡ Some r → c ≡ cached_of s → Lands signed s v r c
-refused_lands signed now s v r c trusted is same =
+pub refusal_gives : (signed : Ask → Signed → Type 0) (now : ℕ) (s : Store) (v : Svid) (r : Installed) (c : Cached) → AllTrusted signed s.strict s.svids → refusal now v.ask v.signed s ≡ Some r → c ≡ cached_of s → IsInstalled signed s v r c
+refusal_gives signed now s v r c trusted is same =
     let away : is_refused r ≡ true = refusal_is now v.ask v.signed s r is in
-    subst (λ k. Lands signed s v r k) (sym same)
+    subst (λ k. IsInstalled signed s v r k) (sym same)
     (record { asks = refl; svids = sym (stays r v s.svids away); trusted = trusted; same = λ away. refl; other = λ yes. grind (arith, yes, away) })
 
-lands_go : (signed : Ask → Signed → Type 0) (s : Store) (v : Svid) → AllTrusted signed s.strict s.svids → Trusted signed s.strict v.ask v.signed → (i : Installed) → (i ≡ installed.Kept → unless_older v.signed (kept_for s.svids v.ask) ≡ installed.Kept) → Lands signed s v i (caches.after i v (cached_of s))
-lands_go signed s v trusted one installed.Kept kept = record { asks = refl; svids = refl; trusted = put_trusted signed s.strict v s.svids trusted one; same = λ away. grind (arith, away); other = λ yes. put_differs v s.svids (kept refl) }
-lands_go signed s v trusted one installed.NoSuchAsk kept = record { asks = refl; svids = refl; trusted = trusted; same = λ away. refl; other = λ yes. grind (arith, yes) }
-lands_go signed s v trusted one (installed.Unfit u) kept = record { asks = refl; svids = refl; trusted = trusted; same = λ away. refl; other = λ yes. grind (arith, yes) }
-lands_go signed s v trusted one (installed.Older x) kept = record { asks = refl; svids = refl; trusted = trusted; same = λ away. refl; other = λ yes. grind (arith, yes) }
-lands_go signed s v trusted one installed.Spent kept = record { asks = refl; svids = refl; trusted = trusted; same = λ away. refl; other = λ yes. grind (arith, yes) }
+gives_go : (signed : Ask → Signed → Type 0) (s : Store) (v : Svid) → AllTrusted signed s.strict s.svids → Trusted signed s.strict v.ask v.signed → (i : Installed) → (i ≡ installed.Kept → unless_older v.signed (kept_for s.svids v.ask) ≡ installed.Kept) → IsInstalled signed s v i (caches.after_install i v (cached_of s))
+gives_go signed s v trusted one installed.Kept kept = record { asks = refl; svids = refl; trusted = put_trusted signed s.strict v s.svids trusted one; same = λ away. grind (arith, away); other = λ yes. put_differs v s.svids (kept refl) }
+gives_go signed s v trusted one installed.NoSuchAsk kept = record { asks = refl; svids = refl; trusted = trusted; same = λ away. refl; other = λ yes. grind (arith, yes) }
+gives_go signed s v trusted one (installed.Unfit u) kept = record { asks = refl; svids = refl; trusted = trusted; same = λ away. refl; other = λ yes. grind (arith, yes) }
+gives_go signed s v trusted one (installed.Older x) kept = record { asks = refl; svids = refl; trusted = trusted; same = λ away. refl; other = λ yes. grind (arith, yes) }
+gives_go signed s v trusted one installed.Spent kept = record { asks = refl; svids = refl; trusted = trusted; same = λ away. refl; other = λ yes. grind (arith, yes) }
 
-older_kept : (now : ℕ) (v : Svid) (s : Store) → refused now v.ask v.signed s ≡ None → install now v.ask v.signed s ≡ unless_older v.signed (kept_for s.svids v.ask)
+older_kept : (now : ℕ) (v : Svid) (s : Store) → refusal now v.ask v.signed s ≡ None → install now v.ask v.signed s ≡ unless_older v.signed (kept_for s.svids v.ask)
 unfolding install
 older_kept now v s none = λ i. unwrap_or (none i) (unless_older v.signed (kept_for s.svids v.ask))
 
-pub install_lands : (signed : Ask → Signed → Type 0) (now : ℕ) (s : Store) (v : Svid) (i : Installed) (c : Cached) → AllTrusted signed s.strict s.svids → Trusted signed s.strict v.ask v.signed → refused now v.ask v.signed s ≡ None → i ≡ install now v.ask v.signed s → c ≡ caches.after i v (cached_of s) → Lands signed s v i c
-install_lands signed now s v i c trusted one none is same =
-    subst (λ k. Lands signed s v i k) (sym same) (lands_go signed s v trusted one i (λ kept. sym (older_kept now v s none) ∙ (sym is ∙ kept)))
+pub install_gives : (signed : Ask → Signed → Type 0) (now : ℕ) (s : Store) (v : Svid) (i : Installed) (c : Cached) → AllTrusted signed s.strict s.svids → Trusted signed s.strict v.ask v.signed → refusal now v.ask v.signed s ≡ None → i ≡ install now v.ask v.signed s → c ≡ caches.after_install i v (cached_of s) → IsInstalled signed s v i c
+install_gives signed now s v i c trusted one none is same =
+    subst (λ k. IsInstalled signed s v i k) (sym same) (gives_go signed s v trusted one i (λ kept. sym (older_kept now v s none) ∙ (sym is ∙ kept)))

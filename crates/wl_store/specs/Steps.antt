@@ -20,31 +20,31 @@ use Rattle.svid_cache.specs.Caches.{Cached}
 use Rattle.wl_store.specs.declared.tickets.Change.{Change}
 use Rattle.wl_store.specs.declared.tickets.Change.TheVariants as change
 use Rattle.wl_store.specs.declared.tickets.Flight.{Flight}
-use Rattle.wl_store.specs.Stores.{Store, svids_after, first, synced_with, asks_of, publish, next, shows, spent}
+use Rattle.wl_store.specs.Stores.{Store, svids_after, first_store, with_entries, asks_of, publish, next_publication, shows, without_ticket}
 
 pub record Stored : Type 0 where
   pub store : Store
   pub published : Publication
 
 -- a store that begins with a document's state
-abbrev pub started : Bool → State → Stored
-started strict d = record { store = first strict d.entries d.bundles; published = publish 0 d.domain (first strict d.entries d.bundles) }
+abbrev pub first_stored : Bool → State → Stored
+first_stored strict d = record { store = first_store strict d.entries d.bundles; published = publish 0 d.domain (first_store strict d.entries d.bundles) }
 
 -- this is kept now, and published where it differs from the last publication
-abbrev pub keeping : Store → Stored → Stored
-keeping s m = record { store = s; published = next m.published s }
+abbrev pub stored_after : Store → Stored → Stored
+stored_after s m = record { store = s; published = next_publication m.published s }
 
 -- whether there is a new publication
 abbrev pub change_to : Store → Stored → Change
 change_to s m = if shows m.published s then change.Same else change.New
 
 -- a document was read
-abbrev pub synced_to : State → Stored → Store
-synced_to d m = synced_with d.entries d.bundles m.store
+abbrev pub after_sync : State → Stored → Store
+after_sync d m = with_entries d.entries d.bundles m.store
 
 -- a ticket is spent, and nothing else changes
-abbrev pub spending : ℕ → Stored → Stored
-spending n m = record { store = spent n m.store; published = m.published }
+abbrev pub after_failed : ℕ → Stored → Stored
+after_failed n m = record { store = without_ticket n m.store; published = m.published }
 
 -- ---- what every store keeps
 
@@ -81,7 +81,7 @@ is_refused _ = true
 
 -- the cache after Install has answered: its asks stay, its SVIDs are those that Install leaves and are trusted; they
 -- are others exactly where the SVID is kept
-pub record Lands (signed : Ask → Signed → Type 0) (s : Store) (v : Svid) (i : Installed) (c : Cached) : Type 0 where
+pub record IsInstalled (signed : Ask → Signed → Type 0) (s : Store) (v : Svid) (i : Installed) (c : Cached) : Type 0 where
   pub asks : c.asks ≡ asks_of s.entries
   pub svids : c.svids ≡ svids_after i v s.svids
   pub trusted : AllTrusted signed s.strict c.svids
@@ -97,8 +97,8 @@ news change.New p = Some p
 
 -- what is kept with these parts in place of the old ones
 abbrev pub with_parts : List Entry → List Bundle → List Svid → List Flight → ℕ → Store → Store
-with_parts entries bundles svids flying last s = record { strict = s.strict; entries = entries; bundles = bundles; svids = svids; flying = flying; last = last }
+with_parts entries bundles svids in_flight last_ticket s = record { strict = s.strict; entries = entries; bundles = bundles; svids = svids; in_flight = in_flight; last_ticket = last_ticket }
 
 -- what the fields of a store are
-abbrev pub stored : Bool → Publication → List Flight → ℕ → Stored
-stored strict p flying last = record { store = record { strict = strict; entries = p.entries; bundles = p.bundles; svids = p.svids; flying = flying; last = last }; published = p }
+abbrev pub stored_of : Bool → Publication → List Flight → ℕ → Stored
+stored_of strict p in_flight last_ticket = record { store = record { strict = strict; entries = p.entries; bundles = p.bundles; svids = p.svids; in_flight = in_flight; last_ticket = last_ticket }; published = p }

@@ -13,7 +13,7 @@ use Rattle.wl_entry.specs.declared.signing.Svid.{Svid}
 use Rattle.wl_entry.specs.declared.unfit.Unfit.{Unfit}
 use Rattle.wl_x509.specs.Leaves.{leaf_reason}
 use Rattle.wl_snapshot.specs.Snapshots.{Publication}
-use Rattle.svid_cache.specs.Caches.{Cached, synced, swept, due_asks, is_listed, kept_for, put, unless_older}
+use Rattle.svid_cache.specs.Caches.{Cached, with_asks, without_ended, due_asks, is_listed, kept_for, with_svid, unless_older}
 use Rattle.svid_cache.specs.declared.install.Installed.{Installed}
 use Rattle.svid_cache.specs.declared.install.Installed.TheVariants as installed
 use Rattle.wl_store.specs.declared.tickets.Flight.{Flight}
@@ -25,8 +25,8 @@ pub record Store : Type 0 where
   pub entries : List Entry
   pub bundles : List Bundle
   pub svids : List Svid
-  pub flying : List Flight
-  pub last : ℕ
+  pub in_flight : List Flight
+  pub last_ticket : ℕ
 
 -- the asks of the entries
 abbrev pub asks_of : List Entry → List Ask
@@ -37,56 +37,56 @@ abbrev pub cached_of : Store → Cached
 cached_of s = record { asks = asks_of s.entries; svids = s.svids }
 
 -- what is kept at first
-abbrev pub first : Bool → List Entry → List Bundle → Store
-first strict entries bundles = record { strict = strict; entries = entries; bundles = bundles; svids = []; flying = []; last = 0 }
+abbrev pub first_store : Bool → List Entry → List Bundle → Store
+first_store strict entries bundles = record { strict = strict; entries = entries; bundles = bundles; svids = []; in_flight = []; last_ticket = 0 }
 
 -- ---- a document was read
 
 -- its entries and bundles; the SVIDs stay whose ask is one of its entries'
-unfoldable pub synced_with : List Entry → List Bundle → Store → Store
-synced_with entries bundles s =
-    record { strict = s.strict; entries = entries; bundles = bundles; svids = (synced (asks_of entries) (cached_of s)).svids; flying = s.flying; last = s.last }
+unfoldable pub with_entries : List Entry → List Bundle → Store → Store
+with_entries entries bundles s =
+    record { strict = s.strict; entries = entries; bundles = bundles; svids = (with_asks (asks_of entries) (cached_of s)).svids; in_flight = s.in_flight; last_ticket = s.last_ticket }
 
 -- ---- tickets are claimed
 
 -- an ask with a ticket in flight
-abbrev pub is_flying : List Flight → Ask → Bool
-is_flying flying a = list_any (λ f. same_ask f.ask a) flying
+abbrev pub is_in_flight : List Flight → Ask → Bool
+is_in_flight in_flight a = list_any (λ f. same_ask f.ask a) in_flight
 
--- the asks that are due once what is over was let go, without those in flight
-unfoldable pub claimed_asks : ℕ → Store → List Ask
-claimed_asks now s = filter (λ a. not (is_flying s.flying a)) (due_asks now (swept now (cached_of s)))
+-- the asks that are due once what has expired was let go, without those in flight
+unfoldable pub asks_to_claim : ℕ → Store → List Ask
+asks_to_claim now s = filter (λ a. not (is_in_flight s.in_flight a)) (due_asks now (without_ended now (cached_of s)))
 
 -- one ticket each, numbered from n on
-abbrev pub numbered : ℕ → List Ask → List Flight
-numbered n [] = []
-numbered n (a ∷ more) = record { number = n + 1; ask = a } ∷ numbered (n + 1) more
+abbrev pub flights_from : ℕ → List Ask → List Flight
+flights_from n [] = []
+flights_from n (a ∷ more) = record { number = n + 1; ask = a } ∷ flights_from (n + 1) more
 
-unfoldable pub claimed : ℕ → Store → Store
-claimed now s =
+unfoldable pub after_claim : ℕ → Store → Store
+after_claim now s =
     record {
       strict = s.strict;
       entries = s.entries;
       bundles = s.bundles;
-      svids = (swept now (cached_of s)).svids;
-      flying = s.flying ++ numbered s.last (claimed_asks now s);
-      last = s.last + length (claimed_asks now s);
+      svids = (without_ended now (cached_of s)).svids;
+      in_flight = s.in_flight ++ flights_from s.last_ticket (asks_to_claim now s);
+      last_ticket = s.last_ticket + length (asks_to_claim now s);
     }
 
 -- ---- a ticket comes back
 
 -- a ticket of this number and ask is in flight
-abbrev pub flies : ℕ → Ask → List Flight → Bool
-flies n a flying = list_any (λ f. (f.number == n) && same_ask f.ask a) flying
+abbrev pub has_ticket : ℕ → Ask → List Flight → Bool
+has_ticket n a in_flight = list_any (λ f. (f.number == n) && same_ask f.ask a) in_flight
 
 -- the tickets without the first of this number
-abbrev pub without : ℕ → List Flight → List Flight
-without n [] = []
-without n (f ∷ fs) = if f.number == n then fs else f ∷ without n fs
+abbrev pub without_flight : ℕ → List Flight → List Flight
+without_flight n [] = []
+without_flight n (f ∷ fs) = if f.number == n then fs else f ∷ without_flight n fs
 
 -- it is spent
-unfoldable pub spent : ℕ → Store → Store
-spent n s = record { strict = s.strict; entries = s.entries; bundles = s.bundles; svids = s.svids; flying = without n s.flying; last = s.last }
+unfoldable pub without_ticket : ℕ → Store → Store
+without_ticket n s = record { strict = s.strict; entries = s.entries; bundles = s.bundles; svids = s.svids; in_flight = without_flight n s.in_flight; last_ticket = s.last_ticket }
 
 -- a leaf is judged in a strict store alone
 abbrev pub leaf_judged : Bool → Ask → Signed → Option Unfit
@@ -98,30 +98,30 @@ as_unfit None rest = rest
 
 -- the first reason against a signed identity that does not hang on the kept one: no entry has the ask, its times and
 -- lengths, its leaf
-unfoldable pub refused : ℕ → Ask → Signed → Store → Option Installed
-refused now a g s =
+unfoldable pub refusal : ℕ → Ask → Signed → Store → Option Installed
+refusal now a g s =
     if is_listed (asks_of s.entries) a then as_unfit (signed_unfit now g) (as_unfit (leaf_judged s.strict a g) None)
     else Some installed.NoSuchAsk
 
 -- Install: that reason, or that the kept one ends no earlier, or else it is kept
 unfoldable pub install : ℕ → Ask → Signed → Store → Installed
-install now a g s = unwrap_or (refused now a g s) (unless_older g (kept_for s.svids a))
+install now a g s = unwrap_or (refusal now a g s) (unless_older g (kept_for s.svids a))
 
 -- the SVIDs after that
 abbrev pub svids_after : Installed → Svid → List Svid → List Svid
-svids_after installed.Kept v svids = put v svids
+svids_after installed.Kept v svids = with_svid v svids
 svids_after _ v svids = svids
 
 -- it comes back with a signed identity
-unfoldable pub landed : ℕ → ℕ → Ask → Signed → Store → Store
-landed now n a g s =
+unfoldable pub after_signed : ℕ → ℕ → Ask → Signed → Store → Store
+after_signed now n a g s =
     record {
       strict = s.strict;
       entries = s.entries;
       bundles = s.bundles;
       svids = svids_after (install now a g s) (record { ask = a; signed = g }) s.svids;
-      flying = without n s.flying;
-      last = s.last;
+      in_flight = without_flight n s.in_flight;
+      last_ticket = s.last_ticket;
     }
 
 -- ---- what is published
@@ -139,5 +139,5 @@ abbrev pub publish : ℕ → List ℕ → Store → Publication
 publish number domain s = record { number = number; domain = domain; entries = s.entries; svids = s.svids; bundles = s.bundles }
 
 -- the last publication, where p was the last one before
-abbrev pub next : Publication → Store → Publication
-next p s = if shows p s then p else publish (p.number + 1) p.domain s
+abbrev pub next_publication : Publication → Store → Publication
+next_publication p s = if shows p s then p else publish (p.number + 1) p.domain s

@@ -30,11 +30,11 @@ fn group_one(alloc: Global, groups: &mut Groups, flight: &Flight) -> Result<(), 
 }
 
 /// The flights by entry. It takes memory only where there is a flight.
-pub(crate) fn grouped(alloc: Global, flying: &[Flight]) -> Result<Groups, Memory>
-    ensures { IfOk result (λ groups. (q : List ℕ) → unwrap_or (btree.get (slice_cmp nat_cmp) groups q) [] ≡ asks_under q flying.now) }
+pub(crate) fn group_all(alloc: Global, in_flight: &[Flight]) -> Result<Groups, Memory>
+    ensures { IfOk result (λ groups. (q : List ℕ) → unwrap_or (btree.get (slice_cmp nat_cmp) groups q) [] ≡ asks_under q in_flight.now) }
 {
     let mut groups = BTreeMap::new(alloc);
-    for flight in flying {
+    for flight in in_flight {
         group_one(alloc, &mut groups, flight)?;
     }
     Ok(groups)

@@ -4,7 +4,7 @@ ghost use Rattle.std.specs.Prelude.{◌≡◌, ◌≤◌, [], map, length, IfOk}
 ghost use Rattle.list_laws.specs.Lists.{Rises};
 ghost use Rattle.wl_entry.specs.Asks.{ask_of};
 ghost use Rattle.wl_entry.specs.Keys.{entry_key, bundle_key};
-ghost use Rattle.svid_cache.specs.Caches.{synced};
+ghost use Rattle.svid_cache.specs.Caches.{with_asks};
 ghost use Rattle.wl_store.specs.Stores.{asks_of};
 
 use std::alloc::Global;
@@ -26,7 +26,7 @@ pub(crate) fn asks_for(alloc: Global, entries: &[Entry]) -> Result<Row<Ask>, Mem
 }
 
 /// The entry, as it is known already, if it is.
-#[tactic(auto, using(crate::proofs::Sames::entry_is))]
+#[tactic(auto, using(wl_entry::proofs::Sames::entry_is))]
 fn share_entry(
     alloc: Global,
     known: &[Shared<Entry>],
@@ -44,7 +44,7 @@ fn share_entry(
 }
 
 /// The bundle, as it is known already, if it is.
-#[tactic(auto, using(crate::proofs::Sames::bundle_is))]
+#[tactic(auto, using(wl_entry::proofs::Sames::bundle_is))]
 fn share_bundle(
     alloc: Global,
     known: &[Shared<Bundle>],
@@ -93,7 +93,7 @@ pub(crate) fn share_bundles(
     Ok(Row::from_vec(shared))
 }
 
-/// The same parts once more, shared.
+/// The parts, shared.
 pub(crate) fn share_all<T: Drop>(
     alloc: Global,
     parts: &[Shared<T>],
@@ -137,7 +137,7 @@ pub(crate) fn cache_with(
 ) -> Result<Shared<Cache>, Memory>
     requires rises { Rises (map entry_key entries.now) }
     requires few { length entries.now ≤ 10000 }
-    ensures { IfOk result (λ c. c ≡ synced (asks_of entries.now) cache.now) }
+    ensures { IfOk result (λ c. c ≡ with_asks (asks_of entries.now) cache.now) }
 {
     let mut next = cache.copy(alloc)?;
     let asks = asks_for(alloc, entries)?;

@@ -3,11 +3,11 @@
 ghost use Rattle.std.specs.Prelude.{◌≡◌, ◌+◌, ◌≤◌, [], map, length, Some, None, option_map, IfOk, IfErr, IsOkAnd};
 ghost use Rattle.list_laws.specs.Lists.{Rises};
 ghost use Rattle.wl_entry.specs.Keys.{entry_key};
-ghost use Rattle.svid_cache.specs.Caches.{synced};
+ghost use Rattle.svid_cache.specs.Caches.{with_asks};
 ghost use Rattle.wl_document.specs.Checks.{Faults};
 ghost use Rattle.wl_document.specs.Documents.{document_state};
-ghost use Rattle.wl_store.specs.Steps.{keeping, change_to, synced_to, news, IsStock, AllTrusted, cached_in, stored, with_parts};
-ghost use Rattle.wl_store.specs.Stores.{asks_of, cached_of, synced_with, publish, shows_parts};
+ghost use Rattle.wl_store.specs.Steps.{stored_after, change_to, after_sync, news, IsStock, AllTrusted, cached_in, stored_of, with_parts};
+ghost use Rattle.wl_store.specs.Stores.{asks_of, cached_of, with_entries, publish, shows_parts};
 
 use crate::flights::share_flights;
 use crate::lists::{cache_with, share_all, share_bundles, share_entries};
@@ -30,7 +30,7 @@ pub struct Prepared<V: Voucher> {
     pub answer: Adopted,
 }
 
-/// The same domain once more.
+/// A copy of the domain.
 fn copy_domain(alloc: Global, domain: &TrustDomain) -> Result<TrustDomain, Memory>
     ensures { IfOk result (λ d. d ≡ domain.now) }
 {
@@ -53,51 +53,51 @@ impl<V: Voucher> Prepared<V> {
         }
     }
 
-    /// Lets go of the step, and of its tickets.
-    pub fn let_go(self) {
+    /// Gives up the step and its tickets.
+    pub fn abandon(self) {
         let Prepared { next: _, answer } = self;
-        answer.let_go();
+        answer.abandon();
     }
 }
 
 impl<V: Voucher> Store<V> {
     /// The store with these parts, where the last publication stays.
-    pub(crate) fn same(
+    pub(crate) fn keep_published(
         &self,
         cache: Shared<Cache>,
-        flying: Vec<Flight>,
-        last: u64,
+        in_flight: Vec<Flight>,
+        last_ticket: u64,
     ) -> Result<Store<V>, Memory>
         requires { cache ≡ cached_in self.now.published }
-        ensures { IfOk result (λ m. m ≡ stored self.now.store.strict self.now.published flying.items last) }
+        ensures { IfOk result (λ m. m ≡ stored_of self.now.store.strict self.now.published in_flight.items last_ticket) }
     {
         Ok(Store {
             strict: self.strict,
             published: self.published.share()?,
             index: self.index.share()?,
             cache,
-            flying,
-            last,
+            in_flight,
+            last_ticket,
             of: PhantomData,
         })
     }
 
     /// The store with these parts and a new publication.
-    pub(crate) fn changed(
+    pub(crate) fn publish_parts(
         &self,
         alloc: Global,
         entries: Row<Shared<Entry>>,
         index: Shared<Index>,
         bundles: Row<Shared<Bundle>>,
         cache: Shared<Cache>,
-        flying: Vec<Flight>,
-        last: u64,
+        in_flight: Vec<Flight>,
+        last_ticket: u64,
     ) -> Result<Store<V>, Memory>
         requires stock { IsStock entries bundles }
         requires indexed { index ≡ entries }
         requires cached { cache.asks ≡ asks_of entries }
         requires trusted { AllTrusted V.signed self.now.store.strict cache.svids }
-        ensures { IfOk result (λ m. m ≡ stored self.now.store.strict (publish (self.now.published.number + 1) self.now.published.domain (with_parts entries bundles cache.svids flying.items last self.now.store)) flying.items last) }
+        ensures { IfOk result (λ m. m ≡ stored_of self.now.store.strict (publish (self.now.published.number + 1) self.now.published.domain (with_parts entries bundles cache.svids in_flight.items last_ticket self.now.store)) in_flight.items last_ticket) }
     {
         let svids = share_all(alloc, cache.part().svids())?;
         let old = self.published.part();
@@ -111,14 +111,14 @@ impl<V: Voucher> Store<V> {
             published,
             index,
             cache,
-            flying,
-            last,
+            in_flight,
+            last_ticket,
             of: PhantomData,
         })
     }
 
     /// The index of these entries: that of the last publication, where they are its entries.
-    #[tactic(auto, using(crate::proofs::Sames::entries_are))]
+    #[tactic(auto, using(wl_entry::proofs::Sames::entries_are))]
     fn index_for(&self, alloc: Global, entries: &[Shared<Entry>]) -> Result<Shared<Index>, Memory>
         requires rises { Rises (map entry_key entries.now) }
         requires few { length entries.now ≤ 10000 }
@@ -155,30 +155,30 @@ impl<V: Voucher> Store<V> {
         entries: Row<Shared<Entry>>,
         bundles: Row<Shared<Bundle>>,
         cache: Shared<Cache>,
-        flying: Vec<Flight>,
-        last: u64,
+        in_flight: Vec<Flight>,
+        last_ticket: u64,
     ) -> Result<(Store<V>, Change), Memory>
         requires stock { IsStock entries bundles }
         requires cached { cache.asks ≡ asks_of entries }
         requires trusted { AllTrusted V.signed self.now.store.strict cache.svids }
-        ensures next { IfOk result (λ r. r.0 ≡ keeping (with_parts entries bundles cache.svids flying.items last self.now.store) self.now) }
-        ensures change { IfOk result (λ r. r.1 ≡ change_to (with_parts entries bundles cache.svids flying.items last self.now.store) self.now) }
+        ensures next { IfOk result (λ r. r.0 ≡ stored_after (with_parts entries bundles cache.svids in_flight.items last_ticket self.now.store) self.now) }
+        ensures change { IfOk result (λ r. r.1 ≡ change_to (with_parts entries bundles cache.svids in_flight.items last_ticket self.now.store) self.now) }
     {
         if self.is_shown(&entries, &bundles, &cache) {
-            let next = self.same(cache, flying, last)?;
+            let next = self.keep_published(cache, in_flight, last_ticket)?;
             Ok((next, Change::Same))
         } else {
             let index = self.index_for(alloc, entries.as_slice())?;
-            let next = self.changed(alloc, entries, index, bundles, cache, flying, last)?;
+            let next = self.publish_parts(alloc, entries, index, bundles, cache, in_flight, last_ticket)?;
             Ok((next, Change::New))
         }
     }
 
-    /// The cache once more, with the asks of these entries.
+    /// A copy of the cache with the asks of these entries.
     fn cache_for(&self, alloc: Global, entries: &Row<Entry>) -> Result<Shared<Cache>, Memory>
         requires rises { Rises (map entry_key entries.now) }
         requires few { length entries.now ≤ 10000 }
-        ensures value { IfOk result (λ c. c ≡ synced (asks_of entries.now) (cached_of self.now.store)) }
+        ensures value { IfOk result (λ c. c ≡ with_asks (asks_of entries.now) (cached_of self.now.store)) }
         ensures trusted { IfOk result (λ c. AllTrusted V.signed self.now.store.strict c.svids) }
     {
         let next = cache_with(alloc, self.kept(), entries.as_slice())?;
@@ -209,18 +209,18 @@ impl<V: Voucher> Store<V> {
         share_bundles(alloc, old.bundles.as_slice(), bundles)
     }
 
-    /// The tickets in flight once more.
+    /// A copy of the tickets in flight.
     pub(crate) fn flights(&self, alloc: Global) -> Result<Vec<Flight>, Memory>
-        ensures { IfOk result (λ v. v.items ≡ self.now.store.flying) }
+        ensures { IfOk result (λ v. v.items ≡ self.now.store.in_flight) }
     {
-        share_flights(alloc, self.flying.as_slice())
+        share_flights(alloc, self.in_flight.as_slice())
     }
 
     /// The number of the last ticket.
     pub(crate) fn last_number(&self) -> u64
-        ensures { result ≡ self.now.store.last }
+        ensures { result ≡ self.now.store.last_ticket }
     {
-        self.last
+        self.last_ticket
     }
 
     /// The step of a document's entries and bundles.
@@ -231,20 +231,20 @@ impl<V: Voucher> Store<V> {
         bundles: Row<Bundle>,
     ) -> Result<(Store<V>, Change), Memory>
         requires { IsStock entries bundles }
-        ensures next { IfOk result (λ r. r.0 ≡ keeping (synced_with entries bundles self.now.store) self.now) }
-        ensures change { IfOk result (λ r. r.1 ≡ change_to (synced_with entries bundles self.now.store) self.now) }
+        ensures next { IfOk result (λ r. r.0 ≡ stored_after (with_entries entries bundles self.now.store) self.now) }
+        ensures change { IfOk result (λ r. r.1 ≡ change_to (with_entries entries bundles self.now.store) self.now) }
     {
         let cache = self.cache_for(alloc, &entries)?;
         let entries = self.known_entries(alloc, entries)?;
         let bundles = self.known_bundles(alloc, bundles)?;
-        let flying = self.flights(alloc)?;
-        self.settle(alloc, entries, bundles, cache, flying, self.last_number())
+        let in_flight = self.flights(alloc)?;
+        self.settle(alloc, entries, bundles, cache, in_flight, self.last_number())
     }
 
     /// The step of a document's state.
     fn resync(&self, alloc: Global, state: AuthorityState) -> Result<Prepared<V>, Memory>
-        ensures next { IfOk result (λ p. p.next ≡ keeping (synced_to state self.now) self.now) }
-        ensures answer { IfOk result (λ p. p.answer ≡ record { change = change_to (synced_to state self.now) self.now; tickets = []; installed = None }) }
+        ensures next { IfOk result (λ p. p.next ≡ stored_after (after_sync state self.now) self.now) }
+        ensures answer { IfOk result (λ p. p.answer ≡ record { change = change_to (after_sync state self.now) self.now; tickets = []; installed = None }) }
     {
         let AuthorityState {
             domain: _,
@@ -265,8 +265,8 @@ impl<V: Voucher> Store<V> {
 
     /// Prepares the step that a document is read. Its own domain has to be the store's.
     pub fn prepare_sync(&self, alloc: Global, document: &[u8]) -> Result<Prepared<V>, DocFault>
-        ensures next { IfOk result (λ p. IsOkAnd (document_state (Some self.now.published.domain) document.now) (λ d. p.next ≡ keeping (synced_to d self.now) self.now)) }
-        ensures answer { IfOk result (λ p. IsOkAnd (document_state (Some self.now.published.domain) document.now) (λ d. p.answer ≡ record { change = change_to (synced_to d self.now) self.now; tickets = []; installed = None })) }
+        ensures next { IfOk result (λ p. IsOkAnd (document_state (Some self.now.published.domain) document.now) (λ d. p.next ≡ stored_after (after_sync d self.now) self.now)) }
+        ensures answer { IfOk result (λ p. IsOkAnd (document_state (Some self.now.published.domain) document.now) (λ d. p.answer ≡ record { change = change_to (after_sync d self.now) self.now; tickets = []; installed = None })) }
         ensures fault { IfErr result (λ e. Faults e (document_state (Some self.now.published.domain) document.now)) }
     {
         let state = read_state(alloc, document, Some(&self.published.part().domain))?;

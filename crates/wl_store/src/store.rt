@@ -9,8 +9,8 @@ ghost use Rattle.wl_match.specs.Indexes.{entitled_places, items_at};
 ghost use Rattle.wl_document.specs.Checks.{Faults};
 ghost use Rattle.wl_document.specs.Documents.{document_state};
 ghost use Rattle.svid_cache.specs.Caches.{is_listed};
-ghost use Rattle.wl_store.specs.Stores.{asks_of, cached_of, flies};
-ghost use Rattle.wl_store.specs.Steps.{started, spending, AllTrusted, IsStock};
+ghost use Rattle.wl_store.specs.Stores.{asks_of, cached_of, has_ticket};
+ghost use Rattle.wl_store.specs.Steps.{first_stored, after_failed, AllTrusted, IsStock};
 
 use crate::flights::{has_number, has_ticket, remove_flight};
 use crate::lists::{cache_of, index_of, share_bundles, share_entries};
@@ -34,17 +34,17 @@ pub struct Store<V: Voucher> {
     pub(crate) published: Shared<Snapshot>,
     pub(crate) index: Shared<Index>,
     pub(crate) cache: Shared<Cache>,
-    pub(crate) flying: Vec<Flight>,
-    pub(crate) last: u64,
+    pub(crate) in_flight: Vec<Flight>,
+    pub(crate) last_ticket: u64,
     pub(crate) of: PhantomData<V>,
 }
 
 impl<V: Voucher> Model for Store<V> {
-    ghost use Rattle.wl_store.specs.Steps.{Stored, IsKept, stored};
+    ghost use Rattle.wl_store.specs.Steps.{Stored, IsKept, stored_of};
 
     ghost Value = { Stored };
 
-    ghost view = { λ m. stored m.strict m.published m.flying.items m.last };
+    ghost view = { λ m. stored_of m.strict m.published m.in_flight.items m.last_ticket };
 
     ghost invariant = { λ m. IsKept V.signed m.strict m.published m.cache m.index };
 }
@@ -53,7 +53,7 @@ impl<V: Voucher> Store<V> {
     /// A store that begins with a document, in which no SVID is kept. Leaves are not judged in it. The first check of
     /// the document that fails is the fault.
     pub fn start(alloc: Global, document: &[u8]) -> Result<Store<V>, DocFault>
-        ensures ok { IfOk result (λ m. IsOkAnd (document_state None document.now) (λ d. m ≡ started false d)) }
+        ensures ok { IfOk result (λ m. IsOkAnd (document_state None document.now) (λ d. m ≡ first_stored false d)) }
         ensures fault { IfErr result (λ e. Faults e (document_state None document.now)) }
     {
         let state = read_state(alloc, document, None)?;
@@ -66,7 +66,7 @@ impl<V: Voucher> Store<V> {
     /// As `start`, and the store is strict for good: no SVID is kept whose leaf names another id than its ask's, or has
     /// other times.
     pub fn start_strict(alloc: Global, document: &[u8]) -> Result<Store<V>, DocFault>
-        ensures ok { IfOk result (λ m. IsOkAnd (document_state None document.now) (λ d. m ≡ started true d)) }
+        ensures ok { IfOk result (λ m. IsOkAnd (document_state None document.now) (λ d. m ≡ first_stored true d)) }
         ensures fault { IfErr result (λ e. Faults e (document_state None document.now)) }
     {
         let state = read_state(alloc, document, None)?;
@@ -78,7 +78,7 @@ impl<V: Voucher> Store<V> {
 
     /// A store of a document's state.
     fn begin(alloc: Global, state: AuthorityState, strict: bool) -> Result<Store<V>, Memory>
-        ensures { IfOk result (λ m. m ≡ started strict state) }
+        ensures { IfOk result (λ m. m ≡ first_stored strict state) }
     {
         let AuthorityState {
             domain,
@@ -99,7 +99,7 @@ impl<V: Voucher> Store<V> {
         bundles: Row<Bundle>,
     ) -> Result<Store<V>, Memory>
         requires { IsStock entries bundles }
-        ensures { IfOk result (λ m. m ≡ started strict (record { domain = domain; bundles = bundles; entries = entries; svids = [] })) }
+        ensures { IfOk result (λ m. m ≡ first_stored strict (record { domain = domain; bundles = bundles; entries = entries; svids = [] })) }
     {
         let cache = cache_of(alloc, entries.as_slice())?;
         let entries = share_entries(alloc, &[], entries)?;
@@ -111,7 +111,7 @@ impl<V: Voucher> Store<V> {
             published,
             index,
             cache,
-            flying: Vec::new(alloc),
+            in_flight: Vec::new(alloc),
             last: 0,
             of: PhantomData,
         })
@@ -155,9 +155,9 @@ impl<V: Voucher> Store<V> {
 
     /// Whether a ticket of this number is in flight. It takes no memory.
     pub fn in_flight(&self, number: u64) -> bool
-        ensures { result ≡ list_any (λ f. f.number == number) self.now.store.flying }
+        ensures { result ≡ list_any (λ f. f.number == number) self.now.store.in_flight }
     {
-        has_number(self.flying.as_slice(), number)
+        has_number(self.in_flight.as_slice(), number)
     }
 
     /// The asks of the entries, by ascending entry id. It takes no memory.
@@ -176,14 +176,14 @@ impl<V: Voucher> Store<V> {
 
     /// Takes back a ticket without an identity: it is in flight no more. Nothing changes where it was not in flight.
     /// It takes no memory.
-    #[tactic(auto, unfolding(crate::specs::Stores::spent))]
+    #[tactic(auto, unfolding(crate::specs::Stores::without_ticket))]
     pub fn failed(&mut self, ticket: Ticket)
-        ensures left { flies ticket.number ticket.ask self.old.store.flying ≡ true → self.new ≡ spending ticket.number self.old }
-        ensures other { flies ticket.number ticket.ask self.old.store.flying ≡ false → self.new ≡ self.old }
+        ensures left { has_ticket ticket.number ticket.ask self.old.store.in_flight ≡ true → self.new ≡ after_failed ticket.number self.old }
+        ensures other { has_ticket ticket.number ticket.ask self.old.store.in_flight ≡ false → self.new ≡ self.old }
     {
-        if has_ticket(self.flying.as_slice(), &ticket) {
-            remove_flight(&mut self.flying, ticket.number);
+        if has_ticket(self.in_flight.as_slice(), &ticket) {
+            remove_flight(&mut self.in_flight, ticket.number);
         }
-        ticket.let_go();
+        ticket.abandon();
     }
 }

@@ -13,17 +13,17 @@ pub struct Ticket {
 }
 
 impl Ticket {
-    /// Lets go of the ticket, which stays in flight.
-    pub fn let_go(self) {
+    /// Gives the ticket up; what is in flight stays as it is.
+    pub fn abandon(self) {
         let Ticket { number: _, ask: _ } = self;
     }
 }
 
-/// Lets go of tickets, which stay in flight.
-pub fn let_go_all(tickets: Row<Ticket>) {
+/// Gives tickets up; what is in flight stays as it is.
+pub fn abandon_all(tickets: Row<Ticket>) {
     let mut items = tickets.into_vec();
     'rest: while let Some(ticket) = items.pop() {
-        ticket.let_go();
+        ticket.abandon();
     }
     items.destroy_empty();
 }
@@ -60,13 +60,13 @@ pub struct Adopted {
 }
 
 impl Adopted {
-    /// Lets go of the answer, and of its tickets.
-    pub fn let_go(self) {
+    /// Gives up the answer and its tickets.
+    pub fn abandon(self) {
         let Adopted {
             change: _,
             tickets,
             installed: _,
         } = self;
-        let_go_all(tickets);
+        abandon_all(tickets);
     }
 }

@@ -174,7 +174,7 @@ ReadsLeaves = (chain : List ℕ) (leaf : Leaf) → AreBytes chain → leaf_of ch
 abbrev pub ReadsEachLeaf : Type 0
 ReadsEachLeaf = (chain : List ℕ) (leaf : Leaf) → IsLeafOf chain leaf → leaf_of chain ≡ Ok leaf
 
--- a fault is owed what its cause says, unless it is want of memory
+-- a fault is owed what its cause says, unless it is out of memory
 abbrev pub Refuses : CertFault → Type 0 → Type 0
 Refuses Memory due = Unit {0}
 Refuses (Truncated at) due = due

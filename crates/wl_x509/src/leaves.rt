@@ -56,7 +56,7 @@ fn one_uri(alloc: Global, chain: &[u8], found: Uris) -> Result<Octets, CertFault
 /// The leaf of a chain: the URI and the times of its first certificate. What follows that certificate is not looked at.
 ///
 /// A fault is the one at the first byte where the reading goes wrong; that there is no URI, or more than one, is told
-/// where nothing else is wrong. `CertFault::Memory` is want of memory alone.
+/// where nothing else is wrong. `CertFault::Memory` says that memory ran out.
 pub fn read_leaf(alloc: Global, chain: &[u8]) -> Result<Leaf, CertFault>
     ensures ok { IfOk result (λ leaf. leaf_of chain.now ≡ Ok leaf) }
     ensures err { IfErr result (λ e. Refuses e (leaf_of chain.now ≡ Err e)) }

@@ -8,8 +8,8 @@ use std::alloc::Global;
 use wl_entry::{Ask, CertFault, Signed, Unfit};
 use wl_octets::{Memory, Octets};
 
-/// The first reason that the leaf of the chain gives against a signed identity: it can't be read (never for want of
-/// memory), it names another id than the ask's, or it has other times than the identity.
+/// The first reason that the leaf of the chain gives against a signed identity: it can't be read (never because
+/// memory ran out), it names another id than the ask's, or it has other times than the identity.
 #[tactic(auto, unfolding(crate::specs::Leaves::leaf_reason))]
 pub fn leaf_unfit(alloc: Global, ask: &Ask, signed: &Signed) -> Result<Option<Unfit>, Memory>
     ensures value { IfOk result (λ unfit. unfit ≡ leaf_reason ask.now signed.now) }

@@ -46,7 +46,7 @@ fn leaves_of_openssl(rt: HostRuntime) {
     assert_eq!(rt; fault(alloc, NO_NAMES), Some(CertFault::NoUri));
 }
 
-/// Whether each front of a chain that is cut short has a fault, which isn't want of memory.
+/// Whether each front of a chain that is cut short has a fault, which isn't out of memory.
 fn all_fronts_are_faults(alloc: Global, chain: &[u8]) -> bool {
     for len in 0..chain.len() {
         match fault(alloc, &chain[..len]) {

@@ -1,13 +1,13 @@
 -- What a step of reading a request gives.
 use Rattle.std.specs.Prelude.{◌≡◌, ℕ, List, ◌++◌, Option, Some}
 use Rattle.pb_wire.specs.declared.field.Field.{Field}
+use Rattle.pb_wire.specs.declared.fault.FieldFault.{FieldFault}
+use Rattle.pb_wire.specs.declared.fault.FieldFault.TheVariants.{Wire, FieldKind, NotUtf8, Memory}
 use Rattle.pb_wire.specs.Message.{text_in, last_of}
 use Rattle.workload_proto.specs.declared.message.JwtRequest.{JwtRequest}
-use Rattle.workload_proto.specs.declared.fault.ProtoFault.{ProtoFault}
-use Rattle.workload_proto.specs.declared.fault.ProtoFault.TheVariants.{Wire, FieldKind, NotUtf8, Memory}
 
--- a step fails as this fault says, or for want of memory
-abbrev pub StepFails : ProtoFault → Option ProtoFault → Type 0
+-- a step fails as this fault says, or since memory ran out
+abbrev pub StepFails : FieldFault → Option FieldFault → Type 0
 StepFails Memory fault = Unit {0}
 StepFails (Wire e) fault = fault ≡ Some (Wire e)
 StepFails (FieldKind number) fault = fault ≡ Some (FieldKind number)

@@ -3,54 +3,44 @@
 ghost use Rattle.std.specs.Prelude.{◌≡◌, ◌++◌, ◌∷◌, [], ℕ, List, Option, Some, None, Ok, IfOk, IfErr, OnOk, IsOk, MatchResult};
 ghost use Rattle.pb_wire.specs.Message.{text_of, text_list, last_of};
 ghost use Rattle.workload_proto.specs.declared.message.JwtRequest.{JwtRequest};
-ghost use Rattle.workload_proto.specs.Requests.{text_fault, field_fault, SpellsJwtRequest, SpellsEmpty, IsWire, jwt_request_of, empty_of, Gives};
+ghost use Rattle.pb_wire.specs.Strings.{fault_of, field_fault, Gives};
+ghost use Rattle.workload_proto.specs.Requests.{is_jwt_field, SpellsJwtRequest, SpellsEmpty, IsWire, jwt_request_of, empty_of};
 ghost use Rattle.workload_proto.specs.Steps.{StepFails, asked_more};
 
-use crate::fault::ProtoFault;
+use crate::ProtoFault;
 use crate::message::JwtRequest;
-use pb_wire::{Field, TextFault, Value, read_field};
+use pb_wire::{Field, read_field};
 use std::alloc::Global;
 use wl_octets::{Octets, Row};
-
-/// The string in the known field of this number.
-fn known_text<'a>(bytes: &'a [u8], number: u32, value: &Value) -> Result<&'a [u8], ProtoFault>
-    ensures { MatchResult result
-        (λ text. text_of bytes.now value.now ≡ Ok text.now)
-        (λ e. text_fault number (text_of bytes.now value.now) ≡ Some e) }
-{
-    match value.text(bytes) {
-        Ok(text) => Ok(text),
-        Err(TextFault::Kind) => Err(ProtoFault::FieldKind(number)),
-        Err(TextFault::NotUtf8) => Err(ProtoFault::NotUtf8(number)),
-    }
-}
 
 fn take_audience(
     alloc: Global,
     bytes: &[u8],
-    value: &Value,
+    field: &Field,
     audience: &mut Row<Octets>,
 ) -> Result<(), ProtoFault>
     ensures { MatchResult result
-        (λ _. (text_fault 1 (text_of bytes.now value.now) ≡ None) × (audience.new ≡ audience.old ++ text_list (text_of bytes.now value.now)))
-        (λ e. StepFails e (text_fault 1 (text_of bytes.now value.now))) }
+        (λ _. (fault_of (text_of bytes.now field.now) ≡ None)
+            × (audience.new ≡ audience.old ++ text_list (text_of bytes.now field.now)))
+        (λ e. StepFails e (fault_of (text_of bytes.now field.now))) }
 {
-    let text = known_text(bytes, 1, value)?;
+    let text = field.text(bytes)?;
     audience.push(Octets::from_slice(alloc, text)?)?;
     Ok(())
 }
 
-fn take_id(alloc: Global, bytes: &[u8], value: &Value, id: &mut Octets) -> Result<(), ProtoFault>
+fn take_id(alloc: Global, bytes: &[u8], field: &Field, id: &mut Octets) -> Result<(), ProtoFault>
     ensures { MatchResult result
-        (λ _. (text_fault 2 (text_of bytes.now value.now) ≡ None) × (id.new ≡ last_of id.old (text_list (text_of bytes.now value.now))))
-        (λ e. StepFails e (text_fault 2 (text_of bytes.now value.now))) }
+        (λ _. (fault_of (text_of bytes.now field.now) ≡ None)
+            × (id.new ≡ last_of id.old (text_list (text_of bytes.now field.now))))
+        (λ e. StepFails e (fault_of (text_of bytes.now field.now))) }
 {
-    let text = known_text(bytes, 2, value)?;
+    let text = field.text(bytes)?;
     *id = Octets::from_slice(alloc, text)?;
     Ok(())
 }
 
-#[tactic(auto, unfolding(crate::specs::Requests::field_fault, crate::specs::Steps::asked_more))]
+#[tactic(auto, unfolding(pb_wire::specs::Strings::field_fault, crate::specs::Steps::asked_more))]
 fn take_field(
     alloc: Global,
     bytes: &[u8],
@@ -58,17 +48,18 @@ fn take_field(
     request: &mut JwtRequest,
 ) -> Result<(), ProtoFault>
     ensures { MatchResult result
-        (λ _. (field_fault bytes.now field.now ≡ None) × (request.new ≡ asked_more bytes.now request.old field.now))
-        (λ e. StepFails e (field_fault bytes.now field.now)) }
+        (λ _. (field_fault is_jwt_field bytes.now field.now ≡ None)
+            × (request.new ≡ asked_more bytes.now request.old field.now))
+        (λ e. StepFails e (field_fault is_jwt_field bytes.now field.now)) }
 {
     match field.number {
-        1 => take_audience(alloc, bytes, &field.value, &mut request.audience),
-        2 => take_id(alloc, bytes, &field.value, &mut request.spiffe_id),
+        1 => take_audience(alloc, bytes, field, &mut request.audience),
+        2 => take_id(alloc, bytes, field, &mut request.spiffe_id),
         _ => Ok(()),
     }
 }
 
-fn read_jwt_request(alloc: Global, bytes: &[u8]) -> Result<JwtRequest, ProtoFault>
+fn decode_jwt_request_inner(alloc: Global, bytes: &[u8]) -> Result<JwtRequest, ProtoFault>
     ensures { Gives result (jwt_request_of bytes.now) }
 {
     let mut request = JwtRequest {
@@ -93,10 +84,11 @@ pub fn decode_jwt_request(alloc: Global, bytes: &[u8]) -> Result<JwtRequest, Pro
     ensures found { IfOk result (λ m. SpellsJwtRequest bytes.now m) }
     ensures only { (m : JwtRequest) → SpellsJwtRequest bytes.now m → Gives result (Ok m) }
 {
-    read_jwt_request(alloc, bytes)
+    // The public clauses follow from those of the inner call.
+    decode_jwt_request_inner(alloc, bytes)
 }
 
-fn read_to_end(bytes: &[u8]) -> Result<(), ProtoFault>
+fn decode_empty_inner(bytes: &[u8]) -> Result<(), ProtoFault>
     ensures { result ≡ empty_of bytes.now }
 {
     let mut at = 0;
@@ -115,5 +107,6 @@ pub fn decode_empty(bytes: &[u8]) -> Result<(), ProtoFault>
     ensures found { OnOk result (SpellsEmpty bytes.now) }
     ensures only { SpellsEmpty bytes.now → IsOk result }
 {
-    read_to_end(bytes)
+    // The public clauses follow from those of the inner call.
+    decode_empty_inner(bytes)
 }

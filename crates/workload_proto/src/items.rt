@@ -1,7 +1,9 @@
 //! Items of messages to bytes.
 
-ghost use Rattle.std.specs.Prelude.{◌≡◌, ◌≤◌, ◌^◌, ◌++◌, length, OnOk};
+ghost use Rattle.std.specs.Prelude.{◌≡◌, ◌≤◌, ◌^◌, ◌++◌, length, OnOk, OnErr};
 ghost use Rattle.std.specs.List.{flat_map};
+ghost use Rattle.list_laws.specs.Lists.{GainsFront};
+ghost use Rattle.pb_wire.specs.declared.field.TheConstants.{MAX_FIELD_NUMBER};
 ghost use Rattle.pb_wire.specs.Spelling.{optional_field};
 ghost use Rattle.workload_proto.specs.Spelling.{spell_x509_item, spell_jwt_item, spell_map_item, x509_field, jwt_field, map_field};
 
@@ -13,8 +15,9 @@ use wl_octets::Memory;
 /// A field that is left out where it is empty.
 fn put_optional(out: &mut Vec<u8>, number: u32, bytes: &[u8]) -> Result<(), Memory>
     requires least { 1 ≤ number }
-    requires most { number ≤ 536_870_911 }
-    ensures { OnOk result (out.new.items ≡ out.old.items ++ optional_field number bytes.now) }
+    requires most { number ≤ MAX_FIELD_NUMBER }
+    ensures ok { OnOk result (out.new.items ≡ out.old.items ++ optional_field number bytes.now) }
+    ensures err { OnErr result (GainsFront (optional_field number bytes.now) out.old.items out.new.items) }
 {
     if bytes.is_empty() {
         Ok(())
@@ -32,7 +35,8 @@ fn put_x509_content(
     bundle: &[u8],
     hint: &[u8],
 ) -> Result<(), Memory>
-    ensures { OnOk result (out.new.items ≡ out.old.items ++ spell_x509_item (record { spiffe_id = spiffe_id.now; chain = chain.now; key = key.now; bundle = bundle.now; hint = hint.now })) }
+    ensures ok { OnOk result (out.new.items ≡ out.old.items ++ spell_x509_item (record { spiffe_id = spiffe_id.now; chain = chain.now; key = key.now; bundle = bundle.now; hint = hint.now })) }
+    ensures err { OnErr result (GainsFront (spell_x509_item (record { spiffe_id = spiffe_id.now; chain = chain.now; key = key.now; bundle = bundle.now; hint = hint.now })) out.old.items out.new.items) }
 {
     put_optional(out, 1, spiffe_id)?;
     put_optional(out, 2, chain)?;
@@ -41,8 +45,8 @@ fn put_x509_content(
     put_optional(out, 5, hint)
 }
 
-/// Writes one SVID of an `X509SVIDResponse`, with its tag and its length, behind what `out` holds. So a response can
-/// be written item by item, with no copy of its parts.
+/// Writes one SVID of an `X509SVIDResponse`, with its tag and its length, after what `out` holds. So a response can be
+/// written item by item, with no copy of its parts. After `Memory` a prefix of it was written.
 #[tactic(auto, unfolding(crate::specs::Spelling::x509_field))]
 pub fn put_x509_item(
     out: &mut Vec<u8>,
@@ -53,7 +57,8 @@ pub fn put_x509_item(
     hint: &[u8],
 ) -> Result<(), Memory>
     requires { length (x509_field (record { spiffe_id = spiffe_id.now; chain = chain.now; key = key.now; bundle = bundle.now; hint = hint.now })) ≤ 2 ^ 31 }
-    ensures { OnOk result (out.new.items ≡ out.old.items ++ x509_field (record { spiffe_id = spiffe_id.now; chain = chain.now; key = key.now; bundle = bundle.now; hint = hint.now })) }
+    ensures ok { OnOk result (out.new.items ≡ out.old.items ++ x509_field (record { spiffe_id = spiffe_id.now; chain = chain.now; key = key.now; bundle = bundle.now; hint = hint.now })) }
+    ensures err { OnErr result (GainsFront (x509_field (record { spiffe_id = spiffe_id.now; chain = chain.now; key = key.now; bundle = bundle.now; hint = hint.now })) out.old.items out.new.items) }
 {
     let size = x509_content_size(spiffe_id, chain, key, bundle, hint);
     put_head(out, 1, size)?;
@@ -62,20 +67,23 @@ pub fn put_x509_item(
 
 #[tactic(auto, unfolding(crate::specs::Spelling::spell_map_item))]
 fn put_map_content(out: &mut Vec<u8>, key: &[u8], value: &[u8]) -> Result<(), Memory>
-    ensures { OnOk result (out.new.items ≡ out.old.items ++ spell_map_item (record { key = key.now; value = value.now })) }
+    ensures ok { OnOk result (out.new.items ≡ out.old.items ++ spell_map_item (record { key = key.now; value = value.now })) }
+    ensures err { OnErr result (GainsFront (spell_map_item (record { key = key.now; value = value.now })) out.old.items out.new.items) }
 {
     put_bytes(out, 1, key)?;
     put_bytes(out, 2, value)
 }
 
-/// Writes one item of the map with this field number, with its tag and its length, behind what `out` holds. The map is
-/// number 3 in an `X509SVIDResponse`, 2 in an `X509BundlesResponse`, 1 in a `JWTBundlesResponse`.
+/// Writes one item of the map with this field number, with its tag and its length, after what `out` holds. The map is
+/// number 3 in an `X509SVIDResponse`, 2 in an `X509BundlesResponse`, 1 in a `JWTBundlesResponse`. After `Memory` a prefix
+/// of it was written.
 #[tactic(auto, unfolding(crate::specs::Spelling::map_field))]
 pub fn put_map_item(out: &mut Vec<u8>, number: u32, key: &[u8], value: &[u8]) -> Result<(), Memory>
     requires least { 1 ≤ number }
-    requires most { number ≤ 536_870_911 }
+    requires most { number ≤ MAX_FIELD_NUMBER }
     requires size { length (map_field number (record { key = key.now; value = value.now })) ≤ 2 ^ 31 }
-    ensures { OnOk result (out.new.items ≡ out.old.items ++ map_field number (record { key = key.now; value = value.now })) }
+    ensures ok { OnOk result (out.new.items ≡ out.old.items ++ map_field number (record { key = key.now; value = value.now })) }
+    ensures err { OnErr result (GainsFront (map_field number (record { key = key.now; value = value.now })) out.old.items out.new.items) }
 {
     let size = map_content_size(key.len(), value);
     put_head(out, number, size)?;
@@ -121,7 +129,7 @@ fn put_x509(out: &mut Vec<u8>, item: &X509Item) -> Result<(), Memory>
 
 fn put_map(out: &mut Vec<u8>, number: u32, item: &MapItem) -> Result<(), Memory>
     requires least { 1 ≤ number }
-    requires most { number ≤ 536_870_911 }
+    requires most { number ≤ MAX_FIELD_NUMBER }
     requires size { length (map_field number item.now) ≤ 2 ^ 31 }
     ensures { OnOk result (out.new.items ≡ out.old.items ++ map_field number item.now) }
 {
@@ -140,7 +148,7 @@ pub(crate) fn put_x509_items(out: &mut Vec<u8>, svids: &[X509Item]) -> Result<()
 
 pub(crate) fn put_map_items(out: &mut Vec<u8>, number: u32, items: &[MapItem]) -> Result<(), Memory>
     requires least { 1 ≤ number }
-    requires most { number ≤ 536_870_911 }
+    requires most { number ≤ MAX_FIELD_NUMBER }
     requires size { length (flat_map (map_field number) items.now) ≤ 2 ^ 31 }
     ensures { OnOk result (out.new.items ≡ out.old.items ++ flat_map (map_field number) items.now) }
 {

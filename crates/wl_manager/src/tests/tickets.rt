@@ -1,6 +1,6 @@
 //! Tickets are noted down and let go, which leaves them in flight, and are made again when they come back.
 
-use crate::{Ticket, let_go_all};
+use crate::{Ticket, abandon_all};
 use std::alloc::Global;
 use wl_entry::Ask;
 use wl_octets::{Memory, Row};
@@ -27,7 +27,7 @@ fn copies(alloc: Global, tickets: &[Ticket]) -> Result<Vec<Slip>, Memory> {
 /// The tickets, noted down.
 pub fn noted(alloc: Global, tickets: Row<Ticket>) -> Result<Vec<Slip>, Memory> {
     let slips = copies(alloc, tickets.as_slice());
-    let_go_all(tickets);
+    abandon_all(tickets);
     slips
 }
 

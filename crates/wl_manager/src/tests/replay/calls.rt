@@ -19,7 +19,7 @@ fn change_from(before: u64, after: u64) -> Change {
 }
 
 impl Replay {
-    /// Want of memory in a step, after which the last publication has to have this number still.
+    /// out of memory in a step, after which the last publication has to have this number still.
     fn want_memory(&mut self, number: u64) -> Result<(), Memory> {
         if self.number() == number {
             return Err(Memory);

@@ -64,7 +64,7 @@ impl Replay {
         now: u64,
     ) -> Result<(), Memory> {
         let prepared = self.manager.prepare_signed(alloc, &ticket, signed, now);
-        ticket.let_go();
+        ticket.abandon();
         match prepared {
             Ok(prepared) => self.adopt(alloc, prepared),
             Err(Memory) => Err(Memory),

@@ -1,4 +1,4 @@
-use Rattle.std.proofs.Common.{length, arith, ap, ◌∙◌}
+use Rattle.std.proofs.Common.{length, arith, ap}
 use Rattle.std.specs.List.{flat_map}
 use Rattle.workload_proto.specs.Spelling.{map_field}
 use Rattle.wl_entry.specs.declared.bundles.Bundle.{Bundle}

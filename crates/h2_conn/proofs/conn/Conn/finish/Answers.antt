@@ -1,7 +1,7 @@
 use Rattle.std.proofs.Common.{rules}
 use Rattle.hpack.specs.Writing.{spelled_block}
-use Rattle.h2_conn.proofs.Sounds.{s_given_last}
+use Rattle.h2_conn.proofs.Sounds.{s_finished_on}
 use Rattle.h2_conn.proofs.conn.Conn.finish.Goals as goal
 
 pub invariant_of-self-in-Open : goal.invariant_of-self-in-Open
-invariant_of-self-in-Open c = rw c.in_ok-give_last-in-Open.ensures (s_given_last c.args.stream (spelled_block c.args.headers.now) c.in-Open.state (search rules))
+invariant_of-self-in-Open c = rw c.in_ok-finish-in-Open.ensures (s_finished_on c.args.stream (spelled_block c.args.headers.now) c.in-Open.state (search rules))

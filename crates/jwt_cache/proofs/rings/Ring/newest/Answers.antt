@@ -1,5 +1,5 @@
 use Rattle.std.proofs.Common.{◌<◌, length, sym, option_map, arith}
-use Rattle.jwt_cache.specs.Keeps.{newest, is_of_use}
+use Rattle.jwt_cache.specs.History.{newest, is_of_use}
 use Rattle.jwt_cache.proofs.Newest.{newest_step, none_in}
 use Rattle.jwt_cache.proofs.rings.Ring.newest.Goals as goal
 use Rattle.jwt_cache.proofs.rings.Ring.newest.Goals.{in-Some+then-is_of_use, in-Some+else-is_of_use, in_default}

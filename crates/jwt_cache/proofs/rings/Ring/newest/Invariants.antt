@@ -1,7 +1,7 @@
 -- what is left of the tokens gives what all of them give
 use Rattle.std.proofs.Common.{◌≡◌, drop, filter, option_map}
 use Rattle.std.specs.List.{last_or}
-use Rattle.jwt_cache.specs.Keeps.{newest, is_of_use}
+use Rattle.jwt_cache.specs.History.{newest, is_of_use}
 use Rattle.jwt_cache.proofs.rings.Ring.newest.Given as goal
 
 abbrev pub invariant-loop-i : goal.invariant-loop-i

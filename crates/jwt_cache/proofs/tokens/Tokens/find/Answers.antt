@@ -3,5 +3,5 @@ use Rattle.wl_selector.specs.Selectors.{sorted_texts}
 use Rattle.jwt_cache.proofs.Keeping.{stands_found}
 use Rattle.jwt_cache.proofs.tokens.Tokens.find.Goals as goal
 
-pub returns-clause-keeps : goal.returns-clause-keeps
-returns-clause-keeps c = λ keeps s. c.in_ok-token.ensures ∙ stands_found c.args.self.now keeps c.args.ask.now (sorted_texts c.args.audience.now) c.args.now s
+pub returns-clause-history : goal.returns-clause-history
+returns-clause-history c = λ history s. c.in_ok-token.ensures ∙ stands_found c.args.self.now history c.args.ask.now (sorted_texts c.args.audience.now) c.args.now s

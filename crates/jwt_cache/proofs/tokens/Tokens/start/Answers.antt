@@ -1,5 +1,5 @@
 use Rattle.std.proofs.Common.{refl}
-use Rattle.jwt_cache.specs.Keeps.{ring_of}
+use Rattle.jwt_cache.specs.History.{ring_of}
 use Rattle.jwt_cache.proofs.tokens.Tokens.start.Goals as goal
 
 pub returns-clause-stands : goal.returns-clause-stands

@@ -23,7 +23,7 @@ returns-in_ok-next-clause-next g c =
     subst (λ n. shows_parts n.published n.store.entries n.store.svids n.store.bundles ≡ true) c.self.view_is (shows_itself c.self.inside.published) in
     let shown : shows_parts m.published m.store.entries c.args.cache.svids m.store.bundles ≡ true =
     subst (λ l. shows_parts m.published m.store.entries l m.store.bundles ≡ true) (sym (c.requires.same c.if-is_same.true)) itself in
-    c.in_ok-next.ensures ∙ settled_same (with_parts m.store.entries m.store.bundles c.args.cache.svids c.args.flying.items c.args.last m.store) m shown
+    c.in_ok-next.ensures ∙ settled_same (with_parts m.store.entries m.store.bundles c.args.cache.svids c.args.in_flight.items c.args.last_ticket m.store) m shown
 
 pub returns-in_ok-next-clause-change : goal.returns-in_ok-next-clause-change
 returns-in_ok-next-clause-change g c =
@@ -32,7 +32,7 @@ returns-in_ok-next-clause-change g c =
     subst (λ n. shows_parts n.published n.store.entries n.store.svids n.store.bundles ≡ true) c.self.view_is (shows_itself c.self.inside.published) in
     let shown : shows_parts m.published m.store.entries c.args.cache.svids m.store.bundles ≡ true =
     subst (λ l. shows_parts m.published m.store.entries l m.store.bundles ≡ true) (sym (c.requires.same c.if-is_same.true)) itself in
-    change_same (with_parts m.store.entries m.store.bundles c.args.cache.svids c.args.flying.items c.args.last m.store) m shown
+    change_same (with_parts m.store.entries m.store.bundles c.args.cache.svids c.args.in_flight.items c.args.last_ticket m.store) m shown
 
 pub returns-in_ok-next-2-clause-next : goal.returns-in_ok-next-2-clause-next
 returns-in_ok-next-2-clause-next g c =
@@ -40,7 +40,7 @@ returns-in_ok-next-2-clause-next g c =
     let own : m.published.svids ≡ m.store.svids = subst (λ n. n.published.svids ≡ n.store.svids) c.self.view_is refl in
     let other : shows_parts m.published m.store.entries c.args.cache.svids m.store.bundles ≡ false =
     shows_no_other m.published m.store.entries c.args.cache.svids m.store.bundles (subst (λ l. pointwise same_svid l c.args.cache.svids ≡ false) (sym own) (c.requires.other c.if-is_same.false)) in
-    c.in_ok-next-2.ensures ∙ settled_new (with_parts m.store.entries m.store.bundles c.args.cache.svids c.args.flying.items c.args.last m.store) m other
+    c.in_ok-next-2.ensures ∙ settled_new (with_parts m.store.entries m.store.bundles c.args.cache.svids c.args.in_flight.items c.args.last_ticket m.store) m other
 
 pub returns-in_ok-next-2-clause-change : goal.returns-in_ok-next-2-clause-change
 returns-in_ok-next-2-clause-change g c =
@@ -48,4 +48,4 @@ returns-in_ok-next-2-clause-change g c =
     let own : m.published.svids ≡ m.store.svids = subst (λ n. n.published.svids ≡ n.store.svids) c.self.view_is refl in
     let other : shows_parts m.published m.store.entries c.args.cache.svids m.store.bundles ≡ false =
     shows_no_other m.published m.store.entries c.args.cache.svids m.store.bundles (subst (λ l. pointwise same_svid l c.args.cache.svids ≡ false) (sym own) (c.requires.other c.if-is_same.false)) in
-    change_new (with_parts m.store.entries m.store.bundles c.args.cache.svids c.args.flying.items c.args.last m.store) m other
+    change_new (with_parts m.store.entries m.store.bundles c.args.cache.svids c.args.in_flight.items c.args.last_ticket m.store) m other

@@ -1,6 +1,0 @@
-use Rattle.std.proofs.Common.{sym}
-use Rattle.h2_flow.specs.Outboxes.{with_offer}
-use Rattle.h2_flow.proofs.seats.give_message.Goals as goal
-
-pub returns : goal.returns
-returns c = rw c.offer.ensures (sym (c.place-at.ensures.changes (with_offer c.args.message) c.index-streams-at.result))

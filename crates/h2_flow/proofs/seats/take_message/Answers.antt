@@ -1,6 +1,0 @@
-use Rattle.std.proofs.Common.{sym, None}
-use Rattle.h2_flow.specs.declared.stream.Stream.{Stream}
-use Rattle.h2_flow.proofs.seats.take_message.Goals as goal
-
-pub returns : goal.returns
-returns c = sym (c.place-at.ensures.changes (λ (s : Stream). record s { waiting = None }) c.index-streams-at.result)

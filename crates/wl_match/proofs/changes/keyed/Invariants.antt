@@ -1,6 +1,0 @@
-use Rattle.std.proofs.Common.{◌≡◌, take}
-use Rattle.wl_match.specs.Changes.{by_id}
-use Rattle.wl_match.proofs.changes.keyed.Given as goal
-
-abbrev pub invariant-loop-entry : goal.invariant-loop-entry
-invariant-loop-entry l = l.all.entries ≡ by_id (take l.entry-index l.entries)

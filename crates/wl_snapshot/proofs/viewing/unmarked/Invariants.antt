@@ -1,5 +1,0 @@
-use Rattle.std.proofs.Common.{◌≡◌, false, take, map}
-use Rattle.wl_snapshot.proofs.viewing.unmarked.Given as goal
-
-abbrev pub invariant-loop : goal.invariant-loop
-invariant-loop l = l.marks.items ≡ map (λ b. false) (take l.index l.bundles)

@@ -1,0 +1,262 @@
+//! Tickets that come back with a signed identity.
+
+ghost use Rattle.std.specs.Prelude.{◌≡◌, true, false, [], unwrap_or, Ok, None, Some, IfOk, OnOk, OnErr};
+ghost use Rattle.std.specs.Cmp.Lexicographic.{pointwise};
+ghost use Rattle.wl_entry.specs.Same.{same_svid};
+ghost use Rattle.wl_x509.specs.Leaves.{NamesAsk};
+ghost use Rattle.wl_store.specs.Steps.{stored_after, change_to, after_failed, with_parts, AllTrusted, Trusted, IsInstalled, is_refused};
+ghost use Rattle.wl_store.specs.Stores.{asks_of, cached_of, has_ticket, after_signed, install, leaf_judged, refusal, svids_after, without_flight};
+ghost use Rattle.svid_cache.specs.Caches.{after_install};
+
+use crate::flights::{has_ticket, remove_flight};
+use crate::preparing::Prepared;
+use crate::store::Store;
+use crate::tickets::{Adopted, Change, Flight, Ticket, abandon_all};
+use std::alloc::Global;
+use svid_cache::{Cache, Installed};
+use wl_entry::{Ask, Signed, Svid, Unfit, Voucher};
+use wl_octets::{Memory, Row, Shared};
+use wl_x509::leaf_unfit;
+
+impl<V: Voucher> Store<V> {
+    /// The first reason that the leaf gives, in a strict store.
+    fn judge_leaf(&self, alloc: Global, ask: &Ask, signed: &Signed) -> Result<Option<Unfit>, Memory>
+        ensures value { IfOk result (λ u. u ≡ leaf_judged self.now.store.strict ask.now signed.now) }
+        ensures named { IfOk result (λ u. u ≡ None → self.now.store.strict ≡ true → NamesAsk ask.now signed.now) }
+    {
+        if self.strict {
+            let unfit = leaf_unfit(alloc, ask, signed)?;
+            Ok(unfit)
+        } else {
+            Ok(None)
+        }
+    }
+
+    /// The first reason against a signed identity that does not hang on the kept one.
+    #[tactic(auto, unfolding(crate::specs::Stores::refusal))]
+    fn refuse(
+        &self,
+        alloc: Global,
+        ask: &Ask,
+        signed: &Signed,
+        now: u64,
+    ) -> Result<Option<Installed>, Memory>
+        ensures value { IfOk result (λ r. r ≡ refusal now ask.now signed.now self.now.store) }
+        ensures named { IfOk result (λ r. r ≡ None → self.now.store.strict ≡ true → NamesAsk ask.now signed.now) }
+    {
+        if !self.lists(ask) {
+            return Ok(Some(Installed::NoSuchAsk));
+        }
+        if let Some(unfit) = signed.unfit(now) {
+            return Ok(Some(Installed::Unfit(unfit)));
+        }
+        match self.judge_leaf(alloc, ask, signed)? {
+            Some(unfit) => Ok(Some(Installed::Unfit(unfit))),
+            None => Ok(None),
+        }
+    }
+}
+
+impl<V: Voucher> Store<V> {
+    /// The cache with an SVID against which nothing stands yet, and what became of it.
+    fn install_cache(
+        &self,
+        alloc: Global,
+        svid: Svid,
+        now: u64,
+    ) -> Result<(Shared<Cache>, Installed), Memory>
+        requires { refusal now svid.ask svid.signed self.now.store ≡ None }
+        ensures answer { IfOk result (λ r. r.1 ≡ install now svid.ask svid.signed self.now.store) }
+        ensures cache { IfOk result (λ r. r.0 ≡ after_install r.1 svid (cached_of self.now.store)) }
+    {
+        let mut cache = self.kept().copy(alloc)?;
+        let installed = cache.install(alloc, svid, now)?;
+        Ok((Shared::new(alloc, cache)?, installed))
+    }
+
+    /// The cache as it is, where a signed identity is refused.
+    fn refused_cache(&self, refusal: Installed) -> Result<(Shared<Cache>, Installed), Memory>
+        ensures answer { IfOk result (λ r. r.1 ≡ refusal) }
+        ensures cache { IfOk result (λ r. r.0 ≡ cached_of self.now.store) }
+    {
+        let cache = self.cache.share()?;
+        Ok((cache, refusal))
+    }
+
+    /// The cache with the signed identity, where nothing stands against it, and what became of it.
+    fn installed_cache(
+        &self,
+        alloc: Global,
+        svid: Svid,
+        now: u64,
+    ) -> Result<(Shared<Cache>, Installed), Memory>
+        requires { V.signed svid.ask svid.signed }
+        ensures answer { IfOk result (λ r. r.1 ≡ install now svid.ask svid.signed self.now.store) }
+        ensures gives { IfOk result (λ r. IsInstalled V.signed self.now.store svid r.1 r.0) }
+    {
+        // a field that is read tells the proof what the type keeps
+        let _ = &self.last_ticket;
+        match self.refuse(alloc, &svid.ask, &svid.signed, now)? {
+            Some(refusal) => {
+                let both = self.refused_cache(refusal)?;
+                Ok(both)
+            }
+            None => {
+                let both = self.install_cache(alloc, svid, now)?;
+                Ok(both)
+            }
+        }
+    }
+
+    /// The tickets in flight without the first of this number.
+    fn fewer_flights(&self, alloc: Global, number: u64) -> Result<Vec<Flight>, Memory>
+        ensures { IfOk result (λ v. v.items ≡ without_flight number self.now.store.in_flight) }
+    {
+        let mut in_flight = self.flights(alloc)?;
+        remove_flight(&mut in_flight, number);
+        Ok(in_flight)
+    }
+
+    /// The step of a ticket in flight that comes back with a signed identity.
+    #[tactic(auto, unfolding(crate::specs::Stores::after_signed))]
+    fn signed_step(
+        &self,
+        alloc: Global,
+        ticket: &Ticket,
+        signed: &Signed,
+        now: u64,
+    ) -> Result<Prepared<V>, Memory>
+        requires { V.signed ticket.now.ask signed.now }
+        ensures next { IfOk result (λ p. p.next ≡ stored_after (after_signed now ticket.now.number ticket.now.ask signed.now self.now.store) self.now) }
+        ensures change { IfOk result (λ p. p.answer.change ≡ change_to (after_signed now ticket.now.number ticket.now.ask signed.now self.now.store) self.now) }
+        ensures tickets { IfOk result (λ p. p.answer.tickets ≡ []) }
+        ensures installed { IfOk result (λ p. p.answer.installed ≡ Some (install now ticket.now.ask signed.now self.now.store)) }
+    {
+        let svid = Svid {
+            ask: ticket.ask.copy(alloc)?,
+            signed: signed.copy(alloc)?,
+        };
+        let in_flight = self.fewer_flights(alloc, ticket.number)?;
+        let (cache, installed) = self.installed_cache(alloc, svid, now)?;
+        let is_same = is_refused(&installed);
+        let (next, change) = self.settle_svids(alloc, cache, is_same, in_flight, self.last_number())?;
+        Ok(Prepared {
+            next,
+            answer: Adopted {
+                change,
+                tickets: Row::empty(alloc),
+                installed: Some(installed),
+            },
+        })
+    }
+
+    /// The step of a ticket that is not in flight, which changes nothing.
+    fn unchanged(&self, alloc: Global) -> Result<Prepared<V>, Memory>
+        ensures next { IfOk result (λ p. p.next ≡ self.now) }
+        ensures change { IfOk result (λ p. p.answer.change ≡ Change.Same) }
+        ensures tickets { IfOk result (λ p. p.answer.tickets ≡ []) }
+        ensures installed { IfOk result (λ p. p.answer.installed ≡ Some Installed.Spent) }
+    {
+        let cache = self.cache.share()?;
+        let in_flight = self.flights(alloc)?;
+        let next = self.keep_published(cache, in_flight, self.last_ticket)?;
+        Ok(Prepared {
+            next,
+            answer: Adopted {
+                change: Change::Same,
+                tickets: Row::empty(alloc),
+                installed: Some(Installed::Spent),
+            },
+        })
+    }
+
+    /// Prepares that a ticket comes back with a signed identity, which has to be vouched for the ticket's ask.
+    pub fn prepare_signed(
+        &self,
+        alloc: Global,
+        ticket: &Ticket,
+        signed: &Signed,
+        now: u64,
+    ) -> Result<Prepared<V>, Memory>
+        requires { V.signed ticket.now.ask signed.now }
+
+        // A ticket that is not in flight changes nothing.
+        ensures spent { has_ticket ticket.now.number ticket.now.ask self.now.store.in_flight ≡ false → IfOk result (λ p. (p.next ≡ self.now) × (p.answer.change ≡ Change.Same) × (p.answer.installed ≡ Some Installed.Spent)) }
+
+        // The ticket leaves, and the answer is that of Install.
+        ensures next { has_ticket ticket.now.number ticket.now.ask self.now.store.in_flight ≡ true → IfOk result (λ p. p.next ≡ stored_after (after_signed now ticket.now.number ticket.now.ask signed.now self.now.store) self.now) }
+        ensures change { has_ticket ticket.now.number ticket.now.ask self.now.store.in_flight ≡ true → IfOk result (λ p. p.answer.change ≡ change_to (after_signed now ticket.now.number ticket.now.ask signed.now self.now.store) self.now) }
+        ensures installed { has_ticket ticket.now.number ticket.now.ask self.now.store.in_flight ≡ true → IfOk result (λ p. p.answer.installed ≡ Some (install now ticket.now.ask signed.now self.now.store)) }
+        ensures tickets { IfOk result (λ p. p.answer.tickets ≡ []) }
+    {
+        if has_ticket(self.in_flight.as_slice(), ticket) {
+            let prepared = self.signed_step(alloc, ticket, signed, now)?;
+            Ok(prepared)
+        } else {
+            let prepared = self.unchanged(alloc)?;
+            Ok(prepared)
+        }
+    }
+
+    /// Takes a ticket back with a signed identity, which has to be vouched for the ticket's ask, and tells what became
+    /// of it. The ticket is spent in each case; if memory runs out nothing else changes.
+    pub fn signed(
+        &mut self,
+        alloc: Global,
+        ticket: Ticket,
+        signed: Signed,
+        now: u64,
+    ) -> Result<Installed, Memory>
+        requires { V.signed ticket.ask signed }
+
+        // A ticket that is not in flight changes nothing.
+        ensures spent { has_ticket ticket.number ticket.ask self.old.store.in_flight ≡ false → (result ≡ Ok Installed.Spent) × (self.new ≡ self.old) }
+
+        // The ticket leaves, and the answer is that of Install.
+        ensures ok { has_ticket ticket.number ticket.ask self.old.store.in_flight ≡ true → OnOk result (self.new ≡ stored_after (after_signed now ticket.number ticket.ask signed self.old.store) self.old) }
+        ensures installed { has_ticket ticket.number ticket.ask self.old.store.in_flight ≡ true → IfOk result (λ i. i ≡ install now ticket.ask signed self.old.store) }
+        ensures err { OnErr result (self.new ≡ after_failed ticket.number self.old) }
+    {
+        if !has_ticket(self.in_flight.as_slice(), &ticket) {
+            ticket.abandon();
+            return Ok(Installed::Spent);
+        }
+        match self.prepare_signed(alloc, &ticket, &signed, now) {
+            Ok(prepared) => {
+                ticket.abandon();
+                Ok(self.take(prepared))
+            }
+            Err(memory) => {
+                self.failed(ticket);
+                Err(memory)
+            }
+        }
+    }
+
+    /// Takes a prepared step, and tells what became of the identity.
+    fn take(&mut self, prepared: Prepared<V>) -> Installed
+        ensures new { self.new ≡ prepared.next }
+        ensures answer { result ≡ unwrap_or prepared.answer.installed Installed.Spent }
+    {
+        let Adopted {
+            change: _,
+            tickets,
+            installed,
+        } = self.adopt(prepared);
+        abandon_all(tickets);
+        match installed {
+            Some(installed) => installed,
+            None => Installed::Spent,
+        }
+    }
+}
+
+/// Whether it was not kept.
+fn is_refused(installed: &Installed) -> bool
+    ensures { result ≡ is_refused installed.now }
+{
+    match installed {
+        Installed::Kept => false,
+        _ => true,
+    }
+}
