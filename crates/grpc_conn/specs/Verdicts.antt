@@ -11,6 +11,7 @@ use Rattle.grpc_wire.specs.declared.refusal.Refusal.{Refusal}
 use Rattle.grpc_wire.specs.declared.refusal.Refusal.TheVariants.{Flag, LongRequest, Count}
 use Rattle.grpc_wire.specs.Heads.{head_verdict}
 use Rattle.grpc_wire.specs.Messages.{prefix_of}
+use Rattle.grpc_wire.specs.declared.prefix.TheConstants.{PREFIX_LEN}
 use Rattle.workload_proto.specs.declared.limits.TheConstants.{MAX_REQUEST_LEN}
 use Rattle.grpc_conn.specs.declared.event.CallEvent.{CallEvent}
 use Rattle.grpc_conn.specs.declared.event.CallEvent.TheVariants.{Nothing, Malformed, Refuse, Ready}
@@ -51,7 +52,7 @@ prefix_verdict method (Ok None) after ended = part_verdict ended
 prefix_verdict method (Ok (Some n)) after ended = sized_verdict method n after ended
 
 unfoldable pub body_verdict : Method → List ℕ → Bool → CallEvent
-body_verdict method body ended = prefix_verdict method (prefix_of MAX_REQUEST_LEN body) (drop 5 body) ended
+body_verdict method body ended = prefix_verdict method (prefix_of MAX_REQUEST_LEN body) (drop PREFIX_LEN body) ended
 
 -- ---- head and body
 

@@ -42,10 +42,10 @@ impl Calls {
         })
     }
 
-    /// A call begins, on a stream that isn't there yet: its header list, and whether its request ends with that.
+    /// A call begins, on a stream that has none: its header list, and whether its request ends with that.
     ///
-    /// Fewer than 16 streams have to be there. When memory runs out the call isn't there, and each later call that can
-    /// answer so does.
+    /// There is room for [`CALLS_AT_ONCE`] calls; one more may need memory. When memory runs out the call isn't there,
+    /// and each later call that can answer so does.
     #[tactic(auto, using(crate::proofs::Histories::begins_so))]
     pub fn head(
         &mut self,
@@ -56,7 +56,8 @@ impl Calls {
     ) -> Result<CallEvent, Memory>
         // The verdict on this head, no body, and whether the request has ended.
         ensures event { IfOk result (λ event. event ≡ verdict headers.now [] ended) }
-        ensures calls { OnOk result (self.new.calls ≡ with_call stream (standing_of_head headers.now ended) self.old.calls) }
+        ensures calls { OnOk result (self.new.calls ≡ with_call stream
+            (standing_of_head headers.now ended) self.old.calls) }
         // What is kept of a call on a stream that had none.
         ensures stands { OnOk result (standing_at stream self.old.calls ≡ None → ended ≡ false
             → CallStandsFor stream self.new.calls headers.now []) }
@@ -77,7 +78,8 @@ impl Calls {
         ended: bool,
     ) -> Result<CallEvent, Memory>
         ensures event { IfOk result (λ event. event ≡ verdict headers.now [] ended) }
-        ensures calls { OnOk result (self.new.calls ≡ with_call stream (standing_of_head headers.now ended) self.old.calls) }
+        ensures calls { OnOk result (self.new.calls ≡ with_call stream
+            (standing_of_head headers.now ended) self.old.calls) }
         ensures ok { OnOk result (self.new.failed ≡ false) }
         ensures err { OnErr result (self.new.failed ≡ true) }
         ensures absent { OnErr result (self.new.calls ≡ self.old.calls) }
@@ -114,11 +116,16 @@ impl Calls {
         ended: bool,
     ) -> Result<CallEvent, Memory>
         // What is kept of the call and these bytes come to.
-        ensures event { IfOk result (λ event. event ≡ event_at (standing_at stream self.old.calls) bytes.now ended) }
+        ensures event { IfOk result (λ event. event ≡ event_at (standing_at stream self.old.calls)
+            bytes.now ended) }
         ensures calls { OnOk result (self.new.calls ≡ calls_after stream bytes.now ended self.old.calls) }
         // The verdict on the head, on all bytes so far, and on whether the request has ended, if it wasn't given before.
-        ensures verdict { IfOk result (λ event. (headers : List Header) (fed : List ℕ) → CallStandsFor stream self.old.calls headers fed → event ≡ news (verdict headers fed false) (verdict headers (fed ++ bytes.now) ended)) }
-        ensures stands { OnOk result ((headers : List Header) (fed : List ℕ) → CallStandsFor stream self.old.calls headers fed → ended ≡ false → CallStandsFor stream self.new.calls headers (fed ++ bytes.now)) }
+        ensures verdict { IfOk result (λ event. (headers : List Header) (fed : List ℕ)
+            → CallStandsFor stream self.old.calls headers fed
+            → event ≡ news (verdict headers fed false) (verdict headers (fed ++ bytes.now) ended)) }
+        ensures stands { OnOk result ((headers : List Header) (fed : List ℕ)
+            → CallStandsFor stream self.old.calls headers fed → ended ≡ false
+            → CallStandsFor stream self.new.calls headers (fed ++ bytes.now)) }
         ensures ok { OnOk result (self.new.failed ≡ false) }
         ensures err { OnErr result (self.new.failed ≡ true) }
         ensures again { self.old.failed ≡ true → IsErr result }
@@ -134,7 +141,8 @@ impl Calls {
         bytes: &[u8],
         ended: bool,
     ) -> Result<CallEvent, Memory>
-        ensures event { IfOk result (λ event. event ≡ event_at (standing_at stream self.old.calls) bytes.now ended) }
+        ensures event { IfOk result (λ event. event ≡ event_at (standing_at stream self.old.calls)
+            bytes.now ended) }
         ensures calls { OnOk result (self.new.calls ≡ calls_after stream bytes.now ended self.old.calls) }
         ensures ok { OnOk result (self.new.failed ≡ false) }
         ensures err { OnErr result (self.new.failed ≡ true) }

@@ -1,6 +1,7 @@
 //! One call's body, as it comes.
 
 ghost use Rattle.std.specs.Prelude.{◌≡◌, ◌≢◌, ◌≤◌, ◌++◌, drop, length, IfOk, OnOk};
+ghost use Rattle.grpc_wire.specs.declared.prefix.TheConstants.{PREFIX_LEN};
 ghost use Rattle.grpc_conn.specs.declared.event.CallEvent.TheVariants.{Nothing};
 ghost use Rattle.grpc_conn.specs.Verdicts.{sized_verdict, whole_verdict, part_verdict, refused_by, body_verdict};
 ghost use Rattle.grpc_conn.specs.Calls.{event_of, standing_after};
@@ -69,8 +70,9 @@ fn take_rest(
     rest: &[u8],
     ended: bool,
 ) -> Result<CallEvent, Memory>
-    requires { 5 ≤ length body.old }
-    ensures event { IfOk result (λ event. event ≡ sized_verdict method said (drop 5 (body.old ++ rest.now)) ended) }
+    requires { PREFIX_LEN ≤ length body.old }
+    ensures event { IfOk result (λ event. event ≡ sized_verdict method said (drop PREFIX_LEN (body.old
+        ++ rest.now)) ended) }
     ensures kept { IfOk result (λ event. event ≡ Nothing → body.new ≡ body.old ++ rest.now) }
 {
     let due = said as usize;
@@ -112,8 +114,8 @@ fn refuse(fault: MessageFault) -> CallEvent
 /// A request that has ended, with its one message after its prefix. The message of a call that is ready is moved out
 /// of the body.
 fn decide(alloc: Global, method: Method, body: &mut Octets) -> Result<CallEvent, Memory>
-    requires { 5 ≤ length body.old }
-    ensures event { IfOk result (λ event. event ≡ whole_verdict method (drop 5 body.old)) }
+    requires { PREFIX_LEN ≤ length body.old }
+    ensures event { IfOk result (λ event. event ≡ whole_verdict method (drop PREFIX_LEN body.old)) }
     ensures decided { IfOk result (λ event. event ≢ Nothing) }
 {
     let (_, message) = body.as_slice().split_at(PREFIX_LEN);
@@ -130,8 +132,8 @@ fn decide(alloc: Global, method: Method, body: &mut Octets) -> Result<CallEvent,
 
 /// The bytes after the prefix. They are moved, and take no memory.
 fn take_message(alloc: Global, body: &mut Octets) -> Octets
-    requires { 5 ≤ length body.old }
-    ensures { result ≡ drop 5 body.old }
+    requires { PREFIX_LEN ≤ length body.old }
+    ensures { result ≡ drop PREFIX_LEN body.old }
 {
     let mut bytes = mem::replace(body, Octets::empty(alloc)).into_vec();
     bytes.rotate_left(PREFIX_LEN);

@@ -8,5 +8,7 @@ ghost use Rattle.grpc_conn.specs.Verdicts.{verdict, is_decided_event};
 /// request ends.
 #[tactic(auto, using(crate::proofs::Histories::verdicts_stay))]
 pub fn verdicts_stay()
-    ensures { (headers : List Header) (fed more : List ℕ) (ended : Bool) → is_decided_event (verdict headers fed false) ≡ true → verdict headers (fed ++ more) ended ≡ verdict headers fed false }
+    ensures { (headers : List Header) (fed more : List ℕ) (ended : Bool)
+        → is_decided_event (verdict headers fed false) ≡ true
+        → verdict headers (fed ++ more) ended ≡ verdict headers fed false }
 {}

@@ -357,7 +357,7 @@ fn orders_of_a_head(rt: HostRuntime) -> Result<(), Fail> {
     Ok(())
 }
 
-/// Heads as grpc-go, grpc-python and node send them, on each of the six paths.
+/// Heads in the forms of grpc-go, grpc-python, node, grpc-java, tonic and Envoy, on each of the six paths.
 #[test]
 fn heads_of_clients(rt: HostRuntime) -> Result<(), Fail> {
     let alloc = rt.alloc();
@@ -373,6 +373,18 @@ fn heads_of_clients(rt: HostRuntime) -> Result<(), Fail> {
         (
             ":authority localhost|:method POST|:path /SpiffeWorkloadAPI/FetchJWTBundles|:scheme http|workload.spiffe.io true|grpc-accept-encoding identity,deflate,gzip|accept-encoding identity|user-agent grpc-node-js/1.10.9|content-type application/grpc|te trailers",
             Method::JwtBundles,
+        ),
+        (
+            ":authority localhost|:path /SpiffeWorkloadAPI/FetchX509SVID|:method POST|:scheme http|content-type application/grpc|te trailers|user-agent grpc-java-netty/1.64.0|workload.spiffe.io true|grpc-accept-encoding gzip",
+            Method::X509Svid,
+        ),
+        (
+            ":method POST|:scheme http|:authority localhost|:path /SpiffeWorkloadAPI/FetchJWTBundles|te trailers|content-type application/grpc|workload.spiffe.io true|user-agent tonic/0.12.1",
+            Method::JwtBundles,
+        ),
+        (
+            ":method POST|:path /SpiffeWorkloadAPI/FetchX509Bundles|:authority spire_agent|:scheme http|te trailers|content-type application/grpc|workload.spiffe.io true|x-envoy-internal true|x-forwarded-for 10.0.0.1|grpc-timeout 250m",
+            Method::X509Bundles,
         ),
     ] {
         assert!(rt;
@@ -450,5 +462,26 @@ fn calls_side_by_side(rt: HostRuntime) -> Result<(), Fail> {
     assert!(rt; calls.body(alloc, 1, b"\0\0\0", true)?.is_decided());
     calls.gone(1);
     assert!(rt; calls.body(alloc, 1, b"\x01", true)? == CallEvent::Nothing);
+    Ok(())
+}
+
+/// Sixteen calls at once, each of which is then ready.
+#[test]
+fn sixteen_calls(rt: HostRuntime) -> Result<(), Fail> {
+    let alloc = rt.alloc();
+    let headers = list(alloc, X509)?;
+    let mut calls = Calls::start(alloc)?;
+    for number in 0..16 {
+        assert!(rt;
+            calls.head(alloc, 2 * number + 1, headers.as_slice(), false)? == CallEvent::Nothing
+        );
+    }
+    for number in 0..16 {
+        assert!(rt;
+            calls
+                .body(alloc, 2 * number + 1, b"\0\0\0\0\0", true)?
+                .is_decided()
+        );
+    }
     Ok(())
 }

@@ -1,6 +1,7 @@
 -- Messages in the bytes of a body (PROTOCOL-HTTP2 of gRPC, Length-Prefixed-Message).
 use Rattle.std.specs.Prelude.{◌≡◌, ℕ, zero, suc, ◌<◌, ◌≤◌, ◌==◌, nat_lt, not, if◌then◌else◌, List, [], ◌∷◌, ◌++◌, length, take, drop, slice_index, Option, Some, None, Result, Ok, Err}
 use Rattle.std.specs.Int.{w32, to_be_bytes, from_be_bytes}
+use Rattle.grpc_wire.specs.declared.prefix.TheConstants.{PREFIX_LEN}
 use Rattle.grpc_wire.specs.declared.fault.MessageFault.{MessageFault}
 use Rattle.grpc_wire.specs.declared.fault.MessageFault.TheVariants as faults
 
@@ -20,7 +21,7 @@ unfoldable pub prefix_of : ℕ → List ℕ → Result (Option ℕ) MessageFault
 prefix_of limit b =
     if nat_lt (length b) 1 then Ok None
     else if not (slice_index b 0 == 0) then Err (faults.Flag (slice_index b 0))
-    else if nat_lt (length b) 5 then Ok None
+    else if nat_lt (length b) PREFIX_LEN then Ok None
     else length_within limit (from_be_bytes w32 (take 4 (drop 1 b)))
 
 -- what stands at the front: less than a message, a message and the bytes after it, or a fault
@@ -35,7 +36,7 @@ step_of_prefix (Ok None) after = partial
 step_of_prefix (Ok (Some n)) after = if nat_lt (length after) n then partial else whole (take n after) (drop n after)
 
 unfoldable pub first_message : ℕ → List ℕ → Step
-first_message limit b = step_of_prefix (prefix_of limit b) (drop 5 b)
+first_message limit b = step_of_prefix (prefix_of limit b) (drop PREFIX_LEN b)
 
 -- ---- a whole body
 

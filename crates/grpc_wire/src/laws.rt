@@ -2,6 +2,7 @@
 
 ghost use Rattle.std.specs.Prelude.{◌≡◌, ◌⊎◌, ◌<◌, ◌^◌, ◌++◌, ℕ, List, length, Ok, Err, None};
 ghost use Rattle.list_laws.specs.Lists.{AreBytes};
+ghost use Rattle.grpc_wire.specs.declared.prefix.TheConstants.{PREFIX_LEN};
 ghost use Rattle.grpc_wire.specs.declared.fault.MessageFault.TheVariants as faults;
 ghost use Rattle.grpc_wire.specs.Messages.{End, Reading, prefix_of, messages_of, reading_from, read_on};
 ghost use Rattle.grpc_wire.specs.Bodies.{IsBody};
@@ -12,7 +13,7 @@ ghost use Rattle.grpc_wire.specs.Bodies.{IsBody};
 pub fn prefixes_stay()
     ensures stays { (limit : ℕ) (bytes more : List ℕ) →
         (prefix_of limit bytes ≡ Ok None) ⊎ (prefix_of limit (bytes ++ more) ≡ prefix_of limit bytes) }
-    ensures short { (limit : ℕ) (bytes : List ℕ) → prefix_of limit bytes ≡ Ok None → length bytes < 5 }
+    ensures short { (limit : ℕ) (bytes : List ℕ) → prefix_of limit bytes ≡ Ok None → length bytes < PREFIX_LEN }
     ensures memory { (limit : ℕ) (bytes : List ℕ) → prefix_of limit bytes ≡ Err faults.Memory → ⊥ }
 {}
 
@@ -26,7 +27,8 @@ pub fn cut_anywhere()
 /// What is cut out of a body was framed in it, and what was framed in it is cut out.
 #[tactic(auto, using(crate::proofs::Bodies::body_found))]
 pub fn bodies_are_framed()
-    ensures found { (limit : ℕ) (bytes : List ℕ) → AreBytes bytes → IsBody limit bytes (messages_of limit bytes) }
+    ensures found { (limit : ℕ) (bytes : List ℕ) → AreBytes bytes
+        → IsBody limit bytes (messages_of limit bytes) }
     ensures only { (limit : ℕ) (bytes : List ℕ) (r : Reading) →
         limit < 2 ^ 32 → IsBody limit bytes r → messages_of limit bytes ≡ r }
 {}

@@ -70,11 +70,14 @@ impl Messages {
         piece: &[u8],
         into: &mut Row<Octets>,
     ) -> Result<(), MessageFault>
-        ensures fed { Feeds result (reading_from self.old.limit self.old.ending piece.now) into.old into.new self.new.ending }
+        ensures fed { Feeds result (reading_from self.old.limit self.old.ending piece.now)
+            into.old into.new self.new.ending }
         ensures limit { self.new.limit ≡ self.old.limit }
-        ensures front { GainsFront (reading_from self.old.limit self.old.ending piece.now).messages into.old into.new }
+        ensures front { GainsFront (reading_from self.old.limit self.old.ending piece.now).messages
+            into.old into.new }
         ensures again { (fault : MessageFault) → self.old.ending ≡ Fault fault → result ≡ Err fault }
-        ensures stands { (fed : List ℕ) → StandsFor self.old.limit self.old.ending fed → StandsFor self.new.limit self.new.ending (fed ++ piece.now) }
+        ensures stands { (fed : List ℕ) → StandsFor self.old.limit self.old.ending fed
+            → StandsFor self.new.limit self.new.ending (fed ++ piece.now) }
     {
         // The public clauses follow from those of the inner call.
         self.feed_inner(alloc, piece, into)
@@ -87,9 +90,11 @@ impl Messages {
         piece: &[u8],
         into: &mut Row<Octets>,
     ) -> Result<(), MessageFault>
-        ensures fed { Feeds result (reading_from self.old.limit self.old.ending piece.now) into.old into.new self.new.ending }
+        ensures fed { Feeds result (reading_from self.old.limit self.old.ending piece.now)
+            into.old into.new self.new.ending }
         ensures limit { self.new.limit ≡ self.old.limit }
-        ensures front { GainsFront (reading_from self.old.limit self.old.ending piece.now).messages into.old into.new }
+        ensures front { GainsFront (reading_from self.old.limit self.old.ending piece.now).messages
+            into.old into.new }
         ensures again { (fault : MessageFault) → self.old.ending ≡ Fault fault → result ≡ Err fault }
     {
         let (head, rest) = piece.split_at(self.missing_bytes().min(piece.len()));
@@ -106,9 +111,11 @@ impl Messages {
         piece: &[u8],
         into: &mut Row<Octets>,
     ) -> Result<(), MessageFault>
-        ensures fed { Feeds result (reading_from self.old.limit self.old.ending piece.now) into.old into.new self.new.ending }
+        ensures fed { Feeds result (reading_from self.old.limit self.old.ending piece.now)
+            into.old into.new self.new.ending }
         ensures limit { self.new.limit ≡ self.old.limit }
-        ensures front { GainsFront (reading_from self.old.limit self.old.ending piece.now).messages into.old into.new }
+        ensures front { GainsFront (reading_from self.old.limit self.old.ending piece.now).messages
+            into.old into.new }
         ensures again { (fault : MessageFault) → self.old.ending ≡ Fault fault → result ≡ Err fault }
     {
         let (content, rest) = piece.split_at(self.missing_bytes().min(piece.len()));
@@ -130,9 +137,11 @@ impl Messages {
         piece: &[u8],
         into: &mut Row<Octets>,
     ) -> Result<(), MessageFault>
-        ensures fed { Feeds result (reading_from self.old.limit self.old.ending piece.now) into.old into.new self.new.ending }
+        ensures fed { Feeds result (reading_from self.old.limit self.old.ending piece.now)
+            into.old into.new self.new.ending }
         ensures limit { self.new.limit ≡ self.old.limit }
-        ensures front { GainsFront (reading_from self.old.limit self.old.ending piece.now).messages into.old into.new }
+        ensures front { GainsFront (reading_from self.old.limit self.old.ending piece.now).messages
+            into.old into.new }
         ensures again { (fault : MessageFault) → self.old.ending ≡ Fault fault → result ≡ Err fault }
     {
         match self.fault {
@@ -174,9 +183,11 @@ fn cut(
 ) -> Result<(), MessageFault>
     requires small { limit ≤ 2 ^ 31 }
     requires open { fault.old ≡ None }
-    ensures fed { Feeds result (reading_from limit (Rest pending.old.items) piece.now) into.old into.new (ending_of fault.new pending.new.items) }
+    ensures fed { Feeds result (reading_from limit (Rest pending.old.items) piece.now) into.old into.new
+        (ending_of fault.new pending.new.items) }
     ensures cut { IsCut limit fault.new pending.new.items }
-    ensures front { GainsFront (reading_from limit (Rest pending.old.items) piece.now).messages into.old into.new }
+    ensures front { GainsFront (reading_from limit (Rest pending.old.items) piece.now).messages
+        into.old into.new }
 {
     match take_in(alloc, limit, pending, piece, into) {
         Ok(()) => Ok(()),
@@ -195,8 +206,12 @@ fn take_in(
     piece: &[u8],
     into: &mut Row<Octets>,
 ) -> Result<(), MessageFault>
-    ensures ok { OnOk result ((into.new ≡ into.old ++ (messages_of limit (pending.old.items ++ piece.now)).messages) × ((messages_of limit (pending.old.items ++ piece.now)).ending ≡ Rest pending.new.items)) }
-    ensures fault { IfErr result (λ fault. Refuses fault ((into.new ≡ into.old ++ (messages_of limit (pending.old.items ++ piece.now)).messages) × ((messages_of limit (pending.old.items ++ piece.now)).ending ≡ Fault fault))) }
+    ensures ok { OnOk result ((into.new ≡ into.old ++ (messages_of limit (pending.old.items
+        ++ piece.now)).messages)
+        × ((messages_of limit (pending.old.items ++ piece.now)).ending ≡ Rest pending.new.items)) }
+    ensures fault { IfErr result (λ fault. Refuses fault ((into.new ≡ into.old
+        ++ (messages_of limit (pending.old.items ++ piece.now)).messages)
+        × ((messages_of limit (pending.old.items ++ piece.now)).ending ≡ Fault fault))) }
     ensures front { GainsFront (messages_of limit (pending.old.items ++ piece.now)).messages into.old into.new }
 {
     if pending.is_empty() {
@@ -229,7 +244,8 @@ pub fn put_message(out: &mut Octets, message: &[u8]) -> Result<(), Memory>
     requires { length message.now < 2 ^ 32 }
     ensures ok { OnOk result (out.new ≡ out.old ++ framed message.now) }
     ensures front { GainsFront (framed message.now) out.old out.new }
-    ensures read_again { (limit : ℕ) (rest : List ℕ) → length message.now ≤ limit → first_message limit (framed message.now ++ rest) ≡ whole message.now rest }
+    ensures read_again { (limit : ℕ) (rest : List ℕ) → length message.now ≤ limit
+        → first_message limit (framed message.now ++ rest) ≡ whole message.now rest }
 {
     out.push_slice(&message_prefix(message.len() as u32))?;
     out.push_slice(message)

@@ -1,6 +1,7 @@
 //! The five bytes before a message.
 
 ghost use Rattle.std.specs.Prelude.{◌≡◌, ◌≤◌, length, IfOk, OnSome, IfSome};
+ghost use Rattle.grpc_wire.specs.declared.prefix.TheConstants.{PREFIX_LEN};
 ghost use Rattle.grpc_wire.specs.Messages.{prefix_of};
 
 use crate::fault::MessageFault;
@@ -13,7 +14,7 @@ pub const PREFIX_LEN: usize = 5;
 #[tactic(auto, unfolding(crate::specs::Messages::prefix_of))]
 pub fn judge_prefix(limit: u32, bytes: &[u8]) -> Result<Option<u32>, MessageFault>
     ensures says { result ≡ prefix_of limit bytes.now }
-    ensures come { IfOk result (λ length_said. OnSome length_said (5 ≤ length bytes.now)) }
+    ensures come { IfOk result (λ length_said. OnSome length_said (PREFIX_LEN ≤ length bytes.now)) }
     ensures small { IfOk result (λ length_said. IfSome length_said (λ n. n ≤ limit)) }
 {
     if bytes.is_empty() {

@@ -39,7 +39,8 @@ pub(crate) fn messages(
     ensures within { IfOk result (λ used. used ≤ length bytes.now) }
     ensures ending { IfOk result (λ used. (messages_of limit bytes.now).ending ≡ Rest (drop used bytes.now)) }
     ensures all { OnOk result (into.new ≡ into.old ++ (messages_of limit bytes.now).messages) }
-    ensures fault { IfErr result (λ fault. Refuses fault ((into.new ≡ into.old ++ (messages_of limit bytes.now).messages) × ((messages_of limit bytes.now).ending ≡ Fault fault))) }
+    ensures fault { IfErr result (λ fault. Refuses fault ((into.new ≡ into.old
+        ++ (messages_of limit bytes.now).messages) × ((messages_of limit bytes.now).ending ≡ Fault fault))) }
     ensures front { GainsFront (messages_of limit bytes.now).messages into.old into.new }
 {
     let mut at = 0;

@@ -32,7 +32,7 @@ fn has_fields(alloc: Global, fields: &Row<Header>, text: &str) -> Result<bool, M
 const SECURE: &str =
     ":method POST|:scheme http|:path /SpiffeWorkloadAPI/FetchX509SVID|content-type application/grpc|workload.spiffe.io true";
 
-/// Heads as grpc-go, grpc-python and node send them, and the six paths.
+/// Heads in the forms of grpc-go, grpc-python, node, grpc-java, tonic and Envoy, and the six paths.
 #[test]
 fn heads_of_calls(rt: HostRuntime) -> Result<(), Fail> {
     for (text, method) in [
@@ -52,6 +52,18 @@ fn heads_of_calls(rt: HostRuntime) -> Result<(), Fail> {
         (
             ":method POST|:scheme http|:path /SpiffeWorkloadAPI/FetchJWTSVID|content-type application/grpc+proto|grpc-encoding identity|workload.spiffe.io true",
             Method::JwtSvid,
+        ),
+        (
+            ":authority localhost|:path /SpiffeWorkloadAPI/FetchX509SVID|:method POST|:scheme http|content-type application/grpc|te trailers|user-agent grpc-java-netty/1.64.0|workload.spiffe.io true|grpc-accept-encoding gzip",
+            Method::X509Svid,
+        ),
+        (
+            ":method POST|:scheme http|:authority localhost|:path /SpiffeWorkloadAPI/FetchJWTSVID|te trailers|content-type application/grpc|workload.spiffe.io true|user-agent tonic/0.12.1",
+            Method::JwtSvid,
+        ),
+        (
+            ":method POST|:path /SpiffeWorkloadAPI/FetchX509Bundles|:authority spire_agent|:scheme http|te trailers|content-type application/grpc|workload.spiffe.io true|x-envoy-internal true|x-forwarded-for 10.0.0.1|grpc-timeout 250m",
+            Method::X509Bundles,
         ),
         (
             ":method POST|:scheme http|:path /grpc.health.v1.Health/Check|content-type application/grpc",
@@ -384,4 +396,24 @@ fn methods(rt: HostRuntime) {
         Refusal::Insecure.text(),
         "security header missing from request"
     );
+}
+
+/// A message of 4 MiB, in pieces of 16,384 bytes.
+#[test]
+fn long_message(rt: HostRuntime) -> Result<(), Fail> {
+    let alloc = rt.alloc();
+    let mut messages = Messages::start(alloc, 4_194_304);
+    let mut cut = Row::empty(alloc);
+    assert_eq!(rt;
+        messages.feed(alloc, &message_prefix(4_194_304), &mut cut),
+        Ok(())
+    );
+    let piece = vec![in alloc; 7u8; 16_384]?;
+    for _ in 0..256 {
+        assert_eq!(rt; cut.len(), 0);
+        assert_eq!(rt; messages.feed(alloc, piece.as_slice(), &mut cut), Ok(()));
+    }
+    assert_eq!(rt; messages.rest(), 0);
+    assert!(rt; cut.get(0).is_some_and(|message| message.len() == 4_194_304));
+    Ok(())
 }

@@ -4,3 +4,5 @@ pub mod Sounds
 pub mod Results
 pub mod Fitting
 pub mod Sums
+pub mod Carries
+pub mod WindowSums

@@ -16,7 +16,7 @@ use Rattle.h2_frame.specs.declared.frame.Setting.{Setting}
 use Rattle.h2_frame.specs.Writing.{spelling}
 use Rattle.h2_flow.specs.declared.overflow.Overflow.{Overflow}
 use Rattle.h2_flow.specs.declared.stream.Stream as other
-use Rattle.h2_flow.specs.Outboxes.{Out, has, is_number, is_written, is_shrunk, numbers, IsAbove, added, controlled, shrunk, grown, initialed, headed, offered, withdrawn, finished_by, pulled}
+use Rattle.h2_flow.specs.Outboxes.{Out, has, is_number, is_written, is_shrunk, RisesFrom, numbers, IsAbove, added, controlled, shrunk, grown, initialed, headed, offered, withdrawn, finished_by, pulled}
 use Rattle.h2_flow.proofs.Numbers.{KeepsNumbers, numbers_added, numbers_removed, numbers_controlled, numbers_shrunk, numbers_grown, numbers_initialed, numbers_headed, numbers_offered, numbers_withdrawn, numbers_closed, numbers_pulled}
 use Rattle.h2_conn.specs.declared.fault.ConnCause.TheVariants as cause
 use Rattle.h2_conn.specs.declared.fault.ConnFault.{ConnFault}
@@ -55,6 +55,22 @@ all_filter P test (n ∷ ns) h =
       | inl keeps ↦ rw keeps (h.0, all_filter P test ns h.1)
       | inr keeps ↦ rw keeps (all_filter P test ns h.1)
     ]
+
+rises_kept : (m : ℕ) (test : ℕ → Bool) (ns : List ℕ) → RisesFrom m ns → RisesFrom m (filter test ns)
+rises_kept m test [] h = tt
+rises_kept m test (n ∷ ns) h =
+    elim (cases_Bool (test n)) [
+      | inl keeps ↦ rw keeps (h.0, rises_kept n test ns h.1)
+      | inr keeps ↦ rw keeps (rises_kept m test ns (rises_below m n ns (omega (arith, h.0)) h.1))
+    ]
+  where
+    rises_below : (m n : ℕ) (ns : List ℕ) → m ≤ n → RisesFrom n ns → RisesFrom m ns
+    rises_below m n [] le h = tt
+    rises_below m n (k ∷ ns) le h = (omega (arith, le, h.0), h.1)
+
+rises_push : (m a n : ℕ) (ns : List ℕ) → m < n → a ≤ n → AllByRecursion (λ k. k < a) ns → RisesFrom m ns → RisesFrom m (ns ++ n ∷ [])
+rises_push m a n [] lt le below h = (lt, tt)
+rises_push m a n (k ∷ ns) lt le below h = (h.0, rises_push k a n ns (omega (arith, below.0, le)) le below.1 h.1)
 
 all_push : (P : ℕ → Type 0) (ns : List ℕ) (n : ℕ) → AllByRecursion P ns → P n → AllByRecursion P (ns ++ n ∷ [])
 all_push P [] n h p = (p, tt)
@@ -106,6 +122,9 @@ there_by_numbers n (o ∷ os) (s ∷ ss) e =
     let rest : map (λ (s : other.Stream). s.number) os ≡ map number_of ss = cc in
     rw (first, there_by_numbers n os ss rest) refl
 
+pub there_is : (q : State) (n : ℕ) → Sound q → list_any (is_number n) q.outbox.streams ≡ is_live n q.streams
+there_is q n s = there_by_numbers n q.outbox.streams q.streams s.same
+
 pub is_there : (q : State) (n : ℕ) → Sound q → is_live n q.streams ≡ true → has n q.outbox ≡ true
 is_there q n s live = there_by_numbers n q.outbox.streams q.streams s.same ∙ live
 
@@ -121,7 +140,7 @@ is_above q n above s = above_by_numbers n q.outbox.streams (all_below (q.last_st
 
 -- ---- states
 
-s_outbox : (q : State) (o : Out) → numbers o ≡ numbers q.outbox → Sound q → Sound (record q { outbox = o })
+pub s_outbox : (q : State) (o : Out) → numbers o ≡ numbers q.outbox → Sound q → Sound (record q { outbox = o })
 s_outbox q o e s = rw e s
 
 s_queued : (n : ℕ) (body : Body) (q : State) → Sound q → Sound (queued n body q)
@@ -133,10 +152,11 @@ s_closed n q s = record {
   same = numbers_removed n q.outbox ∙ (ap (λ (ns : List ℕ). filter (λ m. not (m == n)) ns) s.same ∙ without_numbers n q.streams);
   below = rw (numbers_removed n q.outbox) (all_filter (λ m. m < q.last_stream_id + 1) (λ m. not (m == n)) (numbers q.outbox) s.below);
   low = s.low;
+  rises = rw (numbers_removed n q.outbox) (rises_kept 0 (λ m. not (m == n)) (numbers q.outbox) s.rises);
 }
 
 s_streams : (f : Stream → Stream) → ((s : Stream) → (f s).number ≡ s.number) → (q : State) → Sound q → Sound (record q { streams = map f q.streams })
-s_streams f keeps q s = record { same = s.same ∙ sym (kept_numbers f keeps q.streams); below = s.below; low = s.low }
+s_streams f keeps q s = record { same = s.same ∙ sym (kept_numbers f keeps q.streams); below = s.below; low = s.low; rises = s.rises }
 
 s_ending : (n : ℕ) (q : State) → Sound q → Sound (record q { streams = with_remote_closed n q.streams })
 s_ending n q s = s_streams (remote_closed_if n) (λ x. number_cond (x.number == n) (record x { remote_closed = true }) x refl) q s
@@ -145,21 +165,22 @@ pub s_answering : (n : ℕ) (q : State) → Sound q → Sound (record q { stream
 s_answering n q s = s_streams (local_closed_if n) (λ x. number_cond (x.number == n) (record x { local_closed = true }) x refl) q s
 
 s_raised : (q : State) (n : ℕ) → q.last_stream_id < n → Sound q → Sound (record q { last_stream_id = n })
-s_raised q n above s = record { same = s.same; below = all_below (q.last_stream_id + 1) (n + 1) (omega (arith, above)) (numbers q.outbox) s.below; low = s.low }
+s_raised q n above s = record { same = s.same; below = all_below (q.last_stream_id + 1) (n + 1) (omega (arith, above)) (numbers q.outbox) s.below; low = s.low; rises = s.rises }
 
 s_added : (q : State) (n : ℕ) (ended : Bool) → q.last_stream_id < n → Sound q → Sound (record q { last_stream_id = n; streams = q.streams ++ record { number = n; remote_closed = ended; local_closed = false } ∷ []; outbox = added n q.outbox })
 s_added q n ended above s = record {
   same = numbers_added n q.outbox ∙ (ap (λ (ns : List ℕ). ns ++ n ∷ []) s.same ∙ sym (map-append number_of q.streams (record { number = n; remote_closed = ended; local_closed = false } ∷ [])));
   below = rw (numbers_added n q.outbox) (all_push (λ m. m < n + 1) (numbers q.outbox) n (all_below (q.last_stream_id + 1) (n + 1) (omega (arith, above)) (numbers q.outbox) s.below) (omega arith));
   low = s.low;
+  rises = rw (numbers_added n q.outbox) (rises_push 0 (q.last_stream_id + 1) n (numbers q.outbox) (omega (arith, above)) (omega (arith, above)) s.below s.rises);
 }
 
 -- the state without its unfinished block, or with another
 pub s_unblocked : (last_stream_id : ℕ) (streams : List Stream) (others : List ℕ) (u : Option OpenBlock) → Ties last_stream_id streams others u → Ties last_stream_id streams others None
-s_unblocked last_stream_id streams others u s = record { same = s.same; below = s.below; low = tt }
+s_unblocked last_stream_id streams others u s = record { same = s.same; below = s.below; low = tt; rises = s.rises }
 
 pub s_blocked : (q : State) (u : OpenBlock) → u.stream < 2 ^ 31 → Sound q → Sound (record q { open_block = Some u })
-s_blocked q u low s = record { same = s.same; below = s.below; low = low }
+s_blocked q u low s = record { same = s.same; below = s.below; low = low; rises = s.rises }
 
 low_of : (h : Option OpenBlock) (u : OpenBlock) → h ≡ Some u → IsLow h → u.stream < 2 ^ 31
 low_of h u e l = rw e at l

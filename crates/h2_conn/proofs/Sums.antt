@@ -323,9 +323,9 @@ from_nexts : (step : Step) (before : List Step) (q : State) → Nexts step befor
 from_nexts step before q c =
     rw (since_next restarts (came is_settings) step before, since_next restarts (came is_empty) step before, since_next ends_resets came_early step before, since_next (came is_head) (came is_continuation) step before) c
 
-came_next : (f : Frame) (early : Bool) (before : List Step) (old new : State) (told : Option Happening) → early ≡ is_early old f.stream f.body → peer old f ≡ goes new told → Sums before old → Nexts (Came f early) before new
+came_next : (f : Frame) (told : Option Happening) (early : Bool) (before : List Step) (old new : State) → early ≡ is_early old f.stream f.body → peer old f ≡ goes new told → Sums before old → Nexts (Came f told early) before new
 unfolding next
-came_next f early before old new told same due c =
+came_next f told early before old new same due c =
     let s = since restarts (came is_settings) before in
     let e = since restarts (came is_empty) before in
     let r = since ends_resets came_early before in
@@ -335,8 +335,8 @@ came_next f early before old new told same due c =
 
 step_nexts : (step : Step) (before : List Step) (old new : State) → Sums before old → Leads step old new → Nexts step before new
 unfolding next
-step_nexts (Came f early) before old new c l = came_next f early before old new l.1.0 l.0 l.1.1 c
-step_nexts (Wrote ends) before old new c l = rw (l.0, l.1) (c_after _ _ _ _ old (pulled old.outbox) c)
+step_nexts (Came f told early) before old new c l = came_next f told early before old new l.1 l.0 c
+step_nexts (Wrote sent ends) before old new c l = rw (l.1, l.2) (c_after _ _ _ _ old (pulled old.outbox) c)
 step_nexts (Head n block) before old new c l = rw l (c_head _ _ _ _ n block old c)
 step_nexts (Finish n block) before old new c l = rw l (c_last _ _ _ _ n block old c)
 step_nexts (Offer n message) before old new c l = rw l (c_message _ _ _ _ n message old c)

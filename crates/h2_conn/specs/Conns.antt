@@ -86,7 +86,7 @@ frame_fault_on why (Open q) = Some (failure q (cause_of why))
 frame_fault_on why (Failed fault left totals) = Some fault
 frame_fault_on why (OutOfMemory totals) = None
 
--- ---- want of memory
+-- ---- out of memory
 
 -- what is kept of a connection whose memory ran out
 abbrev pub out_of_memory : Phase → Phase
@@ -94,7 +94,7 @@ out_of_memory (Open q) = OutOfMemory (totals_of q)
 out_of_memory (Failed fault left totals) = OutOfMemory totals
 out_of_memory (OutOfMemory totals) = OutOfMemory totals
 
--- A call that may answer Memory: a connection that has failed has nothing to do and does it; after want of memory each call answers that.
+-- A call that may answer Memory: a connection that has failed has nothing to do and does it; after running out of memory each call answers that.
 abbrev pub Lasts : {T : Type 0} → Phase → Result T Memory → Type 0
 Lasts (Open q) result = Unit {0}
 Lasts (Failed fault left totals) result = IsOk result
@@ -123,7 +123,7 @@ heard (Open q) f = heard_of q (peer q f)
 heard (Failed fault left totals) f = record { after = Failed fault left totals; told = []; fault = Some fault }
 heard (OutOfMemory totals) f = record { after = OutOfMemory totals; told = []; fault = None }
 
--- a refusal: the fault that is due, or want of memory
+-- a refusal: the fault that is due, or out of memory
 abbrev pub Refuses : ConnError → Heard → Phase → Phase → Type 0
 Refuses (refusal.Fault f) due old new = (due.fault ≡ Some f) × (new ≡ due.after)
 Refuses refusal.Memory due old new = new ≡ out_of_memory old

@@ -2,6 +2,7 @@
 use Rattle.std.specs.Prelude.{◌≡◌, ℕ, ◌==◌, Bool, true, false, not, ◌||◌, List, [], ◌∷◌, length, count_by, Option, Some, None}
 use Rattle.std.specs.List.{take_while}
 use Rattle.h2_flow.specs.Outboxes.{pulled}
+use Rattle.h2_flow.specs.Streams.{Sent}
 use Rattle.h2_frame.specs.declared.frame.Body.{Body}
 use Rattle.h2_frame.specs.declared.frame.Body.TheVariants.{Bytes, Headers, Reset}
 use Rattle.h2_frame.specs.declared.frame.Frame.{Frame}
@@ -13,11 +14,12 @@ use Rattle.h2_conn.specs.Conns.{fresh, headed_on, finished_on, offered_on, withd
 
 -- ---- histories
 
--- What happened to a connection that goes on: a frame came, and it was a RST_STREAM on a live stream on which no frame was
--- written, or not; a flush wrote, and a message began in it or END_STREAM was written, or not; or the server said something.
+-- What happened to a connection that goes on: a frame came and told this, and it was a RST_STREAM on a live stream on which no
+-- frame was written, or not; a flush wrote these frames after the control frames, and a message began in it or END_STREAM was
+-- written, or not; or the server said something.
 pub data Step : Type 0 where
-  Came : Frame → Bool → Step
-  Wrote : Bool → Step
+  Came : Frame → Option Happening → Bool → Step
+  Wrote : List Sent → Bool → Step
   Head : ℕ → List ℕ → Step
   Finish : ℕ → List ℕ → Step
   Offer : ℕ → List ℕ → Step
@@ -29,8 +31,9 @@ is_early q n (Reset code) = is_rapid q n
 is_early q n body = false
 
 abbrev pub Leads : Step → State → State → Type 0
-Leads (Came f early) old new = (early ≡ is_early old f.stream f.body) × ((told : Option Happening) × (peer old f ≡ goes new told))
-Leads (Wrote ends) old new = (ends ≡ moved old (pulled old.outbox)) × (new ≡ after_pull old (pulled old.outbox))
+Leads (Came f told early) old new = (peer old f ≡ goes new told) × (early ≡ is_early old f.stream f.body)
+Leads (Wrote sent ends) old new =
+    (sent ≡ (pulled old.outbox).sent) × (ends ≡ moved old (pulled old.outbox)) × (new ≡ after_pull old (pulled old.outbox))
 Leads (Head n block) old new = new ≡ headed_on n block old
 Leads (Finish n block) old new = new ≡ finished_on n block old
 Leads (Offer n message) old new = new ≡ offered_on n message old
@@ -58,20 +61,20 @@ is_empty body = false
 
 -- a frame of this sort
 abbrev pub came : (Body → Bool) → Step → Bool
-came sort (Came f early) = sort f.body
+came sort (Came f told early) = sort f.body
 came sort _ = false
 
 abbrev pub came_early : Step → Bool
-came_early (Came f early) = early
+came_early (Came f told early) = early
 came_early _ = false
 
 abbrev pub ends_resets : Step → Bool
-ends_resets (Wrote ends) = ends
+ends_resets (Wrote sent ends) = ends
 ends_resets _ = false
 
 -- HEADERS, or DATA with bytes
 abbrev pub restarts : Step → Bool
-restarts (Came f early) = is_data f.body || is_head f.body
+restarts (Came f told early) = is_data f.body || is_head f.body
 restarts _ = false
 
 -- how many steps count, since the last one that ends the count, or the start

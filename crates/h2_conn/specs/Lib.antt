@@ -6,3 +6,4 @@ pub mod Conns
 pub mod Sound
 pub mod Naming
 pub mod Counts
+pub mod Windows

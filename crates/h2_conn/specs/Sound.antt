@@ -1,7 +1,7 @@
 -- What holds of each state that a connection reaches.
 use Rattle.std.specs.Prelude.{◌≡◌, ℕ, ◌+◌, ◌<◌, ◌^◌, List, map, Option, Some, None}
 use Rattle.std.specs.List.{AllByRecursion}
-use Rattle.h2_flow.specs.Outboxes.{numbers}
+use Rattle.h2_flow.specs.Outboxes.{RisesFrom, numbers}
 use Rattle.h2_conn.specs.declared.phase.Phase.{Phase}
 use Rattle.h2_conn.specs.declared.phase.Phase.TheVariants.{Open, Failed, OutOfMemory}
 use Rattle.h2_conn.specs.declared.state.State.{State}
@@ -17,11 +17,12 @@ abbrev pub IsLow : Option OpenBlock → Type 0
 IsLow None = Unit {0}
 IsLow (Some u) = u.stream < 2 ^ 31
 
--- the outbox has the live streams, and none is above the highest
+-- the outbox has the live streams, by ascending number, and none is above the last stream
 pub record Ties (last_stream_id : ℕ) (streams : List Stream) (others : List ℕ) (open_block : Option OpenBlock) : Type 0 where
   pub same : others ≡ map number_of streams
   pub below : AllByRecursion (λ n. n < last_stream_id + 1) others
   pub low : IsLow open_block
+  pub rises : RisesFrom 0 others
 
 abbrev pub Sound : State → Type 0
 Sound q = Ties q.last_stream_id q.streams (numbers q.outbox) q.open_block

@@ -1,10 +1,12 @@
 //! What a server says, and what streams close by it.
 
 ghost use Rattle.std.specs.Prelude.{◌≡◌, ◌≤◌, ◌<◌, true};
+ghost use Rattle.hpack.specs.declared.limit.TheConstants.{MAX_LIST_SIZE};
 ghost use Rattle.hpack.specs.Tables.{list_size, size_of};
 
+use crate::samples::{A, R1, S};
 use crate::testing::{are_noted, feed, goes_on, writes};
-use crate::{Conn, ConnCause, ConnFault, judge_trailers};
+use crate::{Conn, ConnCause, ConnFault, Happening, judge_trailers};
 use h2_frame::FrameFault;
 use hpack::HpackFault;
 use std::alloc::Global;
@@ -12,13 +14,10 @@ use std::process::Abort;
 use std::test::Fail;
 use wl_octets::{Header, Octets, Row};
 
-const S: &[u8] = b"\0\0\0\x04\0\0\0\0\0";
+/// A head on stream 1 of a call, which is `:method POST`, and one that ends.
+const POST: &[u8] = b"\0\0\x01\x01\x04\0\0\0\x01\x83";
 
-const A: &[u8] = b"\0\0\0\x04\x01\0\0\0\0";
-/// A head on stream 1 of a call, and one that ends.
-const H1: &[u8] = b"\0\0\x01\x01\x04\0\0\0\x01\x83";
-
-const H1_END: &[u8] = b"\0\0\x01\x01\x05\0\0\0\x01\x83";
+const POST_END: &[u8] = b"\0\0\x01\x01\x05\0\0\0\x01\x83";
 /// The head of a response with its frame.
 const RESPONSE: &[u8] = b"\0\0\x14\x01\x04\0\0\0\x01\x88\x0f\x10\x10application/grpc";
 /// Trailers with their frame.
@@ -68,7 +67,7 @@ fn is_small(header: &Header) -> bool
 /// Whether there are one or two headers, whose sizes sum to at most 16,384.
 #[tactic(auto, unfolding(hpack::specs::Tables::list_size))]
 fn are_small(headers: &[Header]) -> bool
-    ensures { result ≡ true → list_size headers.now ≤ 16384 }
+    ensures { result ≡ true → list_size headers.now ≤ MAX_LIST_SIZE }
 {
     match headers {
         [one] => is_small(one),
@@ -207,7 +206,7 @@ fn causes_of_faults(rt: HostRuntime) -> Result<(), Fail> {
             ConnCause::WrongLength(6, 7),
         ),
     ] {
-        let mut conn = called(&rt, rt.alloc(), H1)?;
+        let mut conn = called(&rt, rt.alloc(), POST)?;
         let fault = conn.fail(why)?;
         assert_eq!(rt;
             (fault.code, fault.last_stream, fault.cause),
@@ -229,7 +228,7 @@ fn answers_with_a_head_on(rt: &impl Abort, alloc: Global, conn: &mut Conn) -> Re
 
 #[test]
 fn answers_with_a_head(rt: HostRuntime) -> Result<(), Fail> {
-    let mut conn = called(&rt, rt.alloc(), H1)?;
+    let mut conn = called(&rt, rt.alloc(), POST)?;
     answers_with_a_head_on(&rt, rt.alloc(), &mut conn)
 }
 
@@ -249,7 +248,7 @@ fn answers_with_trailers_on(rt: &impl Abort, alloc: Global, conn: &mut Conn) -> 
 
 #[test]
 fn answers_with_trailers(rt: HostRuntime) -> Result<(), Fail> {
-    let mut conn = called(&rt, rt.alloc(), H1)?;
+    let mut conn = called(&rt, rt.alloc(), POST)?;
     answers_with_trailers_on(&rt, rt.alloc(), &mut conn)
 }
 
@@ -263,7 +262,7 @@ fn answers_with_a_reset_on(rt: &impl Abort, alloc: Global, conn: &mut Conn) -> R
 
 #[test]
 fn answers_with_a_reset(rt: HostRuntime) -> Result<(), Fail> {
-    let mut conn = called(&rt, rt.alloc(), H1)?;
+    let mut conn = called(&rt, rt.alloc(), POST)?;
     answers_with_a_reset_on(&rt, rt.alloc(), &mut conn)
 }
 
@@ -281,7 +280,7 @@ fn ends_with_its_answer_on(rt: &impl Abort, alloc: Global, conn: &mut Conn) -> R
 
 #[test]
 fn ends_with_its_answer(rt: HostRuntime) -> Result<(), Fail> {
-    let mut conn = called(&rt, rt.alloc(), H1_END)?;
+    let mut conn = called(&rt, rt.alloc(), POST_END)?;
     ends_with_its_answer_on(&rt, rt.alloc(), &mut conn)
 }
 
@@ -300,7 +299,7 @@ fn trailers_behind_the_answer_on(
 
 #[test]
 fn trailers_behind_the_answer(rt: HostRuntime) -> Result<(), Fail> {
-    let mut conn = called(&rt, rt.alloc(), H1)?;
+    let mut conn = called(&rt, rt.alloc(), POST)?;
     trailers_behind_the_answer_on(&rt, rt.alloc(), &mut conn)
 }
 
@@ -323,7 +322,7 @@ fn negative_window_on(rt: &impl Abort, alloc: Global, conn: &mut Conn) -> Result
 
 #[test]
 fn negative_window(rt: HostRuntime) -> Result<(), Fail> {
-    let mut conn = called(&rt, rt.alloc(), H1)?;
+    let mut conn = called(&rt, rt.alloc(), POST)?;
     negative_window_on(&rt, rt.alloc(), &mut conn)
 }
 
@@ -338,7 +337,7 @@ fn withdrawn_messages_on(rt: &impl Abort, alloc: Global, conn: &mut Conn) -> Res
 
 #[test]
 fn withdrawn_messages(rt: HostRuntime) -> Result<(), Fail> {
-    let mut conn = called(&rt, rt.alloc(), H1)?;
+    let mut conn = called(&rt, rt.alloc(), POST)?;
     withdrawn_messages_on(&rt, rt.alloc(), &mut conn)
 }
 
@@ -356,8 +355,51 @@ fn one_size_update_on(rt: &impl Abort, alloc: Global, conn: &mut Conn) -> Result
 
 #[test]
 fn one_size_update(rt: HostRuntime) -> Result<(), Fail> {
-    let mut conn = called(&rt, rt.alloc(), H1)?;
+    let mut conn = called(&rt, rt.alloc(), POST)?;
     one_size_update_on(&rt, rt.alloc(), &mut conn)
+}
+
+/// The first byte of the next block where the peer's header table has this size.
+fn after_a_table(rt: &impl Abort, alloc: Global, size: [u8; 2], block: &[u8]) -> Result<(), Fail> {
+    let mut conn = called(rt, alloc, POST)?;
+    let [high, low] = size;
+    let table = [0, 0, 6, 4, 0, 0, 0, 0, 0, 0, 1, 0, 0, high, low];
+    goes_on(rt, alloc, &mut conn, &table)?;
+    answer(rt, alloc, &mut conn, 1, &[(b":status", b"200")])?;
+    writes(rt, alloc, &mut conn, "a table", &[A, block])
+}
+
+#[test]
+fn size_updates(rt: HostRuntime) -> Result<(), Fail> {
+    let shrunk = b"\0\0\x02\x01\x04\0\0\0\x01\x20\x88";
+    let plain = b"\0\0\x01\x01\x04\0\0\0\x01\x88";
+    let cases: [([u8; 2], &[u8]); 2] = [([0x0f, 0xff], shrunk), ([0x10, 0], plain)];
+    for (size, block) in cases {
+        after_a_table(&rt, rt.alloc(), size, block)?;
+    }
+    Ok(())
+}
+
+fn reset_while_it_writes_on(rt: &impl Abort, alloc: Global, conn: &mut Conn) -> Result<(), Fail> {
+    goes_on(rt, alloc, conn, b"\0\0\x06\x04\0\0\0\0\0\0\x04\0\0\0\x05")?;
+    offer(rt, alloc, conn, 1, b"thirty-two bytes of one message.")?;
+    let five = b"\0\0\x05\0\0\0\0\0\x01thirt";
+    writes(rt, alloc, conn, "five bytes", &[A, five])?;
+    goes_on(rt, alloc, conn, R1)?;
+    goes_on(rt, alloc, conn, b"\0\0\x04\x08\0\0\0\0\x01\0\0\x01\0")?;
+    writes(rt, alloc, conn, "nothing more", &[])?;
+    // a larger initial window would let the rest through
+    let larger = b"\0\0\x06\x04\0\0\0\0\0\0\x04\0\0\0\x64";
+    goes_on(rt, alloc, conn, larger)?;
+    writes(rt, alloc, conn, "still nothing", &[A])?;
+    assert_eq!(rt; conn.begun(), 1);
+    Ok(())
+}
+
+#[test]
+fn reset_while_it_writes(rt: HostRuntime) -> Result<(), Fail> {
+    let mut conn = called(&rt, rt.alloc(), POST)?;
+    reset_while_it_writes_on(&rt, rt.alloc(), &mut conn)
 }
 
 fn seventeen_heads_on(rt: &impl Abort, alloc: Global, conn: &mut Conn) -> Result<(), Fail> {
@@ -369,8 +411,69 @@ fn seventeen_heads_on(rt: &impl Abort, alloc: Global, conn: &mut Conn) -> Result
     assert_eq!(rt; conn.live(), 16);
     assert!(rt; conn.is_live(31));
     assert!(rt; !conn.is_live(33));
+    // a fault names the refused stream
+    let fault = ConnFault {
+        code: 1,
+        last_stream: 33,
+        cause: ConnCause::ZeroStep,
+    };
+    fails(rt, alloc, conn, b"\0\0\x04\x08\0\0\0\0\0\0\0\0\0", fault)?;
     let refused = b"\0\0\x04\x03\0\0\0\0\x21\0\0\0\x07";
-    writes(rt, alloc, conn, "the seventeenth", &[A, refused])
+    let away = b"\0\0\x08\x07\0\0\0\0\0\0\0\0\x21\0\0\0\x01";
+    writes(rt, alloc, conn, "the seventeenth", &[A, refused, away])
+}
+
+/// What a refused head leaves: its stream is closed, its headers are in the table, and it is
+/// the last stream of a fault.
+fn refused_head_on(rt: &impl Abort, alloc: Global, conn: &mut Conn) -> Result<(), Fail> {
+    goes_on(rt, alloc, conn, S)?;
+    for each in 0..16_u8 {
+        let stream = 2 * each + 1;
+        goes_on(rt, alloc, conn, &[0, 0, 1, 1, 4, 0, 0, 0, stream, 0x82])?;
+    }
+    tells(
+        rt,
+        alloc,
+        conn,
+        b"\0\0\x05\x01\x04\0\0\0\x21\x40\x01a\x01b",
+        b"",
+    )?;
+    tells(rt, alloc, conn, b"\0\0\0\0\0\0\0\0\x21", b"")?;
+    tells(rt, alloc, conn, R1, b"G\x01")?;
+    let mut into = Row::empty(alloc);
+    let head = feed(
+        rt,
+        alloc,
+        conn,
+        b"\0\0\x01\x01\x04\0\0\0\x23\xbe",
+        &mut into,
+    )?;
+    assert!(rt; head == None);
+    let told = Happening::Head {
+        stream: 35,
+        headers: headers(alloc, &[(b"a", b"b")])?,
+        ended: false,
+    };
+    assert!(rt; into.as_slice() == [told].as_slice());
+    Ok(())
+}
+
+#[test]
+fn refused_head(rt: HostRuntime) -> Result<(), Fail> {
+    let mut conn = Conn::start(rt.alloc())?;
+    refused_head_on(&rt, rt.alloc(), &mut conn)?;
+    let fault = ConnFault {
+        code: 1,
+        last_stream: 35,
+        cause: ConnCause::ZeroStep,
+    };
+    fails(
+        &rt,
+        rt.alloc(),
+        &mut conn,
+        b"\0\0\x04\x08\0\0\0\0\0\0\0\0\0",
+        fault,
+    )
 }
 
 #[test]

@@ -2,6 +2,7 @@
 
 ghost use Rattle.std.specs.Prelude.{◌≡◌, ◌≤◌, ◌<◌, length, IfOk, OnOk, OnErr};
 ghost use Rattle.h2_wire.specs.declared.limit.TheConstants.{MAX_BLOCK_LEN};
+ghost use Rattle.hpack.specs.declared.limit.TheConstants.{MAX_LIST_SIZE};
 ghost use Rattle.hpack.specs.Tables.{list_size};
 ghost use Rattle.hpack.specs.Writing.{spelled_block};
 ghost use Rattle.h2_conn.specs.Conns.{takes, headed_on, finished_on, offered_on, withdrawn_on, reset_by};
@@ -21,7 +22,7 @@ fn takes(state: &State, stream: u32) -> bool
 
 /// The block of some headers.
 fn block(alloc: Global, headers: &[Header]) -> Result<Octets, Memory>
-    requires { list_size headers.now ≤ 16384 }
+    requires { list_size headers.now ≤ MAX_LIST_SIZE }
     ensures { IfOk result (λ block. (block ≡ spelled_block headers.now) × (length block ≤ MAX_BLOCK_LEN)) }
 {
     encode_plain(alloc, headers)
@@ -29,7 +30,7 @@ fn block(alloc: Global, headers: &[Header]) -> Result<Octets, Memory>
 
 #[tactic(auto, unfolding(crate::specs::Conns::headed_on))]
 pub fn head(state: &mut State, alloc: Global, stream: u32, headers: &[Header]) -> Result<(), Memory>
-    requires { list_size headers.now ≤ 16384 }
+    requires { list_size headers.now ≤ MAX_LIST_SIZE }
     ensures { OnOk result (state.new ≡ headed_on stream (spelled_block headers.now) state.old) }
 {
     if takes(state, stream) {
@@ -46,7 +47,7 @@ pub fn finish(
     stream: u32,
     headers: &[Header],
 ) -> Result<(), Memory>
-    requires { list_size headers.now ≤ 16384 }
+    requires { list_size headers.now ≤ MAX_LIST_SIZE }
     ensures { OnOk result (state.new ≡ finished_on stream (spelled_block headers.now) state.old) }
 {
     if takes(state, stream) {

@@ -2,6 +2,7 @@
 
 ghost use Rattle.std.specs.Prelude.{◌≡◌, ◌≤◌, ◌<◌, ◌^◌, ◌++◌, IfOk, IfErr, OnOk, OnErr, IsErr, length};
 ghost use Rattle.list_laws.specs.Lists.{GainsFront};
+ghost use Rattle.hpack.specs.declared.limit.TheConstants.{MAX_LIST_SIZE};
 ghost use Rattle.hpack.specs.Tables.{list_size};
 ghost use Rattle.hpack.specs.Writing.{spelled_block};
 ghost use Rattle.h2_frame.specs.declared.fault.FrameFault.TheVariants as frames;
@@ -205,7 +206,7 @@ impl Conn {
     /// at most 16,384.
     #[tactic(auto, using(crate::proofs::Sounds::s_headed_on))]
     pub fn head(&mut self, stream: u32, headers: &[Header]) -> Result<(), Memory>
-        requires { list_size headers.now ≤ 16384 }
+        requires { list_size headers.now ≤ MAX_LIST_SIZE }
         ensures after { OnOk result (self.new ≡ on_open (headed_on stream (spelled_block headers.now)) self.old) }
         ensures err { OnErr result (self.new ≡ out_of_memory self.old) }
         ensures again { Lasts self.old result }
@@ -237,7 +238,7 @@ impl Conn {
     /// left. Else it is as `head`.
     #[tactic(auto, using(crate::proofs::Sounds::s_finished_on))]
     pub fn finish(&mut self, stream: u32, headers: &[Header]) -> Result<(), Memory>
-        requires { list_size headers.now ≤ 16384 }
+        requires { list_size headers.now ≤ MAX_LIST_SIZE }
         ensures after { OnOk result (self.new ≡ on_open (finished_on stream (spelled_block headers.now)) self.old) }
         ensures err { OnErr result (self.new ≡ out_of_memory self.old) }
         ensures again { Lasts self.old result }

@@ -1,5 +1,6 @@
 //! The floods, at one below their limits, at them, and one above.
 
+use crate::samples::{A, D1, H1, H1_OPEN, H3, R1, S};
 use crate::testing::{feed, goes_on, take, writes};
 use crate::{Conn, ConnCause, ConnFault};
 use h2_frame::{Body, Frame};
@@ -8,18 +9,9 @@ use std::process::Abort;
 use std::test::Fail;
 use wl_octets::{Octets, Row};
 
-const S: &[u8] = b"\0\0\0\x04\0\0\0\0\0";
-
-const A: &[u8] = b"\0\0\0\x04\x01\0\0\0\0";
-
-const H1: &[u8] = b"\0\0\x01\x01\x04\0\0\0\x01\x82";
-
-const D1: &[u8] = b"\0\0\x01\0\0\0\0\0\x01x";
-
+/// DATA without bytes on stream 1.
 const EMPTY1: &[u8] = b"\0\0\0\0\0\0\0\0\x01";
-
-const OPEN1: &[u8] = b"\0\0\x01\x01\0\0\0\0\x01\x82";
-
+/// CONTINUATION on stream 1, whose block goes on.
 const MORE1: &[u8] = b"\0\0\x01\x09\0\0\0\0\x01\x84";
 
 /// Gives a connection the same frame many times, each of which is no fault.
@@ -108,9 +100,57 @@ fn empty_data_flood(rt: HostRuntime) -> Result<(), Fail> {
     empty_data_flood_on(&rt, rt.alloc(), &mut conn)
 }
 
+/// What ends the count of empty DATA, each after 100 of them on stream 1.
+fn ends_empty_count(
+    rt: &impl Abort,
+    alloc: Global,
+    first: &[&[u8]],
+    between: &[u8],
+) -> Result<(), Fail> {
+    let mut conn = Conn::start(alloc)?;
+    for bytes in first {
+        goes_on(rt, alloc, &mut conn, bytes)?;
+    }
+    repeats(rt, alloc, &mut conn, EMPTY1, 100)?;
+    goes_on(rt, alloc, &mut conn, between)?;
+    goes_on(rt, alloc, &mut conn, EMPTY1)
+}
+
+#[test]
+fn empty_data_counted_anew(rt: HostRuntime) -> Result<(), Fail> {
+    let reset3 = b"\0\0\x04\x03\0\0\0\0\x03\0\0\0\x08";
+    let data3 = b"\0\0\x01\0\0\0\0\0\x03x";
+    let cases: [(&[&[u8]], &[u8]); 3] = [
+        // HEADERS
+        (&[S, H1], H3),
+        // DATA with bytes on a closed stream
+        (&[S, H1, H3, reset3], data3),
+        // HEADERS on a closed stream
+        (&[S, H1, H3, reset3], H3),
+    ];
+    for (first, between) in cases {
+        ends_empty_count(&rt, rt.alloc(), first, between)?;
+    }
+    Ok(())
+}
+
+fn empty_data_on_closed(rt: &impl Abort, alloc: Global, conn: &mut Conn) -> Result<(), Fail> {
+    goes_on(rt, alloc, conn, S)?;
+    goes_on(rt, alloc, conn, H1)?;
+    goes_on(rt, alloc, conn, R1)?;
+    repeats(rt, alloc, conn, EMPTY1, 100)?;
+    floods(rt, alloc, conn, EMPTY1, 1, ConnCause::Flood(0, 101))
+}
+
+#[test]
+fn empty_data_on_a_closed_stream(rt: HostRuntime) -> Result<(), Fail> {
+    let mut conn = Conn::start(rt.alloc())?;
+    empty_data_on_closed(&rt, rt.alloc(), &mut conn)
+}
+
 fn continuation_flood_on(rt: &impl Abort, alloc: Global, conn: &mut Conn) -> Result<(), Fail> {
     goes_on(rt, alloc, conn, S)?;
-    goes_on(rt, alloc, conn, OPEN1)?;
+    goes_on(rt, alloc, conn, H1_OPEN)?;
     repeats(rt, alloc, conn, MORE1, 63)?;
     goes_on(rt, alloc, conn, b"\0\0\0\x09\x04\0\0\0\x01")?;
     // a block of one piece and 64 CONTINUATION frames is whole
@@ -127,13 +167,8 @@ fn continuation_flood(rt: HostRuntime) -> Result<(), Fail> {
     continuation_flood_on(&rt, rt.alloc(), &mut conn)
 }
 
-/// Opens a stream and resets it at once.
-fn opens_and_resets(
-    rt: &impl Abort,
-    alloc: Global,
-    conn: &mut Conn,
-    stream: u32,
-) -> Result<Option<ConnFault>, Fail> {
+/// Gives a connection a head without END_STREAM.
+fn opens(rt: &impl Abort, alloc: Global, conn: &mut Conn, stream: u32) -> Result<(), Fail> {
     let mut into = Row::empty(alloc);
     let block = Octets::from_slice(alloc, b"\x82")?;
     let body = Body::Headers {
@@ -142,23 +177,47 @@ fn opens_and_resets(
         whole: true,
     };
     assert!(rt; take(rt, conn, Frame { stream, body }, &mut into)? == None);
+    Ok(())
+}
+
+/// Gives a connection RST_STREAM.
+fn resets(
+    rt: &impl Abort,
+    alloc: Global,
+    conn: &mut Conn,
+    stream: u32,
+) -> Result<Option<ConnFault>, Fail> {
+    let mut into = Row::empty(alloc);
     let body = Body::Reset { code: 8 };
     take(rt, conn, Frame { stream, body }, &mut into)
 }
 
+/// Opens so many streams from this one on, and resets each at once, which is no fault.
+fn early_resets(
+    rt: &impl Abort,
+    alloc: Global,
+    conn: &mut Conn,
+    first: u32,
+    times: u32,
+) -> Result<(), Fail> {
+    for each in 0..times {
+        let stream = (first / 2).saturating_add(each).saturating_mul(2) | 1;
+        opens(rt, alloc, conn, stream)?;
+        assert!(rt; resets(rt, alloc, conn, stream)? == None);
+    }
+    Ok(())
+}
+
 fn reset_flood_on(rt: &impl Abort, alloc: Global, conn: &mut Conn) -> Result<(), Fail> {
     goes_on(rt, alloc, conn, S)?;
-    for each in 0..10_000_u32 {
-        let fault = opens_and_resets(rt, alloc, conn, 2 * each + 1)?;
-        assert!(rt; fault == None);
-    }
+    early_resets(rt, alloc, conn, 1, 10_000)?;
     let fault = ConnFault {
         code: 11,
         last_stream: 20_001,
         cause: ConnCause::Flood(3, 10_001),
     };
-    let given = opens_and_resets(rt, alloc, conn, 20_001)?;
-    assert_eq!(rt; given, Some(fault));
+    opens(rt, alloc, conn, 20_001)?;
+    assert_eq!(rt; resets(rt, alloc, conn, 20_001)?, Some(fault));
     Ok(())
 }
 
@@ -166,4 +225,47 @@ fn reset_flood_on(rt: &impl Abort, alloc: Global, conn: &mut Conn) -> Result<(),
 fn reset_flood(rt: HostRuntime) -> Result<(), Fail> {
     let mut conn = Conn::start(rt.alloc())?;
     reset_flood_on(&rt, rt.alloc(), &mut conn)
+}
+
+/// A message that began and END_STREAM each end the count.
+#[tactic(auto, unfolding(hpack::specs::Tables::list_size))]
+fn resets_counted_anew_on(rt: &impl Abort, alloc: Global, conn: &mut Conn) -> Result<(), Fail> {
+    goes_on(rt, alloc, conn, S)?;
+    early_resets(rt, alloc, conn, 1, 10_000)?;
+    opens(rt, alloc, conn, 20_001)?;
+    let message = Octets::from_slice(alloc, b"hello")?;
+    assert!(rt; message.len() > 0);
+    conn.offer(20_001, message);
+    let mut out = Octets::empty(alloc);
+    conn.flush(&mut out)?;
+    early_resets(rt, alloc, conn, 20_003, 10_000)?;
+    conn.finish(20_001, &[])?;
+    conn.flush(&mut out)?;
+    early_resets(rt, alloc, conn, 40_003, 1)
+}
+
+#[test]
+fn resets_counted_anew(rt: HostRuntime) -> Result<(), Fail> {
+    let mut conn = Conn::start(rt.alloc())?;
+    resets_counted_anew_on(&rt, rt.alloc(), &mut conn)
+}
+
+/// Streams on which a frame was written are not counted.
+#[tactic(auto, unfolding(hpack::specs::Tables::list_size))]
+fn answered_resets_on(rt: &impl Abort, alloc: Global, conn: &mut Conn) -> Result<(), Fail> {
+    let mut out = Octets::empty(alloc);
+    for each in 0..10_001_u32 {
+        opens(rt, alloc, conn, 2 * each + 1)?;
+        conn.head(2 * each + 1, &[])?;
+        conn.flush(&mut out)?;
+        assert!(rt; resets(rt, alloc, conn, 2 * each + 1)? == None);
+    }
+    Ok(())
+}
+
+#[test]
+fn answered_resets(rt: HostRuntime) -> Result<(), Fail> {
+    let mut conn = Conn::start(rt.alloc())?;
+    goes_on(&rt, rt.alloc(), &mut conn, S)?;
+    answered_resets_on(&rt, rt.alloc(), &mut conn)
 }

@@ -10,6 +10,7 @@ ghost use Rattle.h2_conn.specs.declared.phase.Phase.TheVariants.{Failed};
 ghost use Rattle.h2_conn.specs.declared.state.State.{State};
 ghost use Rattle.h2_conn.specs.Kinds.{Fits};
 ghost use Rattle.h2_conn.specs.Counts.{Step, Reaches, HasCounts};
+ghost use Rattle.h2_conn.specs.Windows.{HasLowStream, HasWindows};
 ghost use Rattle.h2_conn.specs.Conns.{is_live_on, on_open, headed_on, finished_on, offered_on, withdrawn_on, reset_by, flushed};
 
 /// Two flushes are one: the second writes nothing and changes nothing.
@@ -47,4 +48,13 @@ pub fn frames_fit()
 #[tactic(auto, using(crate::proofs::Sums::reached_counts))]
 pub fn floods_are_counted()
     ensures { (steps : List Step) (state : State) → Reaches steps state → HasCounts steps state }
+{}
+
+/// Windows are sums over what came and was written: whichever steps led to a state, the
+/// connection's is 65,535 and all steps of WINDOW_UPDATE on stream 0, less all bytes of DATA
+/// written, and a stream's is the peer's last initial window and all steps on it since its head,
+/// less the bytes of DATA written on it, below zero too (RFC 9113, section 6.9).
+#[tactic(auto, using(crate::proofs::WindowSums::reached_windows))]
+pub fn windows_are_sums()
+    ensures { (steps : List Step) (state : State) → AllByRecursion HasLowStream steps → Reaches steps state → HasWindows steps state }
 {}

@@ -7,3 +7,6 @@ pub mod Numbers
 pub mod Offers
 pub mod Orders
 pub mod Sums
+pub mod Messages
+pub mod Progress
+pub mod Begun

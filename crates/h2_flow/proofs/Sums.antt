@@ -1,5 +1,5 @@
 -- Windows are the sums of what came and was written.
-use Rattle.std.proofs.Common.{◌≡◌, inl, inr, ℕ, zero, suc, ◌+◌, ◌-◌, ◌<◌, ◌≤◌, ◌==◌, nat_lt, Bool, true, false, not, cond, ℤ, pos, ◌+ℤ◌, ◌-ℤ◌, List, [], ◌∷◌, ◌++◌, length, take, drop, min, Option, Some, None, refl, sym, subst, zero-add, ap, ◌∙◌, arith, ne_eqb, eq-eqb, eqb-true, sum_by, map, filter, add-zero, int_lt, Ok, Err}
+use Rattle.std.proofs.Common.{◌≡◌, inl, inr, ℕ, zero, suc, ◌+◌, ◌-◌, ◌<◌, ◌≤◌, ◌==◌, nat_lt, Bool, true, false, not, cond, ℤ, pos, negsuc, ◌+ℤ◌, ◌-ℤ◌, List, [], ◌∷◌, ◌++◌, length, take, drop, min, Option, Some, None, refl, sym, subst, zero-add, ap, ◌∙◌, arith, ne_eqb, eq-eqb, eqb-true, sum_by, map, filter, add-zero, int_lt, Ok, Err}
 use Rattle.std.specs.List.{AllByRecursion}
 use Rattle.std.proofs.lemmas.Bool.{cases_Bool}
 use Rattle.std.proofs.lemmas.Int.{ints}
@@ -24,26 +24,48 @@ pub record TurnSums (f : Flow) (s : Stream) (t : Turn) : Type 0 where
   pub connection_window : t.flow.connection_window + sum_by data_of t.sent ≡ f.connection_window
   pub number : t.stream.number ≡ s.number
   pub credit : t.stream.credit ≡ s.credit -ℤ pos (sum_by (data_on s.number) t.sent)
+  pub within : sum_by (data_on s.number) t.sent + room_of (window_of f.initial_window_size t.stream.credit) ≡ room_of (window_of f.initial_window_size s.credit)
   pub others : (n : ℕ) → (n == s.number) ≡ false → sum_by (data_on n) t.sent ≡ 0
+
+-- what goes off a window goes off what it lets through
+room_falls : (w : ℤ) (n : ℕ) → n ≤ room_of w → n + room_of (w -ℤ pos n) ≡ room_of w
+room_falls (pos k) n le = rw (falls k n le) (omega (arith, le))
+  where
+    falls : (k n : ℕ) → n ≤ k → pos k -ℤ pos n ≡ pos (k - n)
+    falls k n le = omega (arith, ints, le)
+room_falls (negsuc k) n le = rw (none n le) (zero-add _ ∙ ap room_of (same k))
+  where
+    same : (k : ℕ) → negsuc k -ℤ pos 0 ≡ negsuc k
+    same k = omega (arith, ints)
+
+    none : (n : ℕ) → n ≤ 0 → n ≡ 0
+    none n le = omega (arith, le)
+
+window_falls : (initial n : ℕ) (credit : ℤ) → n ≤ room_of (window_of initial credit) → n + room_of (window_of initial (credit -ℤ pos n)) ≡ room_of (window_of initial credit)
+window_falls initial n credit le = ap (λ (w : ℤ). n + room_of w) (moved initial n credit) ∙ room_falls (window_of initial credit) n le
+  where
+    moved : (initial n : ℕ) (credit : ℤ) → window_of initial (credit -ℤ pos n) ≡ window_of initial credit -ℤ pos n
+    moved initial n credit = omega (arith, ints)
 
 sums_cond : (b : Bool) (x y : Turn) (f : Flow) (s : Stream) → TurnSums f s x → TurnSums f s y → TurnSums f s (cond b x y)
 sums_cond true x y f s h k = h
 sums_cond false x y f s h k = k
 
 sums_idle : (f : Flow) (s : Stream) → TurnSums f s (idle f s)
-sums_idle f s = record { initial_window_size = refl; connection_window = omega arith; number = refl; credit = omega (arith, ints); others = λ n e. refl }
+sums_idle f s = record { initial_window_size = refl; connection_window = omega arith; number = refl; credit = omega (arith, ints); within = zero-add _; others = λ n e. refl }
 
 sums_headers : (f : Flow) (s : Stream) (block : List ℕ) (ended : Bool) → TurnSums f s (headers_turn f s block ended)
 unfolding headers_turn
-sums_headers f s block ended = record { initial_window_size = refl; connection_window = omega arith; number = refl; credit = omega (arith, ints); others = λ n e. refl }
+sums_headers f s block ended = record { initial_window_size = refl; connection_window = omega arith; number = refl; credit = omega (arith, ints); within = zero-add _; others = λ n e. refl }
 
 -- so much goes off the windows
-spent_sums : (f : Flow) (s : Stream) (bytes : List ℕ) (n : ℕ) → length bytes ≡ n → n ≤ f.connection_window → TurnSums f s (record { sent = content s.number bytes ∷ []; flow = record f { connection_window = f.connection_window - n }; stream = record s { sent = s.sent + n; credit = s.credit -ℤ pos n; written = true } })
-spent_sums f s bytes n e le = record {
+spent_sums : (f : Flow) (s : Stream) (bytes : List ℕ) (n : ℕ) → length bytes ≡ n → n ≤ f.connection_window → n ≤ room_of (window_of f.initial_window_size s.credit) → TurnSums f s (record { sent = content s.number bytes ∷ []; flow = record f { connection_window = f.connection_window - n }; stream = record s { sent = s.sent + n; credit = s.credit -ℤ pos n; written = true } })
+spent_sums f s bytes n e le fits = record {
   initial_window_size = refl;
   connection_window = omega arith;
   number = refl;
   credit = rw (eq-eqb s.number s.number refl, e, zero-add n) refl;
+  within = rw (eq-eqb s.number s.number refl, e, zero-add n) (window_falls f.initial_window_size n s.credit fits);
   others = λ m other. rw other refl;
 }
 
@@ -53,7 +75,7 @@ sums_data f s =
     let left : List ℕ = drop s.sent s.last in
     let n : ℕ = allowed_of f s.credit (length left) in
     let exact : length (take n left) ≡ n = length-take n left ∙ least f.connection_window (min MAX_FRAME_SIZE (room_of (window_of f.initial_window_size s.credit))) (length left) in
-    sums_cond (n == 0) _ _ f s (sums_idle f s) (spent_sums f s (take n left) n exact (small f.connection_window (min MAX_FRAME_SIZE (room_of (window_of f.initial_window_size s.credit))) (length left)))
+    sums_cond (n == 0) _ _ f s (sums_idle f s) (spent_sums f s (take n left) n exact (small f.connection_window (min MAX_FRAME_SIZE (room_of (window_of f.initial_window_size s.credit))) (length left)) (fits f.connection_window (room_of (window_of f.initial_window_size s.credit)) (length left)))
   where
     least : (a b c : ℕ) → min (min (min a b) c) c ≡ min (min a b) c
     least a b c = omega arith
@@ -61,19 +83,22 @@ sums_data f s =
     small : (a b c : ℕ) → min (min a b) c ≤ a
     small a b c = omega arith
 
+    fits : (a b c : ℕ) → min (min a (min MAX_FRAME_SIZE b)) c ≤ b
+    fits a b c = omega arith
+
 sums_last : (f : Flow) (s : Stream) (t : Option (List ℕ)) → TurnSums f s (last_turn f s t)
 unfolding last_turn
 sums_last f s None = sums_idle f s
 sums_last f s (Some block) =
     let h = sums_headers f (record s { trailers = None }) block true in
-    record { initial_window_size = h.initial_window_size; connection_window = h.connection_window; number = h.number; credit = h.credit; others = h.others }
+    record { initial_window_size = h.initial_window_size; connection_window = h.connection_window; number = h.number; credit = h.credit; within = h.within; others = h.others }
 
 sums_next : (f : Flow) (s : Stream) (w : Option (List ℕ)) → TurnSums f s (next_turn f s w)
 unfolding next_turn
 sums_next f s None = sums_last f s s.trailers
 sums_next f s (Some message) =
     let h = sums_data (record f { begun = f.begun + 1 }) (record s { last = message; sent = 0; waiting = None }) in
-    sums_cond (allowed_of f s.credit (length message) == 0) _ _ f s (sums_idle f s) (record { initial_window_size = h.initial_window_size; connection_window = h.connection_window; number = h.number; credit = h.credit; others = h.others })
+    sums_cond (allowed_of f s.credit (length message) == 0) _ _ f s (sums_idle f s) (record { initial_window_size = h.initial_window_size; connection_window = h.connection_window; number = h.number; credit = h.credit; within = h.within; others = h.others })
 
 sums_body : (f : Flow) (s : Stream) → TurnSums f s (body_turn f s)
 unfolding body_turn
@@ -83,7 +108,7 @@ sums_head : (f : Flow) (s : Stream) (h : Option (List ℕ)) → TurnSums f s (he
 sums_head f s None = sums_body f s
 sums_head f s (Some block) =
     let h = sums_headers f (record s { head = None }) block false in
-    record { initial_window_size = h.initial_window_size; connection_window = h.connection_window; number = h.number; credit = h.credit; others = h.others }
+    record { initial_window_size = h.initial_window_size; connection_window = h.connection_window; number = h.number; credit = h.credit; within = h.within; others = h.others }
 
 sums_turn : (f : Flow) (s : Stream) → TurnSums f s (turn f s)
 unfolding turn
@@ -98,6 +123,12 @@ Spent sent [] (t ∷ ts) = ⊥
 Spent sent (s ∷ ss) [] = ⊥
 Spent sent (s ∷ ss) (t ∷ ts) = (t.number ≡ s.number) × (t.credit ≡ s.credit -ℤ pos (sum_by (data_on s.number) sent)) × Spent sent ss ts
 
+-- and they were what its window let through
+abbrev pub Within : ℕ → List Sent → List Stream → List Stream → Type 0
+Within initial sent [] ts = Unit {0}
+Within initial sent (s ∷ ss) [] = Unit {0}
+Within initial sent (s ∷ ss) (t ∷ ts) = (sum_by (data_on s.number) sent + room_of (window_of initial t.credit) ≡ room_of (window_of initial s.credit)) × Within initial sent ss ts
+
 -- frames on other streams alone before, or behind
 spent_before : (n : ℕ) (first sent : List Sent) → ((m : ℕ) → (m == n) ≡ false → sum_by (data_on m) first ≡ 0) → (ss ts : List Stream) → RisesFrom n (map number_of ss) → Spent sent ss ts → Spent (first ++ sent) ss ts
 spent_before n first sent off [] [] rises h = tt
@@ -107,15 +138,24 @@ spent_before n first sent off (s ∷ ss) (t ∷ ts) rises h =
     let none : sum_by (data_on s.number) first ≡ 0 = off s.number (ne_eqb s.number n (λ e. absurd (omega arith))) in
     (h.0, h.1 ∙ ap (λ (k : ℕ). s.credit -ℤ pos k) (sym (sum_by-append (data_on s.number) first sent ∙ rw none (zero-add _))), spent_before n first sent off ss ts (rises_from n s.number (map number_of ss) (omega arith) rises.1) h.2)
 
+within_before : (initial n : ℕ) (first sent : List Sent) → ((m : ℕ) → (m == n) ≡ false → sum_by (data_on m) first ≡ 0) → (ss ts : List Stream) → RisesFrom n (map number_of ss) → Within initial sent ss ts → Within initial (first ++ sent) ss ts
+within_before initial n first sent off [] ts rises h = tt
+within_before initial n first sent off (s ∷ ss) [] rises h = tt
+within_before initial n first sent off (s ∷ ss) (t ∷ ts) rises h =
+    let none : sum_by (data_on s.number) first ≡ 0 = off s.number (ne_eqb s.number n (λ e. absurd (omega arith))) in
+    let all : sum_by (data_on s.number) (first ++ sent) ≡ sum_by (data_on s.number) sent = sum_by-append (data_on s.number) first sent ∙ rw none (zero-add _) in
+    (ap (λ (k : ℕ). k + room_of (window_of initial t.credit)) all ∙ h.0, within_before initial n first sent off ss ts (rises_from n s.number (map number_of ss) (omega arith) rises.1) h.1)
+
 pub record RoundSums (f : Flow) (ss : List Stream) (r : Round) : Type 0 where
   pub initial_window_size : r.flow.initial_window_size ≡ f.initial_window_size
   pub connection_window : r.flow.connection_window + sum_by data_of r.sent ≡ f.connection_window
   pub spent : Spent r.sent ss r.streams
+  pub within : Within f.initial_window_size r.sent ss r.streams
   pub others : (n : ℕ) → RisesFrom n (map number_of ss) → sum_by (data_on n) r.sent ≡ 0
 
 sums_round : (n : ℕ) (f : Flow) (ss : List Stream) → RisesFrom n (map number_of ss) → RoundSums f ss (round f ss)
 unfolding round
-sums_round n f [] rises = record { initial_window_size = refl; connection_window = omega arith; spent = tt; others = λ n above. refl }
+sums_round n f [] rises = record { initial_window_size = refl; connection_window = omega arith; spent = tt; within = tt; others = λ n above. refl }
 sums_round n f (s ∷ ss) rises =
     let t = turn f s in
     let h = sums_turn f s in
@@ -126,6 +166,10 @@ sums_round n f (s ∷ ss) rises =
       initial_window_size = k.initial_window_size ∙ h.initial_window_size;
       connection_window = simp sum_by-append (omega (arith, h.connection_window, k.connection_window));
       spent = (h.number, h.credit ∙ ap (λ (j : ℕ). s.credit -ℤ pos j) (sym (sum_by-append (data_on s.number) t.sent r.sent ∙ rw none (add-zero _))), spent_before s.number t.sent r.sent h.others ss r.streams rises.1 k.spent);
+      within = (
+        ap (λ (j : ℕ). j + room_of (window_of f.initial_window_size t.stream.credit)) (sum_by-append (data_on s.number) t.sent r.sent ∙ rw none (add-zero _)) ∙ h.within,
+        within_before f.initial_window_size s.number t.sent r.sent h.others ss r.streams rises.1 (rw h.initial_window_size at k.within),
+      );
       others = λ n above. sum_by-append (data_on n) t.sent r.sent ∙ rw (h.others n (ne_eqb n s.number (λ e. absurd (omega arith))), k.others n (rises_from n s.number (map number_of ss) (omega arith) rises.1)) refl;
     }
 
@@ -153,13 +197,26 @@ spent_both first sent (s ∷ ss) (t ∷ ts) (u ∷ us) h k =
     let then : u.credit ≡ t.credit -ℤ pos (sum_by (data_on s.number) sent) = rw h.0 at k.1 in
     (k.0 ∙ h.0, then ∙ rw (h.1, all) (omega (arith, ints)), spent_both first sent ss ts us h.2 k.2)
 
+within_none : (initial : ℕ) (ss : List Stream) → Within initial [] ss ss
+within_none initial [] = tt
+within_none initial (s ∷ ss) = (zero-add _, within_none initial ss)
+
+within_both : (initial : ℕ) (first sent : List Sent) (ss ts us : List Stream) → Spent first ss ts → Within initial first ss ts → Within initial sent ts us → Within initial (first ++ sent) ss us
+within_both initial first sent [] ts us m h k = tt
+within_both initial first sent (s ∷ ss) [] us m h k = absurd m
+within_both initial first sent (s ∷ ss) (t ∷ ts) [] m h k = tt
+within_both initial first sent (s ∷ ss) (t ∷ ts) (u ∷ us) m h k =
+    let all : sum_by (data_on s.number) (first ++ sent) ≡ sum_by (data_on s.number) first + sum_by (data_on s.number) sent = sum_by-append (data_on s.number) first sent in
+    let then : sum_by (data_on s.number) sent + room_of (window_of initial u.credit) ≡ room_of (window_of initial t.credit) = subst (λ (n : ℕ). sum_by (data_on n) sent + room_of (window_of initial u.credit) ≡ room_of (window_of initial t.credit)) m.0 k.0 in
+    (omega (arith, all, then, h.0), within_both initial first sent ss ts us m.2 h.1 k.1)
+
 sums_after : (b : Bool) (f : Flow) (ss : List Stream) (x y : Round) → RoundSums f ss x → RoundSums f ss y → RoundSums f ss (cond b x y)
 sums_after true f ss x y h k = h
 sums_after false f ss x y h k = k
 
 sums_rounds : (n : ℕ) (f : Flow) (ss : List Stream) → RisesFrom 0 (map number_of ss) → RoundSums f ss (rounds n f ss)
 unfolding rounds
-sums_rounds zero f ss rises = record { initial_window_size = refl; connection_window = omega arith; spent = spent_none ss; others = λ n above. refl }
+sums_rounds zero f ss rises = record { initial_window_size = refl; connection_window = omega arith; spent = spent_none ss; within = within_none f.initial_window_size ss; others = λ n above. refl }
 sums_rounds (suc n) f ss rises =
     let r = round f ss in
     let h : RoundSums f ss r = sums_round 0 f ss rises in
@@ -170,8 +227,36 @@ sums_rounds (suc n) f ss rises =
       initial_window_size = k.initial_window_size ∙ h.initial_window_size;
       connection_window = simp sum_by-append (omega (arith, h.connection_window, k.connection_window));
       spent = spent_both r.sent next.sent ss r.streams next.streams h.spent k.spent;
+      within = within_both f.initial_window_size r.sent next.sent ss r.streams next.streams h.spent h.within (rw h.initial_window_size at k.within);
       others = λ m above. sum_by-append (data_on m) r.sent next.sent ∙ rw (h.others m above, k.others m (rw same above)) refl;
     })
+
+-- ---- a pull stays within its windows
+
+all_within : (initial : ℕ) (sent : List Sent) (ss ts : List Stream) → Spent sent ss ts → Within initial sent ss ts → AllByRecursion (λ (s : Stream). sum_by (data_on s.number) sent ≤ room_of (window_of initial s.credit)) ss
+all_within initial sent [] ts m h = tt
+all_within initial sent (s ∷ ss) [] m h = absurd m
+all_within initial sent (s ∷ ss) (t ∷ ts) m h = (omega (arith, h.0), all_within initial sent ss ts m.2 h.1)
+
+pub pull_within_streams : (o : Out) → RisesFrom 0 (numbers o) → AllByRecursion (λ (s : Stream). sum_by (data_on s.number) (pulled o).sent ≤ room_of (window_of o.flow.initial_window_size s.credit)) o.streams
+unfolding pulled all_rounds
+pull_within_streams o rises =
+    let r = all_rounds o.flow o.streams in
+    let k : RoundSums o.flow o.streams r = sums_rounds (all_work o.streams + 1) o.flow o.streams rises in
+    all_within o.flow.initial_window_size r.sent o.streams r.streams k.spent k.within
+
+pub pull_within_connection : (o : Out) → RisesFrom 0 (numbers o) → sum_by data_of (pulled o).sent ≤ o.flow.connection_window
+unfolding pulled all_rounds
+pull_within_connection o rises =
+    let r = all_rounds o.flow o.streams in
+    let k : RoundSums o.flow o.streams r = sums_rounds (all_work o.streams + 1) o.flow o.streams rises in
+    omega (arith, k.connection_window)
+
+pub pull_sums : (o : Out) → RisesFrom 0 (numbers o) → ((pulled o).left.flow.initial_window_size ≡ o.flow.initial_window_size) × ((pulled o).left.flow.connection_window + sum_by data_of (pulled o).sent ≡ o.flow.connection_window) × Spent (pulled o).sent o.streams (pulled o).left.streams
+unfolding pulled all_rounds
+pull_sums o rises =
+    let k : RoundSums o.flow o.streams (all_rounds o.flow o.streams) = sums_rounds (all_work o.streams + 1) o.flow o.streams rises in
+    (k.initial_window_size, k.connection_window, k.spent)
 
 -- ---- what a call does to the credits
 

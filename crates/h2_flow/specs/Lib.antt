@@ -3,3 +3,4 @@ pub mod Streams
 pub mod Pulls
 pub mod Outboxes
 pub mod Histories
+pub mod Progress

@@ -16,6 +16,9 @@ mod streams;
 #[cfg(test)]
 mod tests;
 
-pub use laws::{offers_once, pulls_keep_streams, pulls_once, windows_are_sums};
+pub use laws::{
+    offers_once, pulls_keep_streams, pulls_once, pulls_stay_within_windows, windows_are_sums,
+    writes_what_began,
+};
 pub use outbox::Outbox;
 pub use overflow::Overflow;

@@ -22,7 +22,7 @@ use wl_octets::{Memory, Octets, Row};
 /// What is to be written on a connection: control frames, and for at most 16 streams a head
 /// block, messages and trailers.
 ///
-/// After want of memory it fails for good: each later call that can answer it answers it.
+/// After it ran out of memory it fails for good: each later call that can answer it answers it.
 #[derive(Drop)]
 pub struct Outbox {
     alloc: Global,

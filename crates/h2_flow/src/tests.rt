@@ -229,6 +229,27 @@ fn offers(rt: HostRuntime) -> Result<(), Fail> {
 }
 
 #[test]
+fn removed_while_it_writes(rt: HostRuntime) -> Result<(), Fail> {
+    let alloc = rt.alloc();
+    let mut outbox = one(alloc)?;
+    assert_eq!(rt; outbox.initial(5), Ok(()));
+    offer(&rt, alloc, &mut outbox, 1, MESSAGE)?;
+    pulls(
+        &rt,
+        alloc,
+        &mut outbox,
+        &[b"\0\0\x05\0\0\0\0\0\x01\0\0\0\0\x1b"],
+        &[],
+    )?;
+    // the other 27 bytes are never written, however large the windows grow
+    outbox.remove(1);
+    assert_eq!(rt; outbox.initial(100), Ok(()));
+    pulls(&rt, alloc, &mut outbox, &[], &[])?;
+    assert_eq!(rt; outbox.begun(), 1);
+    Ok(())
+}
+
+#[test]
 #[tactic(auto, unfolding(crate::specs::Outboxes::added))]
 fn streams_in_turn(rt: HostRuntime) -> Result<(), Fail> {
     let alloc = rt.alloc();

@@ -8,7 +8,7 @@ use Rattle.h2_frame.specs.declared.frame.Frame.{Frame}
 use Rattle.h2_frame.specs.Reading.{End, Opening, Rest, Fault, Reading, resumed, read_on, Refuses, Feeds, StandsFor}
 use Rattle.h2_frame.proofs.Cuts.{reads_on, refuses_map}
 
--- ---- a front of the piece, and the rest of it
+-- ---- a prefix of the piece, and the rest of it
 
 -- in two parts
 parted : (e : End) (n : ℕ) (piece : List ℕ) → resumed e piece ≡ read_on (resumed e (take n piece)) (drop n piece)

@@ -104,7 +104,7 @@ IsOpen (Opening left) = Unit {0}
 IsOpen (Rest rest) = Unit {0}
 IsOpen (Fault fault) = ⊥
 
--- What a call answered, of which this was due: all of it, or the fault after all of it, or want of memory.
+-- What a call answered, of which this was due: all of it, or the fault after all of it, or out of memory.
 abbrev pub Feeds : {T : Type 0} → Result T FrameFault → Reading → List Frame → List Frame → End → Type 0
 Feeds (Ok x) due old new ending = (new ≡ old ++ due.frames) × (ending ≡ due.ending) × IsOpen ending
 Feeds (Err fault) due old new ending = (ending ≡ Fault fault) × Refuses fault ((new ≡ old ++ due.frames) × (due.ending ≡ Fault fault))

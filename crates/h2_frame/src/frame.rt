@@ -19,7 +19,7 @@ pub enum Body {
         size: u32,
         ended: bool,
     },
-    /// HEADERS (section 6.2): a front of a header block, `ended` by END_STREAM, the block
+    /// HEADERS (section 6.2): a prefix of a header block, `ended` by END_STREAM, the block
     /// `whole` by END_HEADERS.
     Headers {
         block: Octets,

@@ -2,7 +2,7 @@
 //!
 //! A parser is fed the bytes of a connection, cut anywhere, and gives the frames that they
 //! begin with, or the first fault, after which it gives nothing more. Frames are written
-//! in one spelling, which reads back as the same frame.
+//! in one encoding, which reads back as the same frame.
 #![tactic(auto)]
 
 mod fault;

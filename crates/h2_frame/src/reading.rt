@@ -1,4 +1,4 @@
-//! The frames at the front of some bytes.
+//! The frames at the beginning of some bytes.
 
 ghost use Rattle.std.specs.Prelude.{◌≡◌, ◌≤◌, length, drop, IfOk, IfErr, OnOk, ◌++◌};
 ghost use Rattle.h2_frame.specs.declared.fault.FrameFault.{FrameFault};

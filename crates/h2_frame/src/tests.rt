@@ -85,7 +85,7 @@ fn put(rt: &impl Abort, out: &mut Octets, stream: u32, body: Body) -> Result<(),
     Ok(put_frame(out, &Frame { stream, body })?)
 }
 
-/// Asserts that the bytes are the frame and the frame's one spelling.
+/// Asserts that the bytes are the frame and the frame's one encoding.
 fn spells(
     rt: &impl Abort,
     alloc: Global,

@@ -51,7 +51,7 @@ unfoldable pub is_hop_name : List ℕ → Bool
 is_hop_name name =
     bytes_eq name (codes "connection") || bytes_eq name (codes "proxy-connection") || bytes_eq name (codes "keep-alive") || bytes_eq name (codes "transfer-encoding") || bytes_eq name (codes "upgrade")
 
--- te says trailers or nothing (section 8.2.2)
+-- te says trailers and nothing else (section 8.2.2)
 unfoldable pub is_wrong_te : Header → Bool
 is_wrong_te h = bytes_eq h.name (codes "te") && not (bytes_eq h.value (codes "trailers"))
 

@@ -1,14 +1,16 @@
--- Blocks, representation by representation: they are read as they are spelled, and every block is read.
+-- Blocks, representation by representation: they are read as they are encoded, and every block is read.
 use Rattle.std.proofs.Common.{◌≡◌, ℕ, zero, suc, ◌-◌, ◌<◌, ◌≤◌, Bool, true, false, List, [], ◌∷◌, ◌++◌, length, refl, sym, ap, subst, ◌∙◌, arith, inl, inr, Option, Some, None, Result, Ok, Err, slice_get, length-append, append-nil, append_assoc}
 use Rattle.std.proofs.lemmas.Bool.{cases_lt, lt-ltb, le-ltb}
 use Rattle.wl_octets.specs.declared.header.Header.{Header}
+use Rattle.hpack.specs.declared.limit.TheConstants.{MAX_LIST_SIZE}
 use Rattle.hpack.specs.declared.fault.HpackFault.{HpackFault}
 use Rattle.hpack.specs.declared.fault.HpackFault.TheVariants as faults
 use Rattle.hpack.specs.Tables.{Table, size_of, list_size}
-use Rattle.hpack.specs.Reading.{◌>>=◌, representation_at, after_representation, block_in, headers_of, block_of, most_size}
+use Rattle.list_laws.specs.Results.{◌>>=◌}
+use Rattle.list_laws.proofs.Results.{bind_ok}
+use Rattle.hpack.specs.Reading.{representation_at, after_representation, block_in, headers_of, block_of}
 use Rattle.hpack.specs.Grammar.{Represents, Names, ended, named, updated, IsBlock}
 use Rattle.hpack.proofs.Eviction.{list_size-nil, list_size-cons}
-use Rattle.hpack.proofs.Numbers.{bind_ok}
 use Rattle.hpack.proofs.Representations.{represents_some, representation_takes, representation_again}
 
 -- headers before what is still read
@@ -107,7 +109,7 @@ block_in_names (suc count) table begun room (byte ∷ bytes) due short e =
 pub block_found : (table : Table) (bytes : List ℕ) (headers : List Header) (after : Table) → block_of table bytes ≡ Ok (headers, after) → IsBlock table bytes headers after
 unfolding headers_of
 block_found table bytes headers after e =
-    let both = block_in_names (length bytes) table false most_size bytes (headers, after) (omega arith) e in
+    let both = block_in_names (length bytes) table false MAX_LIST_SIZE bytes (headers, after) (omega arith) e in
     record { names = both.0; fits = both.1 }
 
 -- ---- every block is read
@@ -138,7 +140,7 @@ names_read table begun bytes headers after (updated t next u b text rest others 
 
 pub block_only : (table : Table) (bytes : List ℕ) (headers : List Header) (after : Table) → IsBlock table bytes headers after → block_of table bytes ≡ Ok (headers, after)
 unfolding headers_of
-block_only table bytes headers after is = names_read table false bytes headers after is.names (length bytes) most_size (omega arith) is.fits
+block_only table bytes headers after is = names_read table false bytes headers after is.names (length bytes) MAX_LIST_SIZE (omega arith) is.fits
 
 -- ---- the loop of the code
 

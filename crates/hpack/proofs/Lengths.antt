@@ -47,6 +47,6 @@ block_short (header ∷ headers) le =
     let later = block_short headers (omega arith) in
     rw (length-append (spelled_field header (position (same_field header) static_table)) (spelled_block headers)) (omega (arith, first, later, size))
 
-pub block_small : (headers : List Header) → list_size headers ≤ 16384 → length (spelled_block headers) ≤ 16383
+pub block_small : (headers : List Header) → list_size headers ≤ 16384 → length (spelled_block headers) < 16384
 block_small [] le = omega arith
 block_small (header ∷ headers) le = omega (arith, block_short (header ∷ headers) le)

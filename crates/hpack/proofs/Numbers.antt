@@ -1,9 +1,10 @@
--- Integers are read as they are spelled, and every spelling is read.
+-- Integers are read as they are encoded, and every encoding is read.
 use Rattle.std.proofs.Common.{◌≡◌, ℕ, zero, suc, ◌+◌, ◌*◌, ◌%◌, ◌^◌, ◌<◌, ◌≤◌, List, [], ◌∷◌, ◌++◌, length, refl, sym, ap, ◌∙◌, arith, inl, inr, Result, Ok, Err}
 use Rattle.std.proofs.lemmas.Bool.{cases_lt, cases_eq, lt-ltb, le-ltb, eq-eqb, ne_eqb}
 use Rattle.hpack.specs.declared.fault.HpackFault.{HpackFault}
 use Rattle.hpack.specs.declared.fault.HpackFault.TheVariants as faults
-use Rattle.hpack.specs.Reading.{◌>>=◌, more_at, integer_at}
+use Rattle.list_laws.proofs.Results.{ok_first, ok_second}
+use Rattle.hpack.specs.Reading.{more_at, integer_at}
 use Rattle.hpack.specs.Grammar.{Continues, groups, IsInteger}
 
 -- some bytes begin with a text of this kind, and this stands behind it
@@ -11,19 +12,6 @@ pub record Took (bytes rest : List ℕ) (R : List ℕ → Type 0) : Type 0 where
   pub text : List ℕ
   pub parts : bytes ≡ text ++ rest
   pub is : R text
-
-pub bind_ok : {A B : Type 0} (r : Result A HpackFault) (f : A → Result B HpackFault) (y : B) → (r >>= f) ≡ Ok y → (x : A) × (r ≡ Ok x) × (f x ≡ Ok y)
-bind_ok (Ok x) f y e = (x, refl, e)
-bind_ok (Err fault) f y e = absurd (cc)
-
-pub ok_pair : {A B : Type 0} (x z : A) (y w : B) → ◌≡◌ {A = Result (A × B) HpackFault} (Ok (x, y)) (Ok (z, w)) → ◌≡◌ {A = A × B} (x, y) (z, w)
-ok_pair x z y w e = cc
-
-pub ok_first : {A B : Type 0} (x z : A) (y w : B) → ◌≡◌ {A = Result (A × B) HpackFault} (Ok (x, y)) (Ok (z, w)) → x ≡ z
-ok_first {A} {B} x z y w e = ap (λ (p : A × B). p.0) (ok_pair x z y w e)
-
-pub ok_second : {A B : Type 0} (x z : A) (y w : B) → ◌≡◌ {A = Result (A × B) HpackFault} (Ok (x, y)) (Ok (z, w)) → y ≡ w
-ok_second {A} {B} x z y w e = ap (λ (p : A × B). p.1) (ok_pair x z y w e)
 
 abbrev pub worths_from : ℕ → ℕ → List ℕ
 worths_from zero worth = []
@@ -55,8 +43,8 @@ more_takes (suc count) worth old (byte ∷ bytes) value rest e =
       | inr fits ↦ elim (cases_lt byte 128) [
         | inl last ↦
             let same : Ok (old + byte % 128 * worth, bytes) ≡ Ok (value, rest) = (rw (le-ltb 4294967295 (old + byte % 128 * worth) fits, lt-ltb byte 128 last) at e) in
-            let v : value ≡ old + byte % 128 * worth = sym (ok_first (old + byte % 128 * worth) value bytes rest same) in
-            let r : bytes ≡ rest = ok_second (old + byte % 128 * worth) value bytes rest same in
+            let v : value ≡ old + byte % 128 * worth = sym (ok_first same) in
+            let r : bytes ≡ rest = ok_second same in
             record { text = byte ∷ []; parts = ap (λ xs. byte ∷ xs) r; is = (last, omega arith, v ∙ sym (one_group byte worth old), omega arith) }
         | inr more ↦
             let later = more_takes count (worth * 128) (old + byte % 128 * worth) bytes value rest (rw (le-ltb 4294967295 (old + byte % 128 * worth) fits, le-ltb byte 128 more) at e) in
@@ -94,8 +82,8 @@ integer_takes full (byte ∷ bytes) value rest e =
           record { text = byte ∷ later.text; parts = ap (λ xs. byte ∷ xs) later.parts; is = long_integer full byte later.text value prefix later.is }
       | inr short ↦
           let same : Ok (byte % (full + 1), bytes) ≡ Ok (value, rest) = (rw (ne_eqb (byte % (full + 1)) full short) at e) in
-          let v : value ≡ byte % (full + 1) = sym (ok_first (byte % (full + 1)) value bytes rest same) in
-          let r : bytes ≡ rest = ok_second (byte % (full + 1)) value bytes rest same in
+          let v : value ≡ byte % (full + 1) = sym (ok_first same) in
+          let r : bytes ≡ rest = ok_second same in
           record { text = byte ∷ []; parts = ap (λ xs. byte ∷ xs) r; is = (v, omega (arith, short)) }
     ]
 

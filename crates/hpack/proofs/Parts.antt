@@ -1,4 +1,4 @@
--- Strings, names and literals are read as they are spelled, and every spelling is read.
+-- Strings, names and literals are read as they are encoded, and every encoding is read.
 use Rattle.std.proofs.Common.{◌≡◌, ℕ, ◌<◌, ◌≤◌, ◌==◌, nat_lt, Bool, true, false, if◌then◌else◌, List, [], ◌∷◌, ◌++◌, length, take, drop, refl, sym, ap, subst, ◌∙◌, arith, inl, inr, Result, Ok, Err, append_assoc}
 use Rattle.std.specs.Bool.{MatchBool}
 use Rattle.std.proofs.lemmas.Bool.{cases_lt, cases_eq, lt-ltb, le-ltb, eq-eqb, ne_eqb}
@@ -9,10 +9,12 @@ use Rattle.hpack.specs.declared.fault.HpackFault.TheVariants as faults
 use Rattle.hpack.specs.Huffman.{IsHuffman}
 use Rattle.hpack.specs.Tree.{huffman_text}
 use Rattle.hpack.specs.Tables.{entry_at, name_of}
-use Rattle.hpack.specs.Reading.{◌>>=◌, integer_at, is_coded, string_at, name_at, literal_at}
+use Rattle.list_laws.specs.Results.{◌>>=◌}
+use Rattle.list_laws.proofs.Results.{bind_ok, ok_first, ok_second}
+use Rattle.hpack.specs.Reading.{integer_at, is_coded, string_at, name_at, literal_at}
 use Rattle.hpack.specs.Grammar.{IsInteger, IsString, IsName, indexed_name, new_name, IsLiteral}
 use Rattle.hpack.proofs.Texts.{huffman_found, huffman_only}
-use Rattle.hpack.proofs.Numbers.{Took, bind_ok, ok_first, ok_second, integer_takes, integer_again, integer_some}
+use Rattle.hpack.proofs.Numbers.{Took, integer_takes, integer_again, integer_some}
 
 -- ---- strings
 
@@ -32,7 +34,7 @@ text_inside coded count after text rest e =
       | inl past ↦ absurd (let wrong : Err faults.Truncated ≡ Ok (text, rest) = (rw (lt-ltb (length after) count past) at e) in cc)
       | inr fits ↦
           let inner = bind_ok (content_text coded (take count after)) (λ t. Ok (t, drop count after)) (text, rest) (rw (le-ltb (length after) count fits) at e) in
-          (fits, inner.1 ∙ ap Ok (ok_first inner.0 text (drop count after) rest inner.2), sym (ok_second inner.0 text (drop count after) rest inner.2))
+          (fits, inner.1 ∙ ap Ok (ok_first inner.2), sym (ok_second inner.2))
     ]
 
 spelled_so : (coded : Bool) (content text : List ℕ) → content_text coded content ≡ Ok text → MatchBool coded (IsHuffman content text) (text ≡ content)
@@ -100,8 +102,8 @@ name_inside items full bytes front index after name rest parts is e =
       | inr old ↦
           let inner = bind_ok (name_of (entry_at items index)) (λ n. Ok (n, after)) (name, rest) (rw (ne_eqb index 0 old) at e) in
           let entry = entry_there (entry_at items index) inner.0 inner.1 in
-          let n : entry.0.name ≡ name = entry.2 ∙ ok_first inner.0 name after rest inner.2 in
-          let r : after ≡ rest = ok_second inner.0 name after rest inner.2 in
+          let n : entry.0.name ≡ name = entry.2 ∙ ok_first inner.2 in
+          let r : after ≡ rest = ok_second inner.2 in
           record {
             text = front;
             parts = parts ∙ ap (λ xs. front ++ xs) r;
@@ -137,8 +139,8 @@ literal_takes items full bytes header rest e =
     let front = name_takes items full bytes one.0.0 one.0.1 one.1 in
     let back = string_takes one.0.1 two.0.0 two.0.1 two.1 in
     let read : Header = record { name = one.0.0; value = two.0.0 } in
-    let h : read ≡ header = ok_first read header two.0.1 rest two.2 in
-    let r : two.0.1 ≡ rest = ok_second read header two.0.1 rest two.2 in
+    let h : read ≡ header = ok_first two.2 in
+    let r : two.0.1 ≡ rest = ok_second two.2 in
     record {
       text = front.text ++ back.text;
       parts = front.parts ∙ (ap (λ xs. front.text ++ xs) (back.parts ∙ ap (λ xs. back.text ++ xs) r) ∙ sym (append_assoc front.text back.text rest));

@@ -1,4 +1,4 @@
--- What is owed a fault that may be want of memory.
+-- What is owed a fault that may be running out of memory.
 use Rattle.hpack.specs.declared.fault.HpackFault.{HpackFault}
 use Rattle.hpack.specs.declared.fault.HpackFault.TheVariants as faults
 use Rattle.hpack.specs.Outcomes.{Refuses}

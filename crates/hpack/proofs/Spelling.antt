@@ -5,7 +5,7 @@ use Rattle.std.specs.Str.{bytes_eq}
 use Rattle.std.proofs.lemmas.Bool.{cases_lt, lt-ltb, le-ltb, lt-leb, and_parts}
 use Rattle.std.proofs.lemmas.List.Sums.{position_or_len_is}
 use Rattle.std.proofs.lemmas.List.Quantifiers.{position-Some}
-use Rattle.std.proofs.lemmas.Slice.Eq.{bytes_eq-Decides}
+use Rattle.list_laws.proofs.Equality.{bytes_are}
 use Rattle.std.proofs.Math.Nat.{pow-suc}
 use Rattle.wl_octets.specs.declared.header.Header.{Header}
 use Rattle.hpack.specs.Tables.{Table, size_of, list_size, static_table, no_field, entry_at}
@@ -142,9 +142,6 @@ string_spelled text fits =
 
 -- ---- headers
 
-same_bytes : (a b : List ℕ) → bytes_eq a b ≡ true → a ≡ b
-same_bytes a b e = (bytes_eq-Decides a b).0 e
-
 abbrev field_of : List ℕ → List ℕ → Header
 field_of name value = record { name = name; value = value }
 
@@ -156,7 +153,7 @@ field_named table begun header place found =
     let there = position-Some (same_field header) static_table place no_field found in
     let entry = get_or static_table place no_field in
     let both = and_parts (bytes_eq entry.name header.name) (bytes_eq entry.value header.value) there.1 in
-    let same : entry ≡ header = same_header header entry (same_bytes entry.name header.name both.0) (same_bytes entry.value header.value both.1) in
+    let same : entry ≡ header = same_header header entry (bytes_are entry.name header.name both.0) (bytes_are entry.value header.value both.1) in
     let at : entry_at table.items (place + 1) ≡ Ok header = entry-placed table.items place (omega (arith, there.0, static_count)) ∙ ap Ok same in
     indexed (place + 1) header (first_byte 128 127 (place + 1)).0 (integer_spelled 128 127 (place + 1) (λ n le. omega arith) (omega (arith, there.0, static_count))) at
 
@@ -164,7 +161,7 @@ name_spelled : (items : List Header) (header : Header) (place : Option ℕ) → 
 name_spelled items header (Some place) found fits =
     let there = position-Some (same_name header) static_table place no_field found in
     let entry = get_or static_table place no_field in
-    let same : entry.name ≡ header.name = same_bytes entry.name header.name there.1 in
+    let same : entry.name ≡ header.name = bytes_are entry.name header.name there.1 in
     subst (λ (name : List ℕ). IsName items 15 (integer_bytes 0 15 (place + 1)) name) same
     (indexed_name (integer_bytes 0 15 (place + 1)) (place + 1) entry (integer_spelled 0 15 (place + 1) (λ n le. omega arith) (omega (arith, there.0, static_count))) (entry-placed items place (omega (arith, there.0, static_count))))
 name_spelled items header None found fits = new_name (0 ∷ []) (plain_string header.name) header.name (refl, omega arith) (string_spelled header.name fits)

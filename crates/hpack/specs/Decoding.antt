@@ -26,7 +26,7 @@ abbrev pub decoded : Standing → List ℕ → Result (List Header) HpackFault �
 decoded (Good table) block = after_block (block_of table block)
 decoded (Broken fault) block = (Err fault, Broken fault)
 
--- What a call answered and left, where this was due; at want of memory the decoder is broken.
+-- What a call answered and left, where this was due; out of memory the decoder is broken.
 abbrev pub Decodes : Result (List Header) HpackFault → Standing → Result (List Header) HpackFault × Standing → Type 0
 Decodes (Ok headers) new due = due ≡ (Ok headers, new)
 Decodes (Err fault) new due = (new ≡ Broken fault) × Refuses fault (due ≡ (Err fault, new))

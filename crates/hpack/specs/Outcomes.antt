@@ -3,7 +3,7 @@ use Rattle.std.specs.Prelude.{◌≡◌, Result, Ok, Err}
 use Rattle.hpack.specs.declared.fault.HpackFault.{HpackFault}
 use Rattle.hpack.specs.declared.fault.HpackFault.TheVariants as faults
 
--- a fault is owed what its cause says, unless it is want of memory
+-- a fault is owed what its cause says, unless it is running out of memory
 abbrev pub Refuses : HpackFault → Type 0 → Type 0
 Refuses faults.Memory due = Unit {0}
 Refuses faults.Index due = due

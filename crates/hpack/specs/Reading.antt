@@ -2,16 +2,12 @@
 -- has the same as a relation.
 use Rattle.std.specs.Prelude.{ℕ, zero, suc, ◌+◌, ◌-◌, ◌*◌, ◌%◌, ◌==◌, nat_lt, nat_le, Bool, true, false, ◌||◌, if◌then◌else◌, List, [], ◌∷◌, length, take, drop, Option, None, Some, Result, Ok, Err}
 use Rattle.wl_octets.specs.declared.header.Header.{Header}
+use Rattle.list_laws.specs.Results.{◌>>=◌}
 use Rattle.hpack.specs.declared.fault.HpackFault.{HpackFault}
 use Rattle.hpack.specs.declared.fault.HpackFault.TheVariants as faults
+use Rattle.hpack.specs.declared.limit.TheConstants.{MAX_LIST_SIZE, MAX_TABLE_SIZE}
 use Rattle.hpack.specs.Tree.{huffman_text}
 use Rattle.hpack.specs.Tables.{Table, size_of, with_item, resized, entry_at, name_of}
-
--- what comes next, unless there was a fault
-infixl 10 ◌>>=◌
-abbrev pub ◌>>=◌ : {A B : Type 0} → Result A HpackFault → (A → Result B HpackFault) → Result B HpackFault
-(Ok x) >>= next = next x
-(Err fault) >>= next = Err fault
 
 -- ---- integers (section 5.1)
 
@@ -76,16 +72,12 @@ representation_at table begun first bytes =
       Ok (Some literal.0, with_item table literal.0, literal.1))
     else if nat_le 32 first then (do
       most ← integer_at 31 bytes
-      if begun || nat_lt 4096 most.0 then Err faults.SizeUpdate else Ok (None, resized table most.0, most.1))
+      if begun || nat_lt MAX_TABLE_SIZE most.0 then Err faults.SizeUpdate else Ok (None, resized table most.0, most.1))
     else (do
       literal ← literal_at table.items 15 bytes
       Ok (Some literal.0, table, literal.1))
 
 -- ---- blocks (section 3.2)
-
--- own rule: the sizes of a block's headers sum to 16,384 at most
-abbrev pub most_size : ℕ
-most_size = 16384
 
 abbrev pub after_representation : Option Header × Table × List ℕ → Bool → ℕ → (Table → Bool → ℕ → List ℕ → Result (List Header × Table) HpackFault) → Result (List Header × Table) HpackFault
 after_representation (None, table, rest) begun room go_on = go_on table begun room rest
@@ -106,6 +98,6 @@ block_in (suc count) table begun room (byte ∷ bytes) = do
 unfoldable pub headers_of : Table → Bool → ℕ → List ℕ → Result (List Header × Table) HpackFault
 headers_of table begun room bytes = block_in (length bytes) table begun room bytes
 
--- the headers of a block and the table after it, or the fault of its leftmost wrong representation
+-- the headers of a block, whose sizes sum to 16,384 at most (own rule), and the table after it, or the fault of its leftmost wrong representation
 abbrev pub block_of : Table → List ℕ → Result (List Header × Table) HpackFault
-block_of table bytes = headers_of table false most_size bytes
+block_of table bytes = headers_of table false MAX_LIST_SIZE bytes

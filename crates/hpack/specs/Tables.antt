@@ -4,6 +4,7 @@ use Rattle.std.specs.Prelude.{codes}
 use Prim.Native.String.{String}
 use Rattle.wl_octets.specs.declared.header.Header.{Header}
 use Rattle.hpack.specs.declared.fault.HpackFault.{HpackFault}
+use Rattle.hpack.specs.declared.limit.TheConstants.{MAX_TABLE_SIZE}
 use Rattle.hpack.specs.declared.fault.HpackFault.TheVariants as faults
 
 abbrev pub field : String → String → Header
@@ -84,7 +85,7 @@ pub record Table : Type 0 where
 
 -- the empty table that a connection begins with
 abbrev pub first_table : Table
-first_table = record { items = []; most = 4096 }
+first_table = record { items = []; most = MAX_TABLE_SIZE }
 
 -- the size of an entry: its name, its value, and 32
 abbrev pub size_of : Header → ℕ
@@ -120,4 +121,4 @@ entry_at items index = if index == 0 then Err faults.Index else found (slice_get
 
 -- a table holds no more than its maximum, which is at most 4,096
 abbrev pub IsWithin : Table → Type 0
-IsWithin table = (list_size table.items ≤ table.most) × (table.most ≤ 4096)
+IsWithin table = (list_size table.items ≤ table.most) × (table.most ≤ MAX_TABLE_SIZE)

@@ -1,4 +1,4 @@
--- The one spelling of the header blocks that are written: static entries are indexed, all else is a literal without indexing, no
+-- The one encoding of the header blocks that are written: static entries are indexed, all else is a literal without indexing, no
 -- string is Huffman coded, and the table stays as it is (own rule, within RFC 7541, sections 5 and 6).
 use Rattle.std.specs.Prelude.{◌≡◌, ◌<◌, false, slice_index_or, ℕ, zero, suc, ◌+◌, ◌-◌, ◌/◌, ◌%◌, nat_lt, Bool, ◌&&◌, if◌then◌else◌, List, [], ◌∷◌, ◌++◌, length, Option, None, Some}
 use Rattle.std.specs.List.{flat_map, position}

@@ -5,14 +5,12 @@ ghost use Rattle.std.specs.Prelude.{◌<◌};
 ghost use Rattle.hpack.specs.Outcomes.{Gives};
 ghost use Rattle.hpack.specs.Reading.{name_at, literal_at, representation_at, block_of};
 
-use crate::dynamic_table::{DynamicTable, MOST, size};
+use crate::dynamic_table::{DynamicTable, size};
 use crate::fault::HpackFault;
 use crate::integers::{integer, string};
+use crate::limit::{MAX_LIST_SIZE, MAX_TABLE_SIZE};
 use std::alloc::Global;
 use wl_octets::{Header, Octets, Row};
-
-/// The largest sum of the sizes of a block's headers.
-const MOST_SIZE: u128 = 16_384;
 
 /// The name that the bytes begin with, by an index of this prefix or as a string, and what stands behind it.
 #[tactic(auto, unfolding(crate::specs::Reading::name_at))]
@@ -70,7 +68,7 @@ fn representation<'a>(
         Ok((Some(header), rest))
     } else if first >= 32 {
         let (most, rest) = integer(31, bytes)?;
-        if begun || most > MOST {
+        if begun || most > MAX_TABLE_SIZE {
             return Err(HpackFault::SizeUpdate);
         }
         table.resize(most);
@@ -92,7 +90,7 @@ pub(crate) fn headers(
     // A header takes a byte at least.
     let mut headers = Vec::with_capacity(alloc, block.len().min(16))?;
     let mut begun = false;
-    let mut room = MOST_SIZE;
+    let mut room = u128::from(MAX_LIST_SIZE);
     let mut rest = block;
     'each: while let Some(first) = rest.first() {
         let (named, after) = representation(alloc, table, begun, *first, rest)?;

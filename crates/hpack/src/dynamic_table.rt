@@ -2,18 +2,17 @@
 #![tactic(auto)]
 
 ghost use Rattle.std.specs.Prelude.{◌≡◌, ◌≤◌, ◌<◌, OnOk};
+ghost use Rattle.hpack.specs.declared.limit.TheConstants.{MAX_TABLE_SIZE};
 ghost use Rattle.hpack.specs.Tables.{Table, first_table, size_of, list_size, fitting, with_item, resized, entry_at, name_of, IsWithin};
 ghost use Rattle.hpack.specs.Outcomes.{Gives};
 
 use crate::fault::HpackFault;
+use crate::limit::MAX_TABLE_SIZE;
 use crate::static_table::{COUNT, static_name, static_value};
 use std::alloc::Global;
 use std::collections::VecDeque;
 use std::marker::Model;
 use wl_octets::{Header, Memory, Octets};
-
-/// The maximum size that a table begins with, and the largest that it can have (RFC 9113, section 6.5.2).
-pub(crate) const MOST: u32 = 4096;
 
 /// The size of a header as the standard counts it (section 4.1).
 pub(crate) fn size(header: &Header) -> u128
@@ -59,7 +58,7 @@ impl Model for DynamicTable {
 
     ghost view = { λ table. record { items = table.items.items; most = table.most } };
 
-    ghost invariant = { λ table. (table.total ≡ list_size table.items.items) × (table.total ≤ table.most) × (table.most ≤ 4096) };
+    ghost invariant = { λ table. (table.total ≡ list_size table.items.items) × (table.total ≤ table.most) × (table.most ≤ MAX_TABLE_SIZE) };
 }
 
 impl DynamicTable {
@@ -70,7 +69,7 @@ impl DynamicTable {
         DynamicTable {
             items: VecDeque::new(alloc),
             total: 0,
-            most: MOST,
+            most: MAX_TABLE_SIZE,
         }
     }
 
@@ -83,7 +82,7 @@ impl DynamicTable {
 
     /// Sets the maximum size, and evicts what is past it (section 4.3).
     pub fn resize(&mut self, most: u32)
-        requires { most ≤ 4096 }
+        requires { most ≤ MAX_TABLE_SIZE }
         ensures { self.new ≡ resized self.old most }
     {
         self.total = evict(&mut self.items, self.total, most);

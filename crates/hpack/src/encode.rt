@@ -1,8 +1,9 @@
-//! The spelling of header blocks that are written.
+//! The encoding of header blocks that are written.
 #![tactic(auto)]
 
 ghost use Rattle.std.specs.Prelude.{◌≡◌, ◌+◌, ◌≤◌, ◌<◌, ◌++◌, Ok, IfOk, IfSome, MatchOption, OnOk, length};
 ghost use Rattle.std.specs.List.{position};
+ghost use Rattle.hpack.specs.declared.limit.TheConstants.{MAX_LIST_SIZE};
 ghost use Rattle.hpack.specs.Tables.{Table, list_size, static_table};
 ghost use Rattle.hpack.specs.Reading.{block_of};
 ghost use Rattle.hpack.specs.Grammar.{IsBlock};
@@ -77,7 +78,7 @@ fn find_field(header: &Header, from: usize) -> Option<usize>
     None
 }
 
-/// Appends the spelling of a header.
+/// Appends the encoding of a header.
 #[tactic(auto, unfolding(crate::specs::Writing::spelled))]
 fn put_header(out: &mut Vec<u8>, header: &Header) -> Result<(), Memory>
     ensures { OnOk result (out.new.items ≡ out.old.items ++ spelled header.now) }
@@ -106,16 +107,16 @@ fn most_bytes(headers: &[Header]) -> usize {
     bytes
 }
 
-/// The block of some headers in the one spelling that is written: a header of the static table is indexed, any other is a literal
+/// The block of some headers in the one encoding that is written: a header of the static table is indexed, any other is a literal
 /// without indexing that names the first static entry of its name, where there is one; no string is Huffman coded.
 ///
 /// Where the headers' sizes sum to at most 16,384, a decoder reads it as these headers, whatever its table, and its table stays;
 /// and it takes at most 16,383 bytes.
 pub fn encode_plain(alloc: Global, headers: &[Header]) -> Result<Octets, Memory>
     ensures spelled { IfOk result (λ block. block ≡ spelled_block headers.now) }
-    ensures readable { IfOk result (λ block. list_size headers.now ≤ 16384 → (table : Table) → IsBlock table block headers.now table) }
-    ensures small { IfOk result (λ block. list_size headers.now ≤ 16384 → length block ≤ 16383) }
-    ensures read_again { IfOk result (λ block. list_size headers.now ≤ 16384 → (table : Table) → block_of table block ≡ Ok (headers.now, table)) }
+    ensures readable { IfOk result (λ block. list_size headers.now ≤ MAX_LIST_SIZE → (table : Table) → IsBlock table block headers.now table) }
+    ensures small { IfOk result (λ block. list_size headers.now ≤ MAX_LIST_SIZE → length block < MAX_LIST_SIZE) }
+    ensures read_again { IfOk result (λ block. list_size headers.now ≤ MAX_LIST_SIZE → (table : Table) → block_of table block ≡ Ok (headers.now, table)) }
 {
     let mut out = Vec::with_capacity(alloc, most_bytes(headers))?;
     for header in headers {

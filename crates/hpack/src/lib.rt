@@ -1,5 +1,5 @@
 //! Header compression for HTTP/2 (RFC 7541): a decoder of header blocks with its dynamic table, and
-//! the plain spelling in which this agent writes its own.
+//! the plain encoding in which this agent writes its own.
 //!
 //! What is decoded is proved to be exactly what the standard says of the bytes, and each malformed
 //! block is refused with the fault of its leftmost wrong representation.
@@ -12,6 +12,7 @@ mod encode;
 mod fault;
 mod huffman;
 mod integers;
+pub mod limit;
 mod static_table;
 mod tables;
 #[cfg(test)]

@@ -2,7 +2,7 @@
 use Rattle.std.proofs.Common.{◌≡◌, List, [], ◌++◌, sym, refl, ap, ◌∙◌, append_assoc, append-nil}
 use Rattle.list_laws.specs.Lists.{GainsFront}
 
--- new is old with a front of what was due, of which this is left
+-- new is old with a prefix of what was due, of which this is left
 abbrev pub GainsUpTo : {A : Type 0} → List A → List A → List A → List A → Type 0
 GainsUpTo {A} due left old new = (part : List A) × (new ≡ old ++ part) × (due ≡ part ++ left)
 

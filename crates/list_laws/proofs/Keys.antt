@@ -45,7 +45,7 @@ pub all_below : (k x : List ℕ) (zs : List (List ℕ)) → order x k ≡ Less �
 all_below k x [] less all = tt
 all_below k x (z ∷ zs) less all = (nat_list_cmp_total.trans z x k all.0 less, all_below k x zs less all.1)
 
-level : (x k z : List ℕ) → order x k ≡ Equal → order z x ≡ Less → order z k ≡ Less
+pub level : (x k z : List ℕ) → order x k ≡ Equal → order z x ≡ Less → order z k ≡ Less
 level x k z same less = nat_list_cmp_total.antisymm z k ∙ ap ordering_reverse (sym (nat_list_cmp_total.congr x k z same)) ∙ sym (nat_list_cmp_total.antisymm z x) ∙ less
 
 pub all_level : (k x : List ℕ) (zs : List (List ℕ)) → order x k ≡ Equal → AllByRecursion (λ z. order z x ≡ Less) zs → AllByRecursion (λ z. order z k ≡ Less) zs

@@ -45,7 +45,7 @@ above_at key (z ∷ zs) zero (suc m) x rises is later =
     subst (λ o. IfSome o (λ y. AllByRecursion (λ w. slice_cmp nat_cmp (key y) w ≡ Less) (map key (option_to_list (slice_get zs m))))) is (head_at key (key z) zs m rises.0)
 above_at key (z ∷ zs) (suc n) (suc m) x rises is later = above_at key zs n m x rises.1 is (omega (arith, later))
 
--- of two lists, one behind the other
+-- of two lists, one after the other
 pub keys_append : (P : List ℕ → Type 0) {X : Type 0} (key : X → List ℕ) (xs ys : List X) → AllByRecursion P (map key xs) → AllByRecursion P (map key ys) → AllByRecursion P (map key (xs ++ ys))
 keys_append P key [] ys a b = b
 keys_append P key (x ∷ xs) ys a b = (a.0, keys_append P key xs ys a.1 b)

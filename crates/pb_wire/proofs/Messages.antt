@@ -59,7 +59,7 @@ fields-more bytes at f fits lt is =
 piece_some : (at : ℕ) (piece : List ℕ) (f : Field) → IsField at piece f → 1 ≤ length piece
 piece_some at piece f is = omega (arith, form_some is.tag (8 * f.number + kind_of f.value) is.is_tag.form, ap length is.parts, length-append is.tag is.content)
 
--- the bytes behind a field
+-- the bytes after a field
 behind_field : (bytes piece rest : List ℕ) (at : ℕ) (f : Field) → drop at bytes ≡ piece ++ rest → IsField at piece f → drop f.next bytes ≡ rest
 behind_field bytes piece rest at f parts is = ap (λ (n : ℕ). drop n bytes) is.behind ∙ behind_front bytes piece rest at parts
 

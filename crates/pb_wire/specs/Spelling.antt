@@ -1,4 +1,4 @@
--- The one spelling of a field of wire type 2 (Protocol Buffers encoding, "Message Structure" and "Length-Delimited Records").
+-- The one encoding of a field of wire type 2 (Protocol Buffers encoding, "Message Structure" and "Length-Delimited Records").
 use Rattle.std.specs.Prelude.{ℕ, ◌+◌, ◌*◌, List, [], ◌∷◌, ◌++◌, length}
 use Rattle.pb_wire.specs.Varint.{varint}
 

@@ -162,7 +162,8 @@ pub fn read_field(bytes: &[u8], at: usize) -> Result<Field, WireFault>
     ensures bytes_back { (number : ℕ) (content rest : List ℕ) → 1 ≤ number → number ≤ MAX_FIELD_NUMBER
         → drop at bytes.now ≡ field number content ++ rest → result ≡ Ok (bytes_field at number content) }
     ensures varint_back { (number n : ℕ) (rest : List ℕ) → 1 ≤ number → number ≤ MAX_FIELD_NUMBER → n < 2 ^ 64
-        → drop at bytes.now ≡ (varint (8 * number) ++ varint n) ++ rest → result ≡ Ok (varint_field at number n) }
+        → drop at bytes.now ≡ (varint (8 * number) ++ varint n) ++ rest
+        → result ≡ Ok (varint_field at number n) }
 {
     // The public clauses follow from those of the inner call.
     read_field_inner(bytes, at)

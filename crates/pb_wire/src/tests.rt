@@ -75,6 +75,17 @@ fn fields_are_read(rt: HostRuntime) {
         Some(b"hi".as_slice())
     );
     assert_eq!(rt; Value::Four(2).content(&bytes), None);
+    for (at, text) in [
+        (3, Ok(b"hi".as_slice())),
+        (16, Err(FieldFault::FieldKind(4))),
+        (28, Ok(b"".as_slice())),
+    ] {
+        assert!(rt; at < bytes.len());
+        match read_field(&bytes, at) {
+            Ok(field) => assert_eq!(rt; field.text(&bytes), text, "at {at}"),
+            Err(_) => assert!(rt; false, "at {at}"),
+        }
+    }
 }
 
 #[test]

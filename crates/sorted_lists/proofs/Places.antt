@@ -1,83 +1,92 @@
 -- Where the place of a key is in a list by ascending key.
-use Rattle.std.specs.Prelude.{◌≡◌, ℕ, ◌+◌, suc, if◌then◌else◌, Bool, true, false, List, [], ◌∷◌, ◌++◌, map, length, find, slice_get, Option, Some, None, option_map, option_and_then}
+use Rattle.std.specs.Prelude.{◌≡◌, ℕ, ◌<◌, ◌≤◌, zero, suc, if◌then◌else◌, Bool, true, false, List, [], ◌∷◌, map, length, find, slice_get, slice_index_or, Option, Some, None, option_map, option_and_then, Result, Ok, Err}
 use Rattle.std.specs.Str.{bytes_eq}
-use Rattle.std.specs.List.{AllByRecursion}
-use Rattle.std.specs.Ordering.{is_eq, ordering_reverse}
+use Rattle.std.specs.List.{AllByRecursion, HoldsAt}
+use Rattle.std.specs.List.Sorted.{IsStrictlySortedBy, IsNonDecreasingBy, IsSearchInRange, IsBinarySearchResult}
+use Rattle.std.specs.Ordering.{is_eq, ordering_index}
 use Rattle.std.specs.Cmp.Lexicographic.{nat_list_cmp_total}
-use Rattle.std.proofs.Common.{Less, Equal, Greater, refl, sym, ◌∙◌, ap, arith}
+use Rattle.std.proofs.Common.{Ordering, Less, Equal, Greater, inl, inr, refl, sym, ◌∙◌, ap, arith}
+use Rattle.std.proofs.lemmas.Bool.{cases_lt}
 use Rattle.std.proofs.lemmas.Map.Text.{is_eq-slice_cmp}
-use Rattle.sorted_lists.specs.Keys.{item_at, place_at}
-use Rattle.sorted_lists.proofs.Halving.{order, not_same, turned, all_below, all_level, Parted}
+use Rattle.list_laws.specs.Lists.{Rises}
+use Rattle.list_laws.specs.Keys.{item_at, place_at}
+use Rattle.list_laws.proofs.Order.{order}
+use Rattle.list_laws.proofs.Keys.{level}
 
--- a place in the rest of a list is as many places later in the list
-abbrev pub later : ℕ → Option ℕ → Option ℕ
-later n o = option_map (λ place. n + place) o
+-- ---- a binary search by key ends at the item of the key, or finds none
 
-later_suc : (n : ℕ) (o : Option ℕ) → option_map suc (later n o) ≡ later (suc n) o
-later_suc n None = refl
-later_suc n (Some place) = ap Some (omega arith)
+-- the item at a place has what each item has
+at_place : {X : Type 0} (key : X → List ℕ) (P : List ℕ → Type 0) (xs : List X) (j : ℕ) (d : X) → j < length xs → AllByRecursion P (map key xs) → P (key (slice_index_or xs j d))
+at_place key P [] j d lt all = absurd (omega (arith, lt))
+at_place key P (x ∷ xs) zero d lt all = all.0
+at_place key P (x ∷ xs) (suc j) d lt all = at_place key P xs j d (omega (arith, lt)) all.1
 
-pub later_zero : (o : Option ℕ) → later 0 o ≡ o
-later_zero None = refl
-later_zero (Some place) = ap Some (omega arith)
+module _ {X : Type 0} (key : X → List ℕ) (k : List ℕ) where
+  -- how an item compares with the key
+  abbrev pub ord : X → Ordering
+  ord x = order (key x) k
 
-pub later_later : (n m : ℕ) (o : Option ℕ) → later n (later m o) ≡ later (n + m) o
-later_later n m None = refl
-later_later n m (Some place) = ap Some (omega arith)
+  -- of two byte strings the lower one doesn't compare higher
+  ranks : (a b : List ℕ) (o : Ordering) → order a b ≡ Less → order b k ≡ o → ordering_index (order a k) ≤ ordering_index o
+  ranks a b Less less is = rw (nat_list_cmp_total.trans a b k less is) (omega arith)
+  ranks a b Equal less is = rw (level b k a is less) (omega arith)
+  ranks a b Greater less is = at_most (order a k)
+    where
+      at_most : (o : Ordering) → ordering_index o ≤ ordering_index Greater
+      at_most Less = omega arith
+      at_most Equal = omega arith
+      at_most Greater = omega arith
 
-later_up : (n : ℕ) (o : Option ℕ) → later n (option_map suc o) ≡ later (n + 1) o
-later_up n None = refl
-later_up n (Some place) = ap Some (omega arith)
+  ranks_rise : (xs : List X) → Rises (map key xs) → IsNonDecreasingBy (λ x. ordering_index (ord x)) xs
+  unfolding IsStrictlySortedBy
+  ranks_rise [] rises i j d le lt = absurd (omega (arith, lt))
+  ranks_rise (x ∷ xs) rises zero zero d le lt = omega arith
+  ranks_rise (x ∷ xs) rises zero (suc j) d le lt = ranks (key x) (key (slice_index_or xs j d)) (ord (slice_index_or xs j d)) (at_place key (λ y. order (key x) y ≡ Less) xs j d (omega (arith, lt)) rises.0) refl
+  ranks_rise (x ∷ xs) rises (suc i) zero d le lt = absurd (omega (arith, le))
+  ranks_rise (x ∷ xs) rises (suc i) (suc j) d le lt = ranks_rise xs rises.1 i j d (omega (arith, le)) (omega (arith, lt))
 
--- items below the key are passed over
-place_skips : {X : Type 0} (key : X → List ℕ) (k : List ℕ) (below rest : List X) → AllByRecursion (λ z. order z k ≡ Less) (map key below) → place_at key (below ++ rest) k ≡ later (length below) (place_at key rest k)
-unfolding place_at
-place_skips key k [] rest all = sym (later_zero (place_at key rest k))
-place_skips key k (z ∷ zs) rest all =
-    rw (not_same (key z) k Less all.0 refl) (ap (option_map suc) (place_skips key k zs rest all.1) ∙ later_suc (length zs) (place_at key rest k))
+  tested : (x : X) (b : Bool) → is_eq (ord x) ≡ b → bytes_eq (key x) k ≡ b
+  tested x b is = sym (is_eq-slice_cmp (key x) k) ∙ is
 
--- no item above a greater one has the key
-pub no_place : {X : Type 0} (key : X → List ℕ) (k x : List ℕ) (xs : List X) → order k x ≡ Less → AllByRecursion (λ y. order x y ≡ Less) (map key xs) → place_at key xs k ≡ None
-unfolding place_at
-no_place key k x [] less above = refl
-no_place key k x (y ∷ ys) less above =
-    rw (not_same (key y) k Greater (turned k (key y) (nat_list_cmp_total.trans k x (key y) less above.0)) refl) (ap (option_map suc) (no_place key k x ys less above.1))
+  place_found : (xs : List X) (i : ℕ) → Rises (map key xs) → i < length xs → HoldsAt (λ x. ord x ≡ Equal) xs i → place_at key xs k ≡ Some i
+  unfolding place_at IsStrictlySortedBy
+  place_found [] i rises lt equal = absurd (omega (arith, lt))
+  place_found (x ∷ xs) zero rises lt equal = rw (tested x true (ap is_eq (equal x))) refl
+  place_found (x ∷ xs) (suc i) rises lt equal =
+      let below = at_place key (λ y. order (key x) y ≡ Less) xs i x (omega (arith, lt)) rises.0 in
+      let less : ord x ≡ Less = level (key (slice_index_or xs i x)) k (key x) (equal x) below in
+      rw (tested x false (ap is_eq less)) (ap (option_map suc) (place_found xs i rises.1 (omega (arith, lt)) (λ d. equal d)))
 
--- the item in the middle is below the key: the search goes on above it
-pub place_above : {X : Type 0} (key : X → List ℕ) (k : List ℕ) (below : List X) (first : X) (above : List X) → Parted key below first above → order (key first) k ≡ Less → place_at key (below ++ first ∷ above) k ≡ later (length below + 1) (place_at key above k)
-unfolding place_at
-place_above key k below first above p less =
-    place_skips key k below (first ∷ above) (all_below k (key first) (map key below) less p.under)
-    ∙ rw (not_same (key first) k Less less refl) (later_up (length below) (place_at key above k))
+  place_missing : (xs : List X) → ((j : ℕ) (d : X) → j < length xs → is_eq (ord (slice_index_or xs j d)) ≡ false) → place_at key xs k ≡ None
+  unfolding place_at
+  place_missing [] other = refl
+  place_missing (x ∷ xs) other = rw (tested x false (other 0 x (omega arith))) (ap (option_map suc) (place_missing xs (λ j d lt. other (suc j) d (omega (arith, lt)))))
 
--- it has the key
-pub place_there : {X : Type 0} (key : X → List ℕ) (k : List ℕ) (below : List X) (first : X) (above : List X) → Parted key below first above → order (key first) k ≡ Equal → place_at key (below ++ first ∷ above) k ≡ Some (length below)
-unfolding place_at
-place_there key k below first above p same =
-    place_skips key k below (first ∷ above) (all_level k (key first) (map key below) same p.under)
-    ∙ rw (sym (is_eq-slice_cmp (key first) k) ∙ ap is_eq same) (ap Some (omega arith))
+  -- what a binary search answered, as a place
+  abbrev pub place_of : Result ℕ ℕ → Option ℕ
+  place_of (Ok i) = Some i
+  place_of (Err i) = None
 
-front_place : {X : Type 0} (key : X → List ℕ) (k : List ℕ) (below rest : List X) → place_at key rest k ≡ None → place_at key (below ++ rest) k ≡ place_at key below k
-unfolding place_at
-front_place key k [] rest none = none
-front_place key k (z ∷ zs) rest none = ap (λ o. if bytes_eq (key z) k then Some 0 else option_map suc o) (front_place key k zs rest none)
+  pub searched : (xs : List X) (r : Result ℕ ℕ) → Rises (map key xs) → IsSearchInRange r (length xs) → IsBinarySearchResult ord xs r → place_at key xs k ≡ place_of r
+  searched xs (Ok i) rises within found = place_found xs i rises within found
+  searched xs (Err i) rises within found =
+      let parts = found (ranks_rise xs rises) in
+      place_missing xs (λ j d lt. elim (cases_lt j i) [
+        | inl before ↦ ap is_eq (parts.0 j d (omega arith) before)
+        | inr after ↦ ap is_eq (parts.1 j d after lt)
+      ])
 
--- it is above the key: the search goes on below it
-pub place_below : {X : Type 0} (key : X → List ℕ) (k : List ℕ) (below : List X) (first : X) (above : List X) → Parted key below first above → order (key first) k ≡ Greater → place_at key (below ++ first ∷ above) k ≡ place_at key below k
-unfolding place_at
-place_below key k below first above p greater =
-    let less : order k (key first) ≡ Less = nat_list_cmp_total.antisymm k (key first) ∙ ap ordering_reverse greater in
-    front_place key k below (first ∷ above) (rw (not_same (key first) k Greater greater refl) (ap (option_map suc) (no_place key k (key first) above less p.over)))
+-- ---- the item at a place
 
-behind : {X : Type 0} (x : X) (xs : List X) (o : Option ℕ) → option_and_then (slice_get xs) o ≡ option_and_then (slice_get (x ∷ xs)) (option_map suc o)
-behind x xs None = refl
-behind x xs (Some place) = refl
+place_after : {X : Type 0} (x : X) (xs : List X) (o : Option ℕ) → option_and_then (slice_get xs) o ≡ option_and_then (slice_get (x ∷ xs)) (option_map suc o)
+place_after x xs None = refl
+place_after x xs (Some place) = refl
 
 found_go : {X : Type 0} (x : X) (xs : List X) (found : Option X) (place : Option ℕ) (b : Bool) → found ≡ option_and_then (slice_get xs) place → (if b then Some x else found) ≡ option_and_then (slice_get (x ∷ xs)) (if b then Some 0 else option_map suc place)
 found_go x xs found place true same = refl
-found_go x xs found place false same = same ∙ behind x xs place
+found_go x xs found place false same = same ∙ place_after x xs place
 
--- the item of a key stands at its place
+-- the item of a key is at its place
 pub found_there : {X : Type 0} (key : X → List ℕ) (k : List ℕ) (xs : List X) → item_at key xs k ≡ option_and_then (slice_get xs) (place_at key xs k)
 unfolding item_at place_at
 found_there key k [] = refl

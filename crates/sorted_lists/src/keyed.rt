@@ -6,7 +6,7 @@ use wl_octets::Shared;
 
 /// A thing with a key, which is a byte string.
 pub trait Keyed {
-    /// The key.
+    /// The key, as contracts see it.
     ghost key: { Self → List ℕ };
 
     /// The key.

@@ -3,6 +3,7 @@ use Rattle.std.proofs.Common.{ℕ, ◌≡◌, ◌≢◌, ◌==◌, ◌+◌, ◌�
 use Rattle.std.specs.List.{position, position_or_len, list_all, AllByRecursion, onto_first}
 use Rattle.std.proofs.lemmas.Bool.{le-ltb, eqb-true, true≢false, false_from_ne_true}
 use Rattle.std.proofs.Math.Seq.{drop-append_seam}
+use Rattle.spiffe_id.specs.declared.finding.TheConstants.{MAX_DOMAIN_LEN, MAX_ID_LEN}
 use Rattle.spiffe_id.specs.Grammar.{is_domain_byte, is_path_byte, IsDomain, IsSegment, path_of, IsIdOf, IsId}
 use Rattle.spiffe_id.specs.Faults.{domain_fault, is_dots, segment_fault, segments_fault, pieces, id_fault, id_domain, id_path, first_or_empty}
 
@@ -33,7 +34,7 @@ no_zero n h = false_from_ne_true _ (λ e. omega (arith, h, eqb-true n 0 e))
 pub domain_complete : (at : ℕ) (name : List ℕ) → IsDomain name → domain_fault at name ≡ None
 unfolding domain_fault
 domain_complete at name d =
-    rw (no_zero _ d.least, le-ltb 255 (length name) d.most, no_wrong is_domain_byte name d.bytes) refl
+    rw (no_zero _ d.least, le-ltb MAX_DOMAIN_LEN (length name) d.most, no_wrong is_domain_byte name d.bytes) refl
 
 dots_one : (a : ℕ) → (a == 46) ≡ true → (a ∷ []) ≡ codes "."
 dots_one a h = ap (λ (b : ℕ). b ∷ []) (eqb-true a 46 h)
@@ -101,7 +102,7 @@ module _ (name : List ℕ) (segments : List (List ℕ)) (text : List ℕ) (is : 
   pub fault_is_none : id_fault text ≡ None
   unfolding id_fault
   fault_is_none =
-      rw (le-ltb 2048 (length text) is.most, ap (take 9) is.spelled, cut_up, domain_complete 9 name is.named) (segments_complete _ segments is.parted)
+      rw (le-ltb MAX_ID_LEN (length text) is.most, ap (take 9) is.spelled, cut_up, domain_complete 9 name is.named) (segments_complete _ segments is.parted)
 
 pub id_complete : (text : List ℕ) → IsId text → id_fault text ≡ None
 id_complete text is = fault_is_none is.0 is.1 text is.2

@@ -6,6 +6,7 @@ use Rattle.std.proofs.lemmas.List.{append-nil, take-append-drop, length-append}
 use Rattle.std.proofs.lemmas.List.Splits.{join_with_byte-slice_split}
 use Rattle.std.proofs.lemmas.Option.{none-some}
 use Rattle.std.specs.Cmp.Lexicographic.{bytes_decides}
+use Rattle.spiffe_id.specs.declared.finding.TheConstants.{MAX_ID_LEN}
 use Rattle.spiffe_id.specs.declared.faults.IdFault.{IdFault}
 use Rattle.spiffe_id.specs.Grammar.{is_domain_byte, is_path_byte, IsDomain, IsSegment, path_of, IsId}
 use Rattle.spiffe_id.specs.Faults.{or_else, domain_byte_fault, domain_fault, path_byte_fault, is_dots, segment_fault, segments_fault, pieces, parts_fault, id_fault}
@@ -92,7 +93,7 @@ rejoined : (name : List ℕ) (ss : List (List ℕ)) → join_with_byte 47 (name 
 rejoined name [] = sym (append-nil name)
 rejoined name (s ∷ ss) = ap (λ (l : List ℕ). name ++ 47 ∷ l) (rejoined s ss)
 
-id_of_parts : (text : List ℕ) (parts : List (List ℕ)) → text ≡ codes "spiffe://" ++ join_with_byte 47 parts → parts_fault parts ≡ None → length text ≤ 2048 → IsId text
+id_of_parts : (text : List ℕ) (parts : List (List ℕ)) → text ≡ codes "spiffe://" ++ join_with_byte 47 parts → parts_fault parts ≡ None → length text ≤ MAX_ID_LEN → IsId text
 id_of_parts text [] spelled h most = absurd (none-some _ (sym h))
 id_of_parts text (name ∷ ss) spelled h most =
     let both = first_none _ _ h in (

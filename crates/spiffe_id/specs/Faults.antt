@@ -2,6 +2,7 @@
 use Rattle.std.specs.Prelude.{ℕ, ◌+◌, ◌≡◌, ◌==◌, ◌&&◌, Bool, false, not, nat_lt, if◌then◌else◌, List, [], ◌∷◌, length, codes, take, drop, position, Option, Some, None, Result, Ok, Err}
 use Rattle.std.specs.Str.{bytes_eq}
 use Rattle.std.specs.List.{slice_split}
+use Rattle.spiffe_id.specs.declared.finding.TheConstants.{MAX_DOMAIN_LEN, MAX_ID_LEN}
 use Rattle.spiffe_id.specs.declared.faults.IdFault.{IdFault}
 use Rattle.spiffe_id.specs.declared.faults.IdFault.TheVariants.{TooLong, NotSpiffe, EmptyDomain, DomainByte, EmptySegment, PathByte, DotSegment, Memory}
 use Rattle.spiffe_id.specs.Grammar.{is_domain_byte, is_path_byte}
@@ -20,7 +21,7 @@ domain_byte_fault at (Some i) = Some (DomainByte (at + i))
 unfoldable pub domain_fault : ℕ → List ℕ → Option IdFault
 domain_fault at name =
     if length name == 0 then Some EmptyDomain
-    else if nat_lt 255 (length name) then Some (TooLong (length name))
+    else if nat_lt MAX_DOMAIN_LEN (length name) then Some (TooLong (length name))
     else domain_byte_fault at (position (λ b. not (is_domain_byte b)) name)
 
 -- the first byte that may not stand in a segment whose `/` is at this place
@@ -58,7 +59,7 @@ parts_fault (name ∷ segments) = or_else (domain_fault 9 name) (segments_fault 
 -- an id
 unfoldable pub id_fault : List ℕ → Option IdFault
 id_fault text =
-    if nat_lt 2048 (length text) then Some (TooLong (length text))
+    if nat_lt MAX_ID_LEN (length text) then Some (TooLong (length text))
     else if not (bytes_eq (take 9 text) (codes "spiffe://")) then Some NotSpiffe
     else parts_fault (pieces (drop 9 text))
 
@@ -74,7 +75,7 @@ id_domain text = first_or_empty (pieces (drop 9 text))
 unfoldable pub id_path : List ℕ → List ℕ
 id_path text = drop (length (id_domain text)) (drop 9 text)
 
--- What reading a text answers: the text, where it has no fault; else its first fault. Want of memory yields nothing.
+-- What reading a text answers: the text, where it has no fault; else its first fault. Running out of memory yields nothing.
 abbrev pub Reads : List ℕ → Option IdFault → Result (List ℕ) IdFault → Type 0
 Reads text fault (Ok value) = (value ≡ text) × (fault ≡ None)
 Reads text fault (Err Memory) = Unit {0}

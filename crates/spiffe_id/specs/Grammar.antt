@@ -1,6 +1,7 @@
 -- The grammar of SPIFFE IDs (SPIFFE-ID, sections 2.1 to 2.4).
 use Rattle.std.specs.Prelude.{ℕ, ◌≡◌, ◌≢◌, ◌≤◌, ◌==◌, ◌&&◌, ◌||◌, Bool, true, nat_le, List, [], ◌∷◌, ◌++◌, length, codes}
 use Rattle.std.specs.List.{AllByRecursion, list_all}
+use Rattle.spiffe_id.specs.declared.finding.TheConstants.{MAX_DOMAIN_LEN, MAX_ID_LEN}
 
 -- `a-z 0-9 . - _`
 abbrev pub is_domain_byte : ℕ → Bool
@@ -14,7 +15,7 @@ is_path_byte b = is_domain_byte b || (nat_le 65 b && nat_le b 90)
 pub record IsDomain (name : List ℕ) : Type 0 where
   pub bytes : list_all is_domain_byte name ≡ true
   pub least : 1 ≤ length name
-  pub most : length name ≤ 255
+  pub most : length name ≤ MAX_DOMAIN_LEN
 
 -- a segment of a path, which is neither `.` nor `..`
 pub record IsSegment (segment : List ℕ) : Type 0 where
@@ -23,7 +24,7 @@ pub record IsSegment (segment : List ℕ) : Type 0 where
   pub one : segment ≢ codes "."
   pub two : segment ≢ codes ".."
 
--- a path: each segment behind a slash
+-- a path: each segment after a slash
 abbrev pub path_of : List (List ℕ) → List ℕ
 path_of [] = []
 path_of (segment ∷ segments) = 47 ∷ (segment ++ path_of segments)
@@ -33,7 +34,7 @@ pub record IsIdOf (name : List ℕ) (segments : List (List ℕ)) (text : List �
   pub spelled : text ≡ codes "spiffe://" ++ (name ++ path_of segments)
   pub named : IsDomain name
   pub parted : AllByRecursion IsSegment segments
-  pub most : length text ≤ 2048
+  pub most : length text ≤ MAX_ID_LEN
 
 -- an id of some name and segments
 abbrev pub IsId : List ℕ → Type 0

@@ -1,6 +1,7 @@
 //! Finding the first fault of a text, from its front.
 
 ghost use Rattle.std.specs.Prelude.{◌≡◌, ◌==◌, ◌+◌, ◌<◌, ◌≤◌, ◌∷◌, [], not, length, position, IfSome, MatchOption};
+ghost use Rattle.spiffe_id.specs.declared.finding.TheConstants.{MAX_ID_LEN};
 ghost use Rattle.spiffe_id.specs.Grammar.{is_domain_byte, is_path_byte};
 ghost use Rattle.spiffe_id.specs.Faults.{is_dots, pieces, domain_fault, segment_fault, segments_fault, parts_fault, id_fault};
 
@@ -9,11 +10,11 @@ use crate::faults::IdFault;
 /// The scheme and what follows it, before the name.
 const SCHEME: &[u8] = b"spiffe://";
 
-/// The most bytes of an id.
-const ID_LIMIT: usize = 2048;
+/// The most bytes of an id (own rule).
+pub const MAX_ID_LEN: usize = 2048;
 
-/// The most bytes of a trust domain name.
-const NAME_LIMIT: usize = 255;
+/// The most bytes of a trust domain name (own rule).
+pub const MAX_DOMAIN_LEN: usize = 255;
 
 fn in_name(byte: u8) -> bool
     ensures { result ≡ is_domain_byte byte }
@@ -60,13 +61,13 @@ fn slash(text: &[u8]) -> Option<usize>
 /// The first fault of the trust domain name that begins at this place of the text.
 #[tactic(auto, unfolding(crate::specs::Faults::domain_fault))]
 pub(crate) fn fault_of_domain(at: usize, name: &[u8]) -> Option<IdFault>
-    requires { at ≤ 2048 }
+    requires { at ≤ MAX_ID_LEN }
     ensures { result ≡ domain_fault at name.now }
 {
     if name.is_empty() {
         return Some(IdFault::EmptyDomain);
     }
-    if name.len() > NAME_LIMIT {
+    if name.len() > MAX_DOMAIN_LEN {
         return Some(IdFault::TooLong(name.len()));
     }
     match wrong_in_name(name) {
@@ -78,7 +79,7 @@ pub(crate) fn fault_of_domain(at: usize, name: &[u8]) -> Option<IdFault>
 /// The first fault of the segment whose `/` stands at this place of the text.
 #[tactic(auto, unfolding(crate::specs::Faults::segment_fault))]
 fn fault_of_segment(at: usize, segment: &[u8]) -> Option<IdFault>
-    requires { at + length segment.now ≤ 2048 }
+    requires { at + length segment.now ≤ MAX_ID_LEN }
     ensures { result ≡ segment_fault at segment.now }
 {
     if segment.is_empty() {
@@ -91,9 +92,10 @@ fn fault_of_segment(at: usize, segment: &[u8]) -> Option<IdFault>
     }
 }
 
-/// What stands before the first `/`, and what stands behind it.
+/// What stands before the first `/`, and what is after it.
 pub(crate) fn cut(text: &[u8]) -> Option<(&[u8], &[u8])>
-    ensures parts { MatchOption result (pieces text.now ≡ text.now ∷ []) (λ p. pieces text.now ≡ p.0.now ∷ pieces p.1.now) }
+    ensures parts { MatchOption result (pieces text.now ≡ text.now ∷ [])
+        (λ p. pieces text.now ≡ p.0.now ∷ pieces p.1.now) }
     ensures shorter { IfSome result (λ p. length p.0.now + 1 + length p.1.now ≡ length text.now) }
 {
     match slash(text) {
@@ -102,9 +104,9 @@ pub(crate) fn cut(text: &[u8]) -> Option<(&[u8], &[u8])>
     }
 }
 
-/// The first fault of the segments of a text whose first byte stands behind the `/` at this place.
+/// The first fault of the segments of a text whose first byte is after the `/` at this place.
 fn fault_of_segments(at: usize, text: &[u8]) -> Option<IdFault>
-    requires { at + length text.now ≤ 2048 }
+    requires { at + length text.now ≤ MAX_ID_LEN }
     ensures { result ≡ segments_fault at (pieces text.now) }
 {
     let mut at = at;
@@ -139,7 +141,7 @@ fn fault_of_parts(text: &[u8]) -> Option<IdFault>
 pub(crate) fn fault_of_id(text: &[u8]) -> Option<IdFault>
     ensures { result ≡ id_fault text.now }
 {
-    if text.len() > ID_LIMIT {
+    if text.len() > MAX_ID_LEN {
         return Some(IdFault::TooLong(text.len()));
     }
     match text.strip_prefix(SCHEME) {

@@ -75,7 +75,8 @@ impl SpiffeId {
     /// The name of its trust domain.
     pub fn domain(&self) -> &[u8]
         ensures value { result.now ≡ id_domain self.now }
-        ensures grammar { (name : List ℕ) (segments : List (List ℕ)) → IsIdOf name segments self.now → result.now ≡ name }
+        ensures grammar { (name : List ℕ) (segments : List (List ℕ)) → IsIdOf name segments self.now
+            → result.now ≡ name }
     {
         self.name()
     }
@@ -84,7 +85,8 @@ impl SpiffeId {
     #[tactic(auto, unfolding(crate::specs::Faults::id_path))]
     pub fn path(&self) -> &[u8]
         ensures value { result.now ≡ id_path self.now }
-        ensures grammar { (name : List ℕ) (segments : List (List ℕ)) → IsIdOf name segments self.now → result.now ≡ path_of segments }
+        ensures grammar { (name : List ℕ) (segments : List (List ℕ)) → IsIdOf name segments self.now
+            → result.now ≡ path_of segments }
     {
         &self.parts()[self.name().len()..]
     }

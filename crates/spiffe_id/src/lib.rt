@@ -13,5 +13,6 @@ mod names;
 mod tests;
 
 pub use faults::IdFault;
+pub use finding::{MAX_DOMAIN_LEN, MAX_ID_LEN};
 pub use ids::SpiffeId;
 pub use names::TrustDomain;

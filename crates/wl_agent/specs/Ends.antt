@@ -43,7 +43,7 @@ pub data Ends (command : Option Command) (t : Traffic) : ℕ → Type 0 where
   fails_read : IsSome command → Rose t.reads_before t.reads_after → t.after ≡ t.before → Ends command t READ_FAILED
   -- a write failed; a prefix of the output was written
   fails_write : (outcome : Outcome) → IsOutcome command t.content outcome → Rose t.writes_before t.writes_after →
-    GainedPrefix t.before t.after outcome.output → Ends command t WRITE_FAILED
+      GainedPrefix t.before t.after outcome.output → Ends command t WRITE_FAILED
   -- the whole output was written
   ends_well : (outcome : Outcome) → IsOutcome command t.content outcome → Wrote t outcome.output → Ends command t outcome.status
 
@@ -90,7 +90,7 @@ pub data StatusExplains (command : Option Command) (t : Traffic) : ℕ → Type 
   unread : IsSome command → Rose t.reads_before t.reads_after → t.after ≡ t.before → StatusExplains command t READ_FAILED
   -- a write failed; a prefix of the output was written
   unwritten : (outcome : Outcome) → IsOutcome command t.content outcome → Rose t.writes_before t.writes_after →
-    GainedPrefix t.before t.after outcome.output → StatusExplains command t WRITE_FAILED
+      GainedPrefix t.before t.after outcome.output → StatusExplains command t WRITE_FAILED
   -- out of memory; nothing was written
   memory : t.after ≡ t.before → StatusExplains command t OUT_OF_MEMORY
 

@@ -3,6 +3,7 @@ use Rattle.std.specs.Prelude.{ℕ, ◌/◌, ◌%◌, ◌+◌, nat_lt, if◌then�
 use Rattle.std.specs.List.{flat_map}
 use Rattle.grpc_wire.specs.Messages.{framed}
 use Rattle.std.specs.Fmt.{decimal}
+use Rattle.fault_lines.specs.Lines.{spaced_all}
 use Rattle.spiffe_id.specs.declared.faults.IdFault.{IdFault}
 use Rattle.spiffe_id.specs.declared.faults.IdFault.TheVariants as id
 use Rattle.wl_document.specs.declared.fault.Place.{Place}
@@ -44,14 +45,7 @@ fault_numbers (TooMany p n) = 12 ∷ place_numbers p ++ n ∷ []
 fault_numbers (TooLong p n) = 13 ∷ place_numbers p ++ n ∷ []
 fault_numbers Memory = 14 ∷ []
 
--- each number in decimal behind a space
-abbrev pub spaced : ℕ → List ℕ
-spaced n = 32 ∷ decimal n
-
-unfoldable pub spaced_all : List ℕ → List ℕ
-spaced_all ns = flat_map spaced ns
-
--- `fault document`, the numbers and a newline
+-- `fault document`, the numbers, each after a space, and a newline
 unfoldable pub fault_line : DocFault → List ℕ
 fault_line e = codes "fault document" ++ spaced_all (fault_numbers e) ++ 10 ∷ []
 

@@ -115,7 +115,8 @@ fn read_selector(alloc: Global, text: &[u8]) -> Result<Option<Selector>, Memory>
 
 /// The selectors, where each text is one.
 fn read_selectors(alloc: Global, texts: &[Octets]) -> Result<Option<Vec<Selector>>, Memory>
-    ensures { IfOk result (λ o. option_map (λ v. v.items) o ≡ (if list_all is_selector texts.now then Some texts.now else None)) }
+    ensures { IfOk result (λ o. option_map (λ v. v.items) o ≡
+        (if list_all is_selector texts.now then Some texts.now else None)) }
 {
     let mut done = Vec::new(alloc);
     for text in texts {

@@ -58,11 +58,7 @@ fn fault_outcome(alloc: Global, fault: DocFault) -> Result<Outcome, Memory>
 }
 
 /// What `preview` ends with.
-fn preview_outcome(
-    alloc: Global,
-    selectors: &Selectors,
-    document: &[u8],
-) -> Result<Outcome, Memory>
+fn preview_outcome(alloc: Global, selectors: &Selectors, document: &[u8]) -> Result<Outcome, Memory>
     ensures { IfOk result (λ o. o ≡ preview_outcome selectors.now (document_state None document.now)) }
 {
     match read_state(alloc, document, None) {

@@ -3,7 +3,8 @@
 ghost use Rattle.std.specs.Prelude.{◌≡◌, ◌++◌, [], ◌∷◌, ◌<◌, ◌≤◌, ◌^◌, List, codes, length, IfOk, OnOk};
 ghost use Rattle.std.specs.List.{flat_map};
 ghost use Rattle.std.specs.Fmt.{decimal};
-ghost use Rattle.wl_agent.specs.Lines.{id_numbers, place_numbers, fault_numbers, spaced, spaced_all, fault_line, count_line, hex_digit, hex_byte, hex_text, message_line};
+ghost use Rattle.fault_lines.specs.Lines.{spaced, spaced_all};
+ghost use Rattle.wl_agent.specs.Lines.{id_numbers, place_numbers, fault_numbers, fault_line, count_line, hex_digit, hex_byte, hex_text, message_line};
 
 use grpc_wire::message_prefix;
 use spiffe_id::IdFault;
@@ -30,7 +31,7 @@ fn put_spaced(out: &mut Vec<u8>, number: u64) -> Result<(), Memory>
 }
 
 /// Each number behind a space.
-#[tactic(auto, unfolding(crate::specs::Lines::spaced_all))]
+#[tactic(auto, unfolding(fault_lines::specs::Lines::spaced_all))]
 fn put_all(out: &mut Vec<u8>, numbers: &[u64]) -> Result<(), Memory>
     ensures { OnOk result (out.new.items ≡ out.old.items ++ spaced_all numbers.now) }
 {
@@ -41,7 +42,7 @@ fn put_all(out: &mut Vec<u8>, numbers: &[u64]) -> Result<(), Memory>
 }
 
 /// A fault's number and its place.
-#[tactic(auto, unfolding(crate::specs::Lines::spaced_all))]
+#[tactic(auto, unfolding(fault_lines::specs::Lines::spaced_all))]
 fn put_placed(out: &mut Vec<u8>, kind: u64, place: Place) -> Result<(), Memory>
     ensures { OnOk result (out.new.items ≡ out.old.items ++ spaced_all (kind ∷ place_numbers place)) }
 {
@@ -75,7 +76,7 @@ fn put_id(out: &mut Vec<u8>, fault: IdFault) -> Result<(), Memory>
 }
 
 /// A fault's number, its place and one number more.
-#[tactic(auto, unfolding(crate::specs::Lines::spaced_all))]
+#[tactic(auto, unfolding(fault_lines::specs::Lines::spaced_all))]
 fn put_counted(out: &mut Vec<u8>, kind: u64, place: Place, count: usize) -> Result<(), Memory>
     ensures { OnOk result (out.new.items ≡ out.old.items ++ spaced_all (kind ∷ place_numbers place ++ count ∷ [])) }
 {
@@ -84,7 +85,7 @@ fn put_counted(out: &mut Vec<u8>, kind: u64, place: Place, count: usize) -> Resu
 }
 
 /// The number of a fault in an id, its place and the id's own numbers.
-#[tactic(auto, unfolding(crate::specs::Lines::spaced_all))]
+#[tactic(auto, unfolding(fault_lines::specs::Lines::spaced_all))]
 fn put_placed_id(out: &mut Vec<u8>, place: Place, fault: IdFault) -> Result<(), Memory>
     ensures { OnOk result (out.new.items ≡ out.old.items ++ spaced_all (5 ∷ place_numbers place ++ id_numbers fault)) }
 {

@@ -45,11 +45,7 @@ fn usage(alloc: Global) -> Result<Outcome, ReadFault>
 }
 
 /// What these words end with: the usage, or the outcome of the command on the document that is read.
-fn outcome<I: Source>(
-    alloc: Global,
-    words: &[String],
-    input: &mut I,
-) -> Result<Outcome, ReadFault>
+fn outcome<I: Source>(alloc: Global, words: &[String], input: &mut I) -> Result<Outcome, ReadFault>
     ensures outcome { IfOk result (IsOutcome (command_of (map string_bytes words.now)) (I.left input.old)) }
     ensures fit { IsErrOf result ReadFault.Failed → IsSome (command_of (map string_bytes words.now)) }
     ensures failed { IsErrOf result ReadFault.Failed → Rose (I.faults input.old) (I.faults input.new) }
@@ -73,9 +69,15 @@ fn outcome<I: Source>(
 
 fn run_inner<I: Source, O: Sink>(alloc: Global, words: &[String], host: &mut Host<I, O>) -> u8
     ensures ends { Ends (command_of (map string_bytes words.now))
-        (record { content = I.left host.old.input; before = O.taken host.old.output; after = O.taken host.new.output;
-        reads_before = I.faults host.old.input; reads_after = I.faults host.new.input;
-        writes_before = O.faults host.old.output; writes_after = O.faults host.new.output }) result }
+        (record {
+          content = I.left host.old.input;
+          before = O.taken host.old.output;
+          after = O.taken host.new.output;
+          reads_before = I.faults host.old.input;
+          reads_after = I.faults host.new.input;
+          writes_before = O.faults host.old.output;
+          writes_after = O.faults host.new.output;
+        }) result }
     ensures idle { command_of (map string_bytes words.now) ≡ None → host.new.input ≡ host.old.input }
 {
     match outcome(alloc, words, &mut host.input) {
@@ -100,9 +102,15 @@ fn run_inner<I: Source, O: Sink>(alloc: Global, words: &[String], host: &mut Hos
 pub fn run<I: Source, O: Sink>(alloc: Global, words: &[String], host: &mut Host<I, O>) -> u8
     // each status with its cause, and what was written
     ensures sound { StatusExplains (command_of (map string_bytes words.now))
-        (record { content = I.left host.old.input; before = O.taken host.old.output; after = O.taken host.new.output;
-        reads_before = I.faults host.old.input; reads_after = I.faults host.new.input;
-        writes_before = O.faults host.old.output; writes_after = O.faults host.new.output }) result }
+        (record {
+          content = I.left host.old.input;
+          before = O.taken host.old.output;
+          after = O.taken host.new.output;
+          reads_before = I.faults host.old.input;
+          reads_after = I.faults host.new.input;
+          writes_before = O.faults host.old.output;
+          writes_after = O.faults host.new.output;
+        }) result }
     // the status that is due is given, but for a failed read or write and where memory runs out
     ensures complete { StatusGiven (command_of (map string_bytes words.now)) (I.left host.old.input) result }
     // where the words fit no command nothing is read

@@ -6,10 +6,10 @@ ghost use Rattle.list_laws.specs.Lists.{Rises};
 ghost use Rattle.wl_entry.specs.Keys.{entry_key};
 ghost use Rattle.wl_agent.specs.Kept.{is_fit, kept_of, kept_in, publication_of};
 
+use sorted_lists::find_by_key;
 use std::alloc::Global;
 use wl_document::{AuthorityState, DocSvid};
 use wl_entry::{Entry, Signed, Svid};
-use sorted_lists::find_by_key;
 use wl_octets::{Memory, Row, Shared};
 use wl_snapshot::Snapshot;
 
@@ -59,7 +59,7 @@ fn keep_all(
 }
 
 /// The same items, as parts that can be shared.
-fn share_all<T: Drop>(alloc: Global, items: Row<T>) -> Result<Row<Shared<T>>, Memory>
+fn into_shared<T: Drop>(alloc: Global, items: Row<T>) -> Result<Row<Shared<T>>, Memory>
     ensures { IfOk result (λ r. r ≡ items) }
 {
     let mut shared = Row::empty(alloc);
@@ -81,8 +81,8 @@ pub(crate) fn publication(alloc: Global, state: AuthorityState) -> Result<Snapsh
         svids,
     } = state;
     let svids = keep_all(alloc, entries.as_slice(), svids)?;
-    let entries = share_all(alloc, entries)?;
-    let bundles = share_all(alloc, bundles)?;
+    let entries = into_shared(alloc, entries)?;
+    let bundles = into_shared(alloc, bundles)?;
     Ok(Snapshot {
         number: 0,
         domain,

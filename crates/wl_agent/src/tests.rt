@@ -343,26 +343,27 @@ fn put_items(text: &mut String, count: u32, front: &str, back: &str) -> Result<(
     Ok(())
 }
 
-/// Writes so many groups of base64.
-fn put_groups(text: &mut String, count: u32) -> Result<(), Memory> {
-    for _ in 0..count {
+/// The end of a bundle whose X.509 part has three times `groups` bytes and one more.
+fn bundle_end(alloc: Global, groups: u32) -> Result<String, Memory> {
+    let mut text = String::from_str(alloc, r#"","x509":""#)?;
+    for _ in 0..groups {
         text.push_str("AAAA")?;
     }
-    Ok(())
+    text.push_str(r#"AA=="}"#)?;
+    Ok(text)
 }
 
-/// A document with so many bundles beside the own one, which has three times `groups` bytes and one more, and so many
-/// entries of one selector, each with its SVID.
+/// A document of the domain `d0` with so many bundles, at least one, of so many bytes, and so many entries of one
+/// selector, each with its SVID.
 fn document_of(alloc: Global, groups: u32, bundles: u32, entries: u32) -> Result<String, Memory> {
-    let mut text = String::from_str(alloc, r#"{"version":1,"trust_domain":"a.b","bundles":["#)?;
-    put_items(&mut text, bundles, r#"{"trust_domain":"d"#, r#""},"#)?;
-    text.push_str(r#"{"trust_domain":"a.b","x509":""#)?;
-    put_groups(&mut text, groups)?;
-    text.push_str(r#"AA=="}],"entries":["#)?;
+    let mut text = String::from_str(alloc, r#"{"version":1,"trust_domain":"d0","bundles":["#)?;
+    let end = bundle_end(alloc, groups)?;
+    put_items(&mut text, bundles, r#"{"trust_domain":"d"#, end.as_str())?;
+    text.push_str(r#"],"entries":["#)?;
     put_items(
         &mut text,
         entries,
-        r#"{"spiffe_id":"spiffe://a.b/w","selectors":["unix:uid:1"],"id":"e"#,
+        r#"{"spiffe_id":"spiffe://d0/w","selectors":["unix:uid:1"],"id":"e"#,
         r#""}"#,
     )?;
     text.push_str(r#"],"svids":["#)?;
@@ -389,24 +390,24 @@ struct Size {
 const SIZES: [Size; 3] = [
     Size {
         groups: 349_525,
-        bundles: 0,
+        bundles: 1,
         entries: 3,
         status: DONE,
-        written: 6_291_647,
+        written: 6_291_641,
     },
     Size {
         groups: 349_525,
-        bundles: 0,
+        bundles: 1,
         entries: 4,
         status: TOO_LONG,
         written: 0,
     },
     Size {
         groups: 0,
-        bundles: 1_023,
+        bundles: 1_024,
         entries: 10_000,
         status: DONE,
-        written: 540_011,
+        written: 520_011,
     },
 ];
 

@@ -6,7 +6,8 @@ use Rattle.serde_json.specs.Data.{Data}
 use Rattle.serde_json.specs.Find.{as_array}
 use Rattle.serde_json.specs.View.{view, items_of, items_view}
 use Rattle.serde_json.specs.declared.value.Value.{Value}
-use Rattle.wl_document.specs.Checks.{◌>>=◌, or_fault}
+use Rattle.list_laws.specs.Results.{◌>>=◌}
+use Rattle.wl_document.specs.Checks.{or_fault}
 use Rattle.wl_document.specs.Arrays.{list_items}
 use Rattle.wl_document.specs.Members.{list_at}
 use Rattle.wl_document.specs.declared.fault.Place.{Place}

@@ -21,7 +21,7 @@ use Rattle.wl_document.specs.Walks.{bundle_beside, kept_bundles, kept_own_bundle
 use Rattle.wl_document.specs.declared.fault.DocFault.{DocFault}
 use Rattle.wl_document.specs.declared.fault.DocFault.TheVariants.{NoOwnBundle}
 use Rattle.wl_document.specs.declared.state.DocSvid.{DocSvid}
-use Rattle.wl_document.proofs.Checks.{ok_is, bind_ok, when_ok}
+use Rattle.list_laws.proofs.Results.{ok_is, bind_then, when_ok}
 use Rattle.wl_document.proofs.Orders.{keyed_put, keyed_none}
 use Rattle.wl_document.proofs.Withins.{bundle_within, entry_within, svid_within}
 
@@ -55,9 +55,9 @@ module _ {X : Type 0} (key : X → List ℕ) (P : X → Type 0) where
 
   within_walk : (read : ℕ → Kept X → Data → Result X DocFault) → ((i : ℕ) (kept : Kept X) (d : Data) (x : X) → read i kept d ≡ Ok x → P x) → (n i : ℕ) (kept : Kept X) (ds : List Data) (all : Kept X) → KeptWithin key P n kept → each_from read (λ kept x. put kept (key x) x) i kept ds ≡ Ok all → KeptWithin key P (n + length ds) all
   unfolding each_from
-  within_walk read good n i kept [] all h is = subst (KeptWithin key P (n + 0)) (ok_is kept all is) (record { keyed = h.keyed; few = omega (arith, h.few); each = h.each })
+  within_walk read good n i kept [] all h is = subst (KeptWithin key P (n + 0)) (ok_is is) (record { keyed = h.keyed; few = omega (arith, h.few); each = h.each })
   within_walk read good n i kept (d ∷ ds) all h is =
-      bind_ok (read i kept d) _ all is
+      bind_then (read i kept d) _ all is
       (λ x was last.
       let rest = within_walk read good (n + 1) (i + 1) (put kept (key x) x) ds all (within_put n kept x (good i kept d x was) h) last in
       record { keyed = rest.keyed; few = omega (arith, rest.few); each = rest.each })
@@ -74,7 +74,7 @@ bundles_within ds all few is = within_all bundle_key BundleWithin bundle_beside 
 pub own_bundles_within : (own : List ℕ) (ds : List Data) (all : Kept Bundle) → length ds ≤ 1024 → kept_own_bundles own ds ≡ Ok all → KeptWithin bundle_key BundleWithin 1024 all
 unfolding kept_own_bundles
 own_bundles_within own ds all few is =
-    bind_ok (kept_bundles ds) _ all is
+    bind_then (kept_bundles ds) _ all is
     (λ kept was last. when_ok (has_x509 (kept_at kept own)) NoOwnBundle (Ok kept) all last
     (λ has same. bundles_within ds all few (was ∙ same)))
 

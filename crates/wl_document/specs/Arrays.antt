@@ -5,7 +5,7 @@ use Rattle.std.specs.Str.{bytes_eq}
 use Rattle.std.specs.Ordering.{nat_cmp, match_ordering}
 use Rattle.std.specs.Cmp.Lexicographic.{slice_cmp}
 use Rattle.serde_json.specs.Data.{Data, Items, no_items, item}
-use Rattle.wl_document.specs.Checks.{◌>>=◌}
+use Rattle.list_laws.specs.Results.{◌>>=◌}
 use Rattle.wl_document.specs.declared.fault.DocFault.{DocFault}
 
 -- the items of an array, as a list

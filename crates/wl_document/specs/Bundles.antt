@@ -4,7 +4,8 @@ use Rattle.serde_json.specs.Data.{Data}
 use Rattle.serde_json.specs.Find.{get}
 use Rattle.wl_entry.specs.declared.bundles.Bundle.{Bundle}
 use Rattle.wl_entry.specs.Keys.{bundle_key}
-use Rattle.wl_document.specs.Checks.{◌>>=◌}
+use Rattle.list_laws.specs.Results.{◌>>=◌}
+use Rattle.wl_entry.specs.declared.limits.TheConstants.{MAX_PART_LEN}
 use Rattle.wl_document.specs.Places.{at_bundle}
 use Rattle.wl_document.specs.Arrays.{each_from, at_end, was_given, ascending}
 use Rattle.wl_document.specs.Members.{optional, object_at, domain_of, base64_at, at_most, text_or_empty}
@@ -12,9 +13,9 @@ use Rattle.wl_document.specs.declared.fault.Place.{Place}
 use Rattle.wl_document.specs.declared.fault.DocFault.{DocFault}
 use Rattle.wl_document.specs.declared.fault.DocFault.TheVariants.{Duplicate}
 
--- at most 1,048,576 bytes in base64
+-- bytes in base64, within their limit
 unfoldable pub x509_at : Place → Data → Result (List ℕ) DocFault
-x509_at p d = base64_at p d >>= at_most 1048576 p
+x509_at p d = base64_at p d >>= at_most MAX_PART_LEN p
 
 unfoldable pub x509_of : Place → Data → Result (List ℕ) DocFault
 x509_of p d = optional (x509_at p) [] (get (codes "x509") d)
@@ -35,7 +36,7 @@ unfoldable pub bundle_of : ℕ → (List ℕ → Bool) → Data → Result Bundl
 bundle_of i given d = do
   domain ← bundle_domain_of i given d
   x509 ← x509_of (at_bundle i 2) d
-  jwks ← text_or_empty 1048576 (at_bundle i 3) (codes "jwks") d
+  jwks ← text_or_empty MAX_PART_LEN (at_bundle i 3) (codes "jwks") d
   Ok (record { domain = domain; x509 = x509; jwks = jwks })
 
 -- the bundles of an array as they stand there, each read beside the domains of those before it

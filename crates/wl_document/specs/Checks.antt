@@ -9,12 +9,6 @@ use Rattle.wl_document.specs.declared.fault.Place.{Place}
 use Rattle.wl_document.specs.declared.fault.DocFault.{DocFault}
 use Rattle.wl_document.specs.declared.fault.DocFault.TheVariants.{NotJson, Version, Missing, Kind, Id, Selector, NoSelectors, Duplicate, ForeignDomain, Base64, NoOwnBundle, TooMany, TooLong, Memory}
 
--- the first check that fails decides
-infixl 10 ◌>>=◌
-abbrev pub ◌>>=◌ : {A B : Type 0} → Result A DocFault → (A → Result B DocFault) → Result B DocFault
-(Ok x) >>= f = f x
-(Err e) >>= f = Err e
-
 -- it has to be there
 abbrev pub or_fault : {A : Type 0} → DocFault → Option A → Result A DocFault
 or_fault e None = Err e

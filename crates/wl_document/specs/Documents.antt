@@ -5,7 +5,9 @@ use Rattle.std.specs.Str.{bytes_eq, is_utf8}
 use Rattle.serde_json.specs.Data.{Data}
 use Rattle.serde_json.specs.Read.{read}
 use Rattle.wl_entry.specs.declared.bundles.Bundle.{Bundle}
-use Rattle.wl_document.specs.Checks.{◌>>=◌, or_fault}
+use Rattle.list_laws.specs.Results.{◌>>=◌}
+use Rattle.wl_entry.specs.declared.limits.TheConstants.{MAX_ENTRIES, MAX_BUNDLES}
+use Rattle.wl_document.specs.Checks.{or_fault}
 use Rattle.wl_document.specs.Places.{at_top}
 use Rattle.wl_document.specs.Members.{object_at, number_of, domain_of, list_of, list_or_empty}
 use Rattle.wl_document.specs.Bundles.{bundles_of}
@@ -15,7 +17,7 @@ use Rattle.wl_document.specs.Entries.{entries_of}
 use Rattle.wl_document.specs.Svids.{svids_of}
 use Rattle.wl_document.specs.States.{State}
 use Rattle.wl_document.specs.declared.fault.DocFault.{DocFault}
-use Rattle.wl_document.specs.declared.limits.TheConstants.{DOCUMENT_LIMIT}
+use Rattle.wl_document.specs.declared.limits.TheConstants.{DOCUMENT_LIMIT, MAX_SVIDS}
 use Rattle.wl_document.specs.declared.fault.DocFault.TheVariants.{NotJson, Version, ForeignDomain, NoOwnBundle, TooLong}
 
 unfoldable pub version_of : Data → Result ℕ DocFault
@@ -41,12 +43,12 @@ pub record Lists : Type 0 where
   pub entries : List Data
   pub svids : List Data
 
--- at most 1,024 bundles, 10,000 entries and 10,000 signed identities
+-- the three arrays, within their limits
 unfoldable pub lists_of : Data → Result Lists DocFault
 lists_of d = do
-  bundles ← list_of 1024 (at_top 3) (codes "bundles") d
-  entries ← list_of 10000 (at_top 4) (codes "entries") d
-  svids ← list_or_empty 10000 (at_top 5) (codes "svids") d
+  bundles ← list_of MAX_BUNDLES (at_top 3) (codes "bundles") d
+  entries ← list_of MAX_ENTRIES (at_top 4) (codes "entries") d
+  svids ← list_or_empty MAX_SVIDS (at_top 5) (codes "svids") d
   Ok (record { bundles = bundles; entries = entries; svids = svids })
 
 -- the own domain has an X.509 bundle that is not empty

@@ -5,7 +5,10 @@ use Rattle.serde_json.specs.Find.{get}
 use Rattle.wl_selector.specs.Selectors.{selector_fault, sorted_texts}
 use Rattle.wl_entry.specs.declared.entries.Entry.{Entry}
 use Rattle.wl_entry.specs.Keys.{entry_key}
-use Rattle.wl_document.specs.Checks.{◌>>=◌, no_selector_fault}
+use Rattle.list_laws.specs.Results.{◌>>=◌}
+use Rattle.wl_entry.specs.declared.limits.TheConstants.{MAX_SELECTORS, MAX_FEDERATED, MAX_DNS_NAMES, MAX_HINT_LEN}
+use Rattle.wl_document.specs.declared.limits.TheConstants.{MAX_DNS_NAME_LEN, MAX_TTL, DEFAULT_TTL}
+use Rattle.wl_document.specs.Checks.{no_selector_fault}
 use Rattle.wl_document.specs.Places.{at_entry, item_at}
 use Rattle.wl_document.specs.Arrays.{each_from, at_end, was_given, ascending}
 use Rattle.wl_document.specs.Members.{optional, object_at, text_at, number_at, list_of, list_or_empty, domain_at, id_of, name_of, text_or_empty}
@@ -20,10 +23,10 @@ selector_of p k d = text_at (item_at p k) d >>= λ text. no_selector_fault (item
 unfoldable pub selector_list_of : Place → List Data → Result (List (List ℕ)) DocFault
 selector_list_of p ds = each_from (λ k before d. selector_of p k d) at_end 0 [] ds
 
--- 1 to 64 selectors. Repeated ones count once in the set and each in the length.
+-- One selector at least. Repeated ones count once in the set and each in the length.
 unfoldable pub selectors_of : Place → Data → Result (List (List ℕ)) DocFault
 selectors_of p d = do
-  items ← list_of 64 p (codes "selectors") d
+  items ← list_of MAX_SELECTORS p (codes "selectors") d
   if length items == 0 then Err (NoSelectors p) else do
     texts ← selector_list_of p items
     Ok (sorted_texts texts)
@@ -35,38 +38,38 @@ unfoldable pub federates_of : Place → List Data → Result (List (List ℕ)) D
 federates_of p ds = each_from (λ k before d. federated_of p k d) at_end 0 [] ds
 
 unfoldable pub federated_list_of : ℕ → Data → Result (List Data) DocFault
-federated_list_of i d = list_or_empty 64 (at_entry i 4) (codes "federates_with") d
+federated_list_of i d = list_or_empty MAX_FEDERATED (at_entry i 4) (codes "federates_with") d
 
--- at most 64 domain names
+-- domain names, within their limit
 unfoldable pub federates_with_of : ℕ → Data → Result (List (List ℕ)) DocFault
 federates_with_of i d = federated_list_of i d >>= federates_of (at_entry i 4)
 
--- a text of 1 to 253 bytes
+-- a text that is not empty, within its limit
 unfoldable pub dns_name_of : Place → ℕ → Data → Result (List ℕ) DocFault
 dns_name_of p k d = do
   text ← text_at (item_at p k) d
-  if (length text == 0) || nat_lt 253 (length text) then Err (Kind (item_at p k)) else Ok text
+  if (length text == 0) || nat_lt MAX_DNS_NAME_LEN (length text) then Err (Kind (item_at p k)) else Ok text
 
 unfoldable pub dns_names_of : Place → List Data → Result (List (List ℕ)) DocFault
 dns_names_of p ds = each_from (λ k before d. dns_name_of p k d) at_end 0 [] ds
 
--- at most 64 DNS names
+-- DNS names, within their limit
 unfoldable pub dns_names_in : ℕ → Data → Result (List (List ℕ)) DocFault
-dns_names_in i d = list_or_empty 64 (at_entry i 5) (codes "dns_names") d >>= dns_names_of (at_entry i 5)
+dns_names_in i d = list_or_empty MAX_DNS_NAMES (at_entry i 5) (codes "dns_names") d >>= dns_names_of (at_entry i 5)
 
--- a whole number from 1 to 31,536,000
+-- a whole number from 1 to the limit
 unfoldable pub ttl_at : Place → Data → Result ℕ DocFault
 ttl_at p d = do
   n ← number_at p d
-  if (n == 0) || nat_lt 31536000 n then Err (Kind p) else Ok n
+  if (n == 0) || nat_lt MAX_TTL n then Err (Kind p) else Ok n
 
--- an hour, where it is absent
+-- the default, where it is absent
 unfoldable pub ttl_of : Place → Data → Result ℕ DocFault
-ttl_of p d = optional (ttl_at p) 3600 (get (codes "ttl") d)
+ttl_of p d = optional (ttl_at p) DEFAULT_TTL (get (codes "ttl") d)
 
--- In version 2 alone, at most 1,024 bytes; in version 1 the member is an unknown one.
+-- In version 2 alone, within its limit; in version 1 the member is an unknown one.
 unfoldable pub hint_of : ℕ → Place → Data → Result (List ℕ) DocFault
-hint_of version p d = if version == 2 then text_or_empty 1024 p (codes "hint") d else Ok []
+hint_of version p d = if version == 2 then text_or_empty MAX_HINT_LEN p (codes "hint") d else Ok []
 
 -- the fields that have a default
 pub record Extras : Type 0 where

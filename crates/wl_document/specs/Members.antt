@@ -9,7 +9,9 @@ use Rattle.serde_json.specs.Data.{Data}
 use Rattle.serde_json.specs.Find.{get, as_object, as_str, as_number, as_u64, as_array}
 use Rattle.spiffe_id.specs.Grammar.{is_path_byte}
 use Rattle.spiffe_id.specs.Faults.{domain_fault, id_fault, id_domain}
-use Rattle.wl_document.specs.Checks.{◌>>=◌, or_fault, decoded, no_id_fault}
+use Rattle.list_laws.specs.Results.{◌>>=◌}
+use Rattle.wl_entry.specs.declared.limits.TheConstants.{MAX_ID_LEN}
+use Rattle.wl_document.specs.Checks.{or_fault, decoded, no_id_fault}
 use Rattle.wl_document.specs.Arrays.{list_items}
 use Rattle.wl_document.specs.declared.fault.Place.{Place}
 use Rattle.wl_document.specs.declared.fault.DocFault.{DocFault}
@@ -68,9 +70,9 @@ id_of own p name d = do
   found ← no_id_fault p text (id_fault text)
   if bytes_eq (id_domain found) own then Ok found else Err (ForeignDomain p)
 
--- the id of an entry: 1 to 128 bytes of `A-Z a-z 0-9 . _ -`
+-- the id of an entry: 1 to MAX_ID_LEN bytes of `A-Z a-z 0-9 . _ -`
 abbrev pub is_name : List ℕ → Bool
-is_name text = not (length text == 0) && (nat_le (length text) 128 && list_all is_path_byte text)
+is_name text = not (length text == 0) && (nat_le (length text) MAX_ID_LEN && list_all is_path_byte text)
 
 unfoldable pub name_of : Place → List ℕ → Data → Result (List ℕ) DocFault
 name_of p name d = do

@@ -1,7 +1,7 @@
 -- The signed identities of a document (own rules).
 use Rattle.std.specs.Prelude.{ℕ, List, [], codes, Bool, if◌then◌else◌, Result, Ok, Err}
 use Rattle.serde_json.specs.Data.{Data}
-use Rattle.wl_document.specs.Checks.{◌>>=◌}
+use Rattle.list_laws.specs.Results.{◌>>=◌}
 use Rattle.wl_document.specs.Places.{at_svid}
 use Rattle.wl_document.specs.Arrays.{each_from, at_end, was_given, ascending}
 use Rattle.wl_document.specs.Members.{object_at, number_of, name_of, base64_of}

@@ -4,7 +4,7 @@ use Rattle.std.specs.Map.{values_of}
 use Rattle.serde_json.specs.Data.{Data}
 use Rattle.wl_entry.specs.declared.bundles.Bundle.{Bundle}
 use Rattle.wl_entry.specs.declared.entries.Entry.{Entry}
-use Rattle.wl_document.specs.Checks.{◌>>=◌}
+use Rattle.list_laws.specs.Results.{◌>>=◌}
 use Rattle.wl_document.specs.Arrays.{each_from}
 use Rattle.wl_document.specs.Bundles.{bundle_of}
 use Rattle.wl_document.specs.Entries.{entry_of}

@@ -2,6 +2,7 @@
 
 ghost use Rattle.std.specs.Prelude.{◌≡◌, ℕ, ◌≤◌, length, map, IfOk};
 ghost use Rattle.serde_json.specs.View.{view};
+ghost use Rattle.wl_entry.specs.declared.limits.TheConstants.{MAX_BUNDLES};
 ghost use Rattle.wl_document.specs.Checks.{Gives};
 ghost use Rattle.wl_document.specs.Kept.{kept_has};
 ghost use Rattle.wl_document.specs.Bundles.{x509_at, x509_of, bundle_name_of, bundle_domain_of, bundle_of};
@@ -16,17 +17,15 @@ use spiffe_id::TrustDomain;
 use std::alloc::Global;
 use std::collections::BTreeMap;
 use wl_entry::Bundle;
+use wl_entry::limits::MAX_PART_LEN;
 use wl_octets::Octets;
-
-/// How many bytes a part of a bundle has at most.
-const PART_LIMIT: usize = 1_048_576;
 
 /// An X.509 bundle.
 #[tactic(auto, unfolding(crate::specs::Bundles::x509_at))]
 fn x509_at(alloc: Global, place: Place, value: &Value) -> Result<Octets, DocFault>
     ensures { Gives (λ o. o) result (x509_at place (view value.now)) }
 {
-    at_most(PART_LIMIT, place, base64_at(alloc, place, value)?)
+    at_most(MAX_PART_LEN, place, base64_at(alloc, place, value)?)
 }
 
 /// The X.509 bundle of a bundle, empty where it is absent.
@@ -79,13 +78,13 @@ fn bundle(
 {
     let domain = bundle_domain(alloc, index, before, value)?;
     let x509 = x509(alloc, Place::bundle(index, 2), value)?;
-    let jwks = text_or_empty(alloc, PART_LIMIT, Place::bundle(index, 3), "jwks", value)?;
+    let jwks = text_or_empty(alloc, MAX_PART_LEN, Place::bundle(index, 3), "jwks", value)?;
     Ok(Bundle { domain, x509, jwks })
 }
 
 /// The bundles of an array, each at its domain.
 pub(crate) fn bundles(alloc: Global, values: &[Value]) -> Result<BTreeMap<Octets, Bundle>, DocFault>
-    requires { length values.now ≤ 1024 }
+    requires { length values.now ≤ MAX_BUNDLES }
     ensures { Gives (λ m. m.entries) result (kept_bundles (map view values.now)) }
 {
     let mut done = BTreeMap::new(alloc);

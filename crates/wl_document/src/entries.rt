@@ -2,6 +2,7 @@
 
 ghost use Rattle.std.specs.Prelude.{◌≡◌, ℕ, ◌≤◌, length, map, IfOk};
 ghost use Rattle.serde_json.specs.View.{view};
+ghost use Rattle.wl_entry.specs.declared.limits.TheConstants.{MAX_ENTRIES, MAX_FEDERATED};
 ghost use Rattle.wl_document.specs.Checks.{Gives};
 ghost use Rattle.wl_document.specs.Kept.{kept_has};
 ghost use Rattle.wl_document.specs.Entries.{selectors_of, federated_list_of, federates_with_of, dns_names_in, ttl_at, ttl_of, hint_of, extras_of, entry_name_of, entry_of};
@@ -9,6 +10,7 @@ ghost use Rattle.wl_document.specs.Walks.{kept_entries};
 
 use crate::fault::{DocFault, Place};
 use crate::kept::{add, given};
+use crate::limits::{DEFAULT_TTL, MAX_TTL};
 use crate::lists::{dns_names, federates, selectors};
 use crate::members::{list_of, list_or_empty, number_at, object_at};
 use crate::names::{id_of, name_of, text_or_empty};
@@ -17,22 +19,24 @@ use spiffe_id::TrustDomain;
 use std::alloc::Global;
 use std::collections::BTreeMap;
 use wl_entry::Entry;
+use wl_entry::limits::{MAX_DNS_NAMES, MAX_FEDERATED, MAX_HINT_LEN, MAX_SELECTORS};
 use wl_octets::{Octets, Row};
 use wl_selector::{Selectors, SelectorsFault};
-
-/// What a validity time is where it is absent, in seconds.
-const DEFAULT_TTL: u32 = 3_600;
 
 /// The selectors of an entry.
 #[tactic(auto, unfolding(crate::specs::Entries::selectors_of))]
 fn selectors_in(alloc: Global, place: Place, value: &Value) -> Result<Selectors, DocFault>
     ensures { Gives (λ s. s) result (selectors_of place (view value.now)) }
 {
-    let values = list_of(64, place, "selectors", value)?;
+    let values = list_of(MAX_SELECTORS, place, "selectors", value)?;
     if values.is_empty() {
         return Err(DocFault::NoSelectors(place));
     }
-    match Selectors::from_list(alloc, selectors(alloc, place, values)?, 64) {
+    match Selectors::from_list(
+        alloc,
+        selectors(alloc, place, values)?,
+        MAX_SELECTORS as u32,
+    ) {
         Ok(selectors) => Ok(selectors),
         Err(SelectorsFault::TooMany(_)) => unreachable!(),
         Err(SelectorsFault::Memory) => Err(DocFault::Memory),
@@ -43,9 +47,14 @@ fn selectors_in(alloc: Global, place: Place, value: &Value) -> Result<Selectors,
 #[tactic(auto, unfolding(crate::specs::Entries::federated_list_of))]
 fn federated_list(index: u32, value: &Value) -> Result<&[Value], DocFault>
     ensures value { Gives (λ v. map view v.now) result (federated_list_of index (view value.now)) }
-    ensures few { IfOk result (λ v. length v.now ≤ 64) }
+    ensures few { IfOk result (λ v. length v.now ≤ MAX_FEDERATED) }
 {
-    list_or_empty(64, Place::entry(index, 4), "federates_with", value)
+    list_or_empty(
+        MAX_FEDERATED,
+        Place::entry(index, 4),
+        "federates_with",
+        value,
+    )
 }
 
 /// The federated domains of an entry.
@@ -64,7 +73,7 @@ fn dns_names_in(alloc: Global, index: u32, value: &Value) -> Result<Row<Octets>,
     ensures { Gives (λ r. r) result (dns_names_in index (view value.now)) }
 {
     let place = Place::entry(index, 5);
-    let values = list_or_empty(64, place, "dns_names", value)?;
+    let values = list_or_empty(MAX_DNS_NAMES, place, "dns_names", value)?;
     let names = dns_names(alloc, place, values)?;
     Ok(Row::from_vec(names))
 }
@@ -75,7 +84,7 @@ fn ttl_at(place: Place, value: &Value) -> Result<u32, DocFault>
     ensures { Gives (λ n. n) result (ttl_at place (view value.now)) }
 {
     let ttl = number_at(place, value)?;
-    if ttl == 0 || ttl > 31_536_000 {
+    if ttl == 0 || ttl > MAX_TTL {
         return Err(DocFault::Kind(place));
     }
     Ok(ttl as u32)
@@ -98,7 +107,7 @@ fn hint(alloc: Global, version: u64, place: Place, value: &Value) -> Result<Octe
     ensures { Gives (λ o. o) result (hint_of version place (view value.now)) }
 {
     if version == 2 {
-        text_or_empty(alloc, 1_024, place, "hint", value)
+        text_or_empty(alloc, MAX_HINT_LEN, place, "hint", value)
     } else {
         Ok(Octets::empty(alloc))
     }
@@ -116,7 +125,12 @@ pub(crate) struct Extra {
 /// The fields of an entry that have a default.
 #[tactic(auto, unfolding(crate::specs::Entries::extras_of))]
 fn extras(alloc: Global, version: u64, index: u32, value: &Value) -> Result<Extra, DocFault>
-    ensures { Gives (λ x. record { federates_with = x.federates_with; dns_names = x.dns_names; ttl = x.ttl; hint = x.hint }) result (extras_of version index (view value.now)) }
+    ensures { Gives (λ x. record {
+      federates_with = x.federates_with;
+      dns_names = x.dns_names;
+      ttl = x.ttl;
+      hint = x.hint;
+    }) result (extras_of version index (view value.now)) }
 {
     let federates_with = federates_with(alloc, index, value)?;
     let dns_names = dns_names_in(alloc, index, value)?;
@@ -183,7 +197,7 @@ pub(crate) fn entries(
     version: u64,
     values: &[Value],
 ) -> Result<BTreeMap<Octets, Entry>, DocFault>
-    requires { length values.now ≤ 10000 }
+    requires { length values.now ≤ MAX_ENTRIES }
     ensures { Gives (λ m. m.entries) result (kept_entries own.now version (map view values.now)) }
 {
     let mut done = BTreeMap::new(alloc);

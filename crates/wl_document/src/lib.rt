@@ -6,7 +6,6 @@
 #![tactic(auto)]
 
 mod bundles;
-mod copies;
 mod entries;
 mod fault;
 mod kept;

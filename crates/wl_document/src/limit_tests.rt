@@ -311,7 +311,12 @@ fn put_items(text: &mut String, count: u32, front: &str, back: &str) -> Result<(
 /// A document with as many bundles, entries and signed identities as one may have.
 fn largest_document(alloc: Global) -> Result<String, AllocError> {
     let mut text = String::from_str(alloc, r#"{"version":1,"trust_domain":"d0","bundles":["#)?;
-    put_items(&mut text, 1_024, r#"{"trust_domain":"d"#, r#"","x509":"Aw=="}"#)?;
+    put_items(
+        &mut text,
+        1_024,
+        r#"{"trust_domain":"d"#,
+        r#"","x509":"Aw=="}"#,
+    )?;
     text.push_str(r#"],"entries":["#)?;
     put_items(
         &mut text,

@@ -2,10 +2,12 @@
 
 ghost use Rattle.std.specs.Prelude.{◌≡◌, ℕ, ◌≤◌, length, map, IfOk};
 ghost use Rattle.serde_json.specs.View.{view};
+ghost use Rattle.wl_entry.specs.declared.limits.TheConstants.{MAX_SELECTORS, MAX_FEDERATED, MAX_DNS_NAMES};
 ghost use Rattle.wl_document.specs.Checks.{Gives, selector_fault_at, no_selector_fault};
 ghost use Rattle.wl_document.specs.Entries.{selector_of, selector_list_of, federated_of, federates_of, dns_name_of, dns_names_of};
 
 use crate::fault::{DocFault, Place};
+use crate::limits::MAX_DNS_NAME_LEN;
 use crate::members::text_at;
 use crate::names::domain_at;
 use serde_json::Value;
@@ -42,7 +44,7 @@ pub(crate) fn selectors(
     place: Place,
     values: &[Value],
 ) -> Result<Vec<Selector>, DocFault>
-    requires { length values.now ≤ 64 }
+    requires { length values.now ≤ MAX_SELECTORS }
     ensures value { Gives (λ v. v.items) result (selector_list_of place (map view values.now)) }
     ensures few { IfOk result (λ v. length v.items ≤ length values.now) }
 {
@@ -75,7 +77,7 @@ pub(crate) fn federates(
     place: Place,
     values: &[Value],
 ) -> Result<Vec<TrustDomain>, DocFault>
-    requires { length values.now ≤ 64 }
+    requires { length values.now ≤ MAX_FEDERATED }
     ensures { Gives (λ v. v.items) result (federates_of place (map view values.now)) }
 {
     let mut done = Vec::new(alloc);
@@ -95,7 +97,7 @@ fn dns_name(alloc: Global, place: Place, index: u32, value: &Value) -> Result<Oc
 {
     let place = place.item(index);
     let text = text_at(place, value)?.as_bytes();
-    if text.is_empty() || text.len() > 253 {
+    if text.is_empty() || text.len() > MAX_DNS_NAME_LEN {
         return Err(DocFault::Kind(place));
     }
     Ok(Octets::from_slice(alloc, text)?)
@@ -107,7 +109,7 @@ pub(crate) fn dns_names(
     place: Place,
     values: &[Value],
 ) -> Result<Vec<Octets>, DocFault>
-    requires { length values.now ≤ 64 }
+    requires { length values.now ≤ MAX_DNS_NAMES }
     ensures { Gives (λ v. v.items) result (dns_names_of place (map view values.now)) }
 {
     let mut done = Vec::new(alloc);

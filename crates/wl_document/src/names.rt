@@ -16,6 +16,7 @@ use base64::engine::general_purpose::STANDARD;
 use serde_json::Value;
 use spiffe_id::{IdFault, SpiffeId, TrustDomain};
 use std::alloc::Global;
+use wl_entry::limits::MAX_ID_LEN;
 use wl_octets::Octets;
 
 /// The fault of a member whose text has this fault.
@@ -106,7 +107,7 @@ fn are_name_bytes(text: &[u8]) -> bool
 fn is_name(text: &[u8]) -> bool
     ensures { result ≡ is_name text.now }
 {
-    !text.is_empty() && text.len() <= 128 && are_name_bytes(text)
+    !text.is_empty() && text.len() <= MAX_ID_LEN && are_name_bytes(text)
 }
 
 /// The id of an entry, which has to be there.

@@ -4,6 +4,8 @@ ghost use Rattle.std.specs.Prelude.{◌≡◌, ℕ, ◌≤◌, length, map, IfOk
 ghost use Rattle.std.specs.Map.{values_of};
 ghost use Rattle.std.specs.Option.{option_copied};
 ghost use Rattle.serde_json.specs.View.{view};
+ghost use Rattle.wl_entry.specs.declared.limits.TheConstants.{MAX_ENTRIES, MAX_BUNDLES};
+ghost use Rattle.wl_document.specs.declared.limits.TheConstants.{MAX_SVIDS};
 ghost use Rattle.wl_document.specs.Checks.{Gives, or_fault};
 ghost use Rattle.wl_entry.specs.Limits.{EntryWithin, BundleWithin};
 ghost use Rattle.wl_document.specs.Kept.{kept_at, KeptWithin};
@@ -46,7 +48,7 @@ fn own_bundles(
     own: &TrustDomain,
     values: &[Value],
 ) -> Result<BTreeMap<Octets, Bundle>, DocFault>
-    requires { length values.now ≤ 1024 }
+    requires { length values.now ≤ MAX_BUNDLES }
     ensures { Gives (λ m. m.entries) result (kept_own_bundles own.now (map view values.now)) }
 {
     let bundles = bundles(alloc, values)?;
@@ -76,7 +78,7 @@ fn value(alloc: Global, document: &[u8]) -> Result<Value, DocFault>
 
 /// The state that a value's members name, by way of the maps.
 #[tactic(auto, unfolding(crate::specs::Walks::kept_state))]
-fn walked(
+fn state_inner(
     alloc: Global,
     own: Option<&TrustDomain>,
     value: &Value,
@@ -84,10 +86,10 @@ fn walked(
     ensures { Gives (λ s. s) result (kept_state (option_copied own.entry) (view value.now)) }
 {
     let head = head_of(alloc, own, value)?;
-    let bundles = own_bundles(alloc, &head.domain, head.bundles)?;
-    let entries = entries(alloc, &head.domain, head.version, head.entries)?;
-    let svids = svids(alloc, head.svids)?;
-    gathered(alloc, head.domain, bundles, entries, svids)
+    let bundles = own_bundles(alloc, &head.domain, head.arrays.bundles)?;
+    let entries = entries(alloc, &head.domain, head.version, head.arrays.entries)?;
+    let svids = svids(alloc, head.arrays.svids)?;
+    state_from(alloc, head.domain, bundles, entries, svids)
 }
 
 /// The state that a value's members name.
@@ -98,21 +100,26 @@ fn state(
 ) -> Result<AuthorityState, DocFault>
     ensures { Gives (λ s. s) result (state_of (option_copied own.entry) (view value.now)) }
 {
-    walked(alloc, own, value)
+    state_inner(alloc, own, value)
 }
 
 /// The state of these.
-fn gathered(
+fn state_from(
     alloc: Global,
     domain: TrustDomain,
     bundles: BTreeMap<Octets, Bundle>,
     entries: BTreeMap<Octets, Entry>,
     svids: BTreeMap<Octets, DocSvid>,
 ) -> Result<AuthorityState, DocFault>
-    requires bundles { KeptWithin bundle_key BundleWithin 1024 bundles.entries }
-    requires entries { KeptWithin entry_key EntryWithin 10000 entries.entries }
-    requires svids { KeptWithin doc_svid_key SvidWithin 10000 svids.entries }
-    ensures ok { IfOk result (λ s. s ≡ record { domain = domain; bundles = values_of bundles.entries; entries = values_of entries.entries; svids = values_of svids.entries }) }
+    requires bundles { KeptWithin bundle_key BundleWithin MAX_BUNDLES bundles.entries }
+    requires entries { KeptWithin entry_key EntryWithin MAX_ENTRIES entries.entries }
+    requires svids { KeptWithin doc_svid_key SvidWithin MAX_SVIDS svids.entries }
+    ensures ok { IfOk result (λ s. s ≡ record {
+      domain = domain;
+      bundles = values_of bundles.entries;
+      entries = values_of entries.entries;
+      svids = values_of svids.entries;
+    }) }
     ensures err { IfErr result (λ e. e ≡ Memory) }
 {
     let bundles = values(alloc, bundles)?;

@@ -2,12 +2,11 @@
 
 ghost use Rattle.std.specs.Prelude.{◌≡◌, IfOk};
 
-use crate::copies::{copy_bundles, copy_domain, copy_entries, copy_svids};
 use spiffe_id::TrustDomain;
 use std::alloc::Global;
 use std::marker::Model;
 use wl_entry::{Bundle, Entry, Signed};
-use wl_octets::{Memory, Octets, Row};
+use wl_octets::{Memory, Octets, Row, TryClone, clone_all};
 
 /// A signed identity that a document gives: that of the entry with this id.
 #[derive(PartialEq, Drop)]
@@ -17,7 +16,7 @@ pub struct DocSvid {
 }
 
 impl DocSvid {
-    /// The same signed identity once more.
+    /// A copy of the signed identity.
     pub fn copy(&self, alloc: Global) -> Result<DocSvid, Memory>
         ensures { IfOk result (λ s. s ≡ self.now) }
     {
@@ -25,6 +24,12 @@ impl DocSvid {
             entry_id: self.entry_id.copy(alloc)?,
             signed: self.signed.copy(alloc)?,
         })
+    }
+}
+
+impl TryClone for DocSvid {
+    fn try_clone(&self, alloc: Global) -> Result<DocSvid, Memory> {
+        self.copy(alloc)
     }
 }
 
@@ -49,14 +54,14 @@ impl Model for AuthorityState {
 }
 
 impl AuthorityState {
-    /// The same state once more.
+    /// A copy of the state.
     pub fn copy(&self, alloc: Global) -> Result<AuthorityState, Memory>
         ensures { IfOk result (λ s. s ≡ self.now) }
     {
-        let domain = copy_domain(alloc, &self.domain)?;
-        let bundles = copy_bundles(alloc, self.bundles.as_slice())?;
-        let entries = copy_entries(alloc, self.entries.as_slice())?;
-        let svids = copy_svids(alloc, self.svids.as_slice())?;
+        let domain = self.domain.copy(alloc)?;
+        let bundles = clone_all(alloc, self.bundles.as_slice())?;
+        let entries = clone_all(alloc, self.entries.as_slice())?;
+        let svids = clone_all(alloc, self.svids.as_slice())?;
         Ok(AuthorityState {
             domain,
             bundles,

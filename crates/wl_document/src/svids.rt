@@ -2,6 +2,7 @@
 
 ghost use Rattle.std.specs.Prelude.{◌≡◌, ℕ, ◌≤◌, length, map, IfOk};
 ghost use Rattle.serde_json.specs.View.{view};
+ghost use Rattle.wl_document.specs.declared.limits.TheConstants.{MAX_SVIDS};
 ghost use Rattle.wl_document.specs.Checks.{Gives};
 ghost use Rattle.wl_document.specs.Kept.{kept_has};
 ghost use Rattle.wl_document.specs.Svids.{svid_name_of, svid_of};
@@ -63,7 +64,7 @@ fn svid(
 
 /// The signed identities of an array, each at the id of its entry.
 pub(crate) fn svids(alloc: Global, values: &[Value]) -> Result<BTreeMap<Octets, DocSvid>, DocFault>
-    requires { length values.now ≤ 10000 }
+    requires { length values.now ≤ MAX_SVIDS }
     ensures { Gives (λ m. m.entries) result (kept_svids (map view values.now)) }
 {
     let mut done = BTreeMap::new(alloc);

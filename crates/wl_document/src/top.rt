@@ -3,15 +3,19 @@
 ghost use Rattle.std.specs.Prelude.{◌≡◌, ℕ, ◌≤◌, Option, length, map, IfOk};
 ghost use Rattle.std.specs.Option.{option_copied};
 ghost use Rattle.serde_json.specs.View.{view};
+ghost use Rattle.wl_entry.specs.declared.limits.TheConstants.{MAX_ENTRIES, MAX_BUNDLES};
+ghost use Rattle.wl_document.specs.declared.limits.TheConstants.{MAX_SVIDS};
 ghost use Rattle.wl_document.specs.Checks.{Gives};
 ghost use Rattle.wl_document.specs.Documents.{version_of, is_own, top_domain_of, own_domain_of, lists_of, top_of};
 
 use crate::fault::{DocFault, Place};
+use crate::limits::MAX_SVIDS;
 use crate::members::{list_of, list_or_empty, number_of, object_at};
 use crate::names::{domain_of, same_bytes};
 use serde_json::Value;
 use spiffe_id::TrustDomain;
 use std::alloc::Global;
+use wl_entry::limits::{MAX_BUNDLES, MAX_ENTRIES};
 
 /// The version of the document, 1 or 2.
 #[tactic(auto, unfolding(crate::specs::Documents::version_of))]
@@ -72,12 +76,18 @@ pub(crate) struct Arrays<'a> {
 /// The arrays of a document.
 #[tactic(auto, unfolding(crate::specs::Documents::lists_of))]
 fn arrays_of(value: &Value) -> Result<Arrays, DocFault>
-    ensures value { Gives (λ a. record { bundles = map view a.bundles.now; entries = map view a.entries.now; svids = map view a.svids.now }) result (lists_of (view value.now)) }
-    ensures few { IfOk result (λ a. (length a.bundles.now ≤ 1024) × (length a.entries.now ≤ 10000) × (length a.svids.now ≤ 10000)) }
+    ensures value { Gives (λ a. record {
+      bundles = map view a.bundles.now;
+      entries = map view a.entries.now;
+      svids = map view a.svids.now;
+    }) result (lists_of (view value.now)) }
+    ensures bundles { IfOk result (λ a. length a.bundles.now ≤ MAX_BUNDLES) }
+    ensures entries { IfOk result (λ a. length a.entries.now ≤ MAX_ENTRIES) }
+    ensures svids { IfOk result (λ a. length a.svids.now ≤ MAX_SVIDS) }
 {
-    let bundles = list_of(1_024, Place::top(3), "bundles", value)?;
-    let entries = list_of(10_000, Place::top(4), "entries", value)?;
-    let svids = list_or_empty(10_000, Place::top(5), "svids", value)?;
+    let bundles = list_of(MAX_BUNDLES, Place::top(3), "bundles", value)?;
+    let entries = list_of(MAX_ENTRIES, Place::top(4), "entries", value)?;
+    let svids = list_or_empty(MAX_SVIDS, Place::top(5), "svids", value)?;
     Ok(Arrays {
         bundles,
         entries,
@@ -90,9 +100,7 @@ fn arrays_of(value: &Value) -> Result<Arrays, DocFault>
 pub(crate) struct Head<'a> {
     pub version: u64,
     pub domain: TrustDomain,
-    pub bundles: &'a [Value],
-    pub entries: &'a [Value],
-    pub svids: &'a [Value],
+    pub arrays: Arrays<'a>,
 }
 
 /// The members of the top.
@@ -102,8 +110,16 @@ pub(crate) fn head_of<'a>(
     own: Option<&TrustDomain>,
     value: &'a Value,
 ) -> Result<Head<'a>, DocFault>
-    ensures value { Gives (λ a. record { version = a.version; domain = a.domain; bundles = map view a.bundles.now; entries = map view a.entries.now; svids = map view a.svids.now }) result (top_of (option_copied own.entry) (view value.now)) }
-    ensures few { IfOk result (λ a. (length a.bundles.now ≤ 1024) × (length a.entries.now ≤ 10000) × (length a.svids.now ≤ 10000)) }
+    ensures value { Gives (λ h. record {
+      version = h.version;
+      domain = h.domain;
+      bundles = map view h.arrays.bundles.now;
+      entries = map view h.arrays.entries.now;
+      svids = map view h.arrays.svids.now;
+    }) result (top_of (option_copied own.entry) (view value.now)) }
+    ensures bundles { IfOk result (λ h. length h.arrays.bundles.now ≤ MAX_BUNDLES) }
+    ensures entries { IfOk result (λ h. length h.arrays.entries.now ≤ MAX_ENTRIES) }
+    ensures svids { IfOk result (λ h. length h.arrays.svids.now ≤ MAX_SVIDS) }
 {
     object_at(Place::top(0), value)?;
     let version = version(value)?;
@@ -112,8 +128,6 @@ pub(crate) fn head_of<'a>(
     Ok(Head {
         version,
         domain,
-        bundles: arrays.bundles,
-        entries: arrays.entries,
-        svids: arrays.svids,
+        arrays,
     })
 }

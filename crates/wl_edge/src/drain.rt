@@ -34,7 +34,8 @@ fn buffer(alloc: Global) -> Result<Vec<u8>, ReadFault>
 /// Reads once and puts what came behind what was read before. False at the end of the source.
 fn read_on<I: Source>(input: &mut I, room: &mut [u8], done: &mut Vec<u8>) -> Result<bool, ReadFault>
     requires { 0 < length room.old }
-    ensures step { IfOk result (λ more. StepGives (I.left input.old) (I.left input.new) done.old.items done.new.items (length room.old) more) }
+    ensures step { IfOk result (λ more. StepGives (I.left input.old) (I.left input.new)
+        done.old.items done.new.items (length room.old) more) }
     ensures failed { IsErrOf result ReadFault.Failed → Rose (I.faults input.old) (I.faults input.new) }
     ensures later { I.faults input.old ≤ I.faults input.new }
 {

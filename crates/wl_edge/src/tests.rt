@@ -3,10 +3,9 @@ use crate::{
     write_all,
 };
 use std::alloc::{AllocGlobal, Global};
-use std::fs;
-use std::io;
 use std::io::{Read, Write};
 use std::test::Fail;
+use std::{fs, io};
 use wl_octets::{Memory, Octets, Row};
 
 /// The list of one number.

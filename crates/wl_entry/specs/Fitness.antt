@@ -1,5 +1,6 @@
 -- Whether signed identities and tokens are fit, due and fresh (own rules after the SPIRE agent).
 use Rattle.std.specs.Prelude.{ℕ, ◌+◌, ◌*◌, ◌==◌, ◌&&◌, ◌||◌, Bool, not, nat_lt, nat_le, if◌then◌else◌, length, position, Option, Some, None}
+use Rattle.wl_entry.specs.declared.limits.TheConstants.{MAX_SIGNED_LEN}
 use Rattle.wl_entry.specs.declared.signing.Signed.{Signed}
 use Rattle.wl_entry.specs.declared.tokens.JwtToken.{JwtToken}
 use Rattle.wl_entry.specs.declared.unfit.Unfit.{Unfit}
@@ -14,7 +15,7 @@ signed_unfit now s =
     else if nat_le s.not_after now then Some unfit.Expired
     else if length s.chain == 0 then Some unfit.EmptyChain
     else if length s.key == 0 then Some unfit.EmptyKey
-    else if nat_lt 65536 (length s.chain + length s.key) then Some (unfit.TooLong (length s.chain + length s.key))
+    else if nat_lt MAX_SIGNED_LEN (length s.chain + length s.key) then Some (unfit.TooLong (length s.chain + length s.key))
     else None
 
 -- Half of its time is over: 2 * (now - not_before) >= not_after - not_before in whole numbers, here with

@@ -4,7 +4,7 @@ ghost use Rattle.std.specs.Prelude.{◌≡◌, IfOk};
 
 use spiffe_id::TrustDomain;
 use std::alloc::Global;
-use wl_octets::{Memory, Octets};
+use wl_octets::{Memory, Octets, TryClone};
 
 /// What a trust domain is verified by. An empty part is absent.
 #[derive(PartialEq, Drop)]
@@ -26,5 +26,11 @@ impl Bundle {
             x509: self.x509.copy(alloc)?,
             jwks: self.jwks.copy(alloc)?,
         })
+    }
+}
+
+impl TryClone for Bundle {
+    fn try_clone(&self, alloc: Global) -> Result<Bundle, Memory> {
+        self.copy(alloc)
     }
 }

@@ -6,7 +6,7 @@ ghost use Rattle.wl_entry.specs.Asks.{ask_of, is_ask_of};
 use crate::asks::Ask;
 use spiffe_id::{SpiffeId, TrustDomain};
 use std::alloc::Global;
-use wl_octets::{Memory, Octets, Row, clone_all};
+use wl_octets::{Memory, Octets, Row, TryClone, clone_all};
 use wl_selector::Selectors;
 
 /// A registration entry: the identity of the workloads that have all its selectors.
@@ -60,5 +60,11 @@ impl Entry {
             ttl: self.ttl,
             hint: self.hint.copy(alloc)?,
         })
+    }
+}
+
+impl TryClone for Entry {
+    fn try_clone(&self, alloc: Global) -> Result<Entry, Memory> {
+        self.copy(alloc)
     }
 }

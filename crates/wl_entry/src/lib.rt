@@ -10,6 +10,7 @@ mod bundles;
 mod entries;
 mod keys;
 mod laws;
+pub mod limits;
 mod signing;
 #[cfg(test)]
 mod tests;

@@ -4,12 +4,10 @@ ghost use Rattle.std.specs.Prelude.{◌≡◌, IfOk};
 ghost use Rattle.wl_entry.specs.Fitness.{signed_unfit, is_half_over};
 
 use crate::asks::Ask;
+use crate::limits::MAX_SIGNED_LEN;
 use crate::unfit::Unfit;
 use std::alloc::Global;
 use wl_octets::{Memory, Octets};
-
-/// The most bytes of a chain and its key together.
-const SIGNED_LIMIT: usize = 65536;
 
 /// A signed identity, from its first second on. Times are Unix seconds.
 #[derive(PartialEq, Drop)]
@@ -41,7 +39,7 @@ impl Signed {
             return Some(Unfit::EmptyKey);
         }
         let size = self.chain.len() + self.key.len();
-        if size > SIGNED_LIMIT {
+        if size > MAX_SIGNED_LEN {
             return Some(Unfit::TooLong(size));
         }
         None

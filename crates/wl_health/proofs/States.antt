@@ -1,6 +1,5 @@
 -- The encoding of a state takes two bytes.
 use Rattle.std.proofs.Common.{◌≡◌, ℕ, ◌<◌, length, refl, arith}
-use Rattle.pb_wire.specs.Varint.{varint}
 use Rattle.pb_wire.proofs.Varints.{varint-small}
 use Rattle.wl_health.specs.Messages.{spell_state}
 

@@ -15,7 +15,7 @@ use wl_octets::Octets;
 fn take_field<'a>(bytes: &'a [u8], field: &Field, before: &'a [u8]) -> Result<&'a [u8], HealthFault>
     ensures { MatchResult result
         (λ service. (field_fault is_service_field bytes.now field.now ≡ None)
-            × (service.now ≡ last_of before.now (text_in 1 bytes.now field.now)))
+        × (service.now ≡ last_of before.now (text_in 1 bytes.now field.now)))
         (λ e. field_fault is_service_field bytes.now field.now ≡ Some e) }
 {
     if field.number != 1 {

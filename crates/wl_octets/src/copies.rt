@@ -47,10 +47,7 @@ pub fn clone_all<T: TryClone + Drop>(alloc: Global, items: &[T]) -> Result<Row<T
 }
 
 /// The same parts in their order, each with one owner more.
-pub fn share_all<T: Drop>(
-    alloc: Global,
-    parts: &[Shared<T>],
-) -> Result<Row<Shared<T>>, Memory>
+pub fn share_all<T: Drop>(alloc: Global, parts: &[Shared<T>]) -> Result<Row<Shared<T>>, Memory>
     ensures { IfOk result (λ shares. shares ≡ parts.now) }
 {
     clone_all(alloc, parts)

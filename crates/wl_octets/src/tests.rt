@@ -1,4 +1,4 @@
-use crate::{Header, Memory, Octets, Row, Shared};
+use crate::{Header, Memory, Octets, Row, Shared, TryClone, clone_all, share_all};
 use std::alloc::AllocGlobal;
 use std::cmp::Ordering;
 use std::test::Fail;
@@ -57,5 +57,8 @@ fn shared_parts(rt: HostRuntime) -> Result<(), Fail> {
         Err((_, Memory)) => return Err(Fail::from("no memory")),
     }
     assert!(rt; row == row);
+    assert!(rt; share_all(alloc, row.as_slice())? == row);
+    let names = [header.name.try_clone(alloc)?, header.value];
+    assert!(rt; clone_all(alloc, &names)?.as_slice() == names.as_slice());
     Ok(())
 }

@@ -11,7 +11,7 @@ use Rattle.wl_selector.specs.declared.faults.SelectorFault.TheVariants.{NoColon,
 
 -- ---- one selector
 
--- the kind is what stands before the first colon, and the value what stands behind it
+-- the kind is what stands before the first colon, and the value what is after it
 abbrev pub parts_fault : ℕ → Option ℕ → Option SelectorFault
 parts_fault n None = Some NoColon
 parts_fault n (Some at) = if at == 0 then Some EmptyKind else if at + 1 == n then Some EmptyValue else None
@@ -20,7 +20,7 @@ parts_fault n (Some at) = if at == 0 then Some EmptyKind else if at + 1 == n the
 unfoldable pub selector_fault : List ℕ → Option SelectorFault
 selector_fault text = if not (is_utf8 text) then Some NotUtf8 else parts_fault (length text) (position (λ b. b == 58) text)
 
--- What reading a text answers: the text, where it has no fault; else its first fault. Want of memory yields nothing.
+-- What reading a text answers: the text, where it has no fault; else its first fault. Running out of memory yields nothing.
 abbrev pub Reads : List ℕ → Option SelectorFault → Result (List ℕ) SelectorFault → Type 0
 Reads text fault (Ok value) = (value ≡ text) × (fault ≡ None)
 Reads text fault (Err Memory) = Unit {0}

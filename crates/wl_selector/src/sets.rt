@@ -56,7 +56,8 @@ impl Selectors {
         ensures short { IfOk result (λ s. length s ≤ length items.items) }
         ensures ascending { IfOk result IsAscending }
         ensures members { IfOk result (λ s. (text : List ℕ) → has_text s text ≡ has_text items.items text) }
-        ensures many { (n : ℕ) → IsErrOf result (SelectorsFault.TooMany n) → (n ≡ length items.items) × (limit < n) }
+        ensures many { (n : ℕ) → IsErrOf result (SelectorsFault.TooMany n) → (n ≡ length items.items)
+            × (limit < n) }
     {
         let count = items.len();
         if count > limit as usize {

@@ -1,13 +1,15 @@
 -- What the streaming calls of the Workload API are answered on a view (SPIFFE Workload API; own rules).
-use Rattle.std.specs.Prelude.{ℕ, ◌<◌, ◌≤◌, ◌==◌, Bool, true, false, not, nat_lt, if◌then◌else◌, List, [], ◌∷◌, ◌++◌, length, filter, map, codes, Option, Some, None}
+use Rattle.std.specs.Prelude.{ℕ, ◌+◌, ◌<◌, ◌≤◌, ◌==◌, Bool, true, false, not, nat_lt, if◌then◌else◌, List, [], ◌∷◌, ◌++◌, length, filter, map, codes, Option, Some, None}
 use Rattle.std.specs.Str.{bytes_eq}
 use Rattle.std.specs.List.{flat_map}
+use Rattle.grpc_wire.specs.declared.prefix.TheConstants.{PREFIX_LEN}
 use Rattle.grpc_wire.specs.Messages.{framed}
 use Rattle.workload_proto.specs.declared.message.X509Response.{X509Response}
 use Rattle.workload_proto.specs.declared.message.X509Item.{X509Item}
 use Rattle.workload_proto.specs.declared.message.MapItem.{MapItem}
 use Rattle.workload_proto.specs.declared.message.BundlesResponse.{BundlesResponse}
 use Rattle.workload_proto.specs.declared.message.JwtBundlesResponse.{JwtBundlesResponse}
+use Rattle.workload_proto.specs.declared.limits.TheConstants.{MAX_RESPONSE_LEN}
 use Rattle.workload_proto.specs.Spelling.{spell_x509, spell_bundles, spell_jwt_bundles, capped}
 use Rattle.sorted_lists.specs.Keys.{item_at}
 use Rattle.wl_entry.specs.Asks.{ask_of}
@@ -65,7 +67,7 @@ bundles_message v = record { bundles = flat_map x509_map_item v.bundles }
 unfoldable pub jwt_bundles_message : Sight → JwtBundlesResponse
 jwt_bundles_message v = record { bundles = flat_map jwks_map_item v.bundles }
 
--- a method's message in its spelling
+-- a method's message in its encoding
 unfoldable pub message_of : Method3 → Sight → List ℕ
 message_of X509Svid v = spell_x509 (x509_message v)
 message_of X509Bundles v = spell_bundles (bundles_message v)
@@ -79,9 +81,9 @@ waits X509Svid v = not (is_whole v)
 waits X509Bundles v = false
 waits JwtBundles v = false
 
--- a message of at most 4,194,304 bytes
+-- a message within its limit
 abbrev pub within_limit : List ℕ → Answer
-within_limit m = if nat_lt 4194304 (capped (length m)) then TooLong (capped (length m)) else Message m
+within_limit m = if nat_lt MAX_RESPONSE_LEN (capped (length m)) then TooLong (capped (length m)) else Message m
 
 -- the first that applies: nothing is seen; it waits; its message is too long; its message
 unfoldable pub answer_of : Method3 → Sight → Answer
@@ -91,8 +93,8 @@ answer_of method v = if length v.held == 0 then Denied else if waits method v th
 abbrev pub IsShort : Answer → Type 0
 IsShort Denied = Unit {0}
 IsShort Wait = Unit {0}
-IsShort (TooLong n) = 4194304 < n
-IsShort (Message m) = length m ≤ 4194304
+IsShort (TooLong n) = MAX_RESPONSE_LEN < n
+IsShort (Message m) = length m ≤ MAX_RESPONSE_LEN
 
 -- the same answer, with a message after its gRPC prefix
 abbrev pub with_prefix : Answer → Answer
@@ -101,12 +103,12 @@ with_prefix Wait = Wait
 with_prefix (TooLong n) = TooLong n
 with_prefix (Message m) = Message (framed m)
 
--- a message after its prefix of five bytes is within its limit
+-- a message after its prefix is within its limit
 abbrev pub IsFramed : Answer → Type 0
 IsFramed Denied = Unit {0}
 IsFramed Wait = Unit {0}
-IsFramed (TooLong n) = 4194304 < n
-IsFramed (Message m) = (5 ≤ length m) × (length m ≤ 4194309)
+IsFramed (TooLong n) = MAX_RESPONSE_LEN < n
+IsFramed (Message m) = (PREFIX_LEN ≤ length m) × (length m ≤ PREFIX_LEN + MAX_RESPONSE_LEN)
 
 -- ---- the tokens that a FetchJWTSVID call asks for
 

@@ -6,6 +6,7 @@ use Rattle.sorted_lists.specs.Keys.{item_at}
 use Rattle.wl_entry.specs.Asks.{is_ask_of}
 use Rattle.wl_entry.specs.Keys.{entry_key, svid_key, bundle_key}
 use Rattle.wl_entry.specs.Limits.{EntryWithin, BundleWithin, SignedWithin}
+use Rattle.wl_entry.specs.declared.limits.TheConstants.{MAX_ENTRIES, MAX_BUNDLES}
 use Rattle.wl_entry.specs.declared.entries.Entry.{Entry}
 use Rattle.wl_entry.specs.declared.signing.Svid.{Svid}
 use Rattle.wl_entry.specs.declared.bundles.Bundle.{Bundle}
@@ -26,14 +27,14 @@ abbrev pub SvidWithin : Svid → Type 0
 SvidWithin s = SignedWithin s.signed
 
 -- Entries and SVIDs rise by entry id and bundles by domain, so that there is at most one of each; each SVID's ask is
--- the ask of an entry; nothing is past its limit.
+-- the ask of an entry; counts and lengths are within the limits of entries, bundles and signed identities.
 pub record IsPublication (p : Publication) : Type 0 where
   pub entries : Rises (map entry_key p.entries)
   pub svids : Rises (map svid_key p.svids)
   pub bundles : Rises (map bundle_key p.bundles)
   pub asked : AllByRecursion (IsAsked p.entries) p.svids
-  pub few_entries : length p.entries ≤ 10000
-  pub few_bundles : length p.bundles ≤ 1024
+  pub few_entries : length p.entries ≤ MAX_ENTRIES
+  pub few_bundles : length p.bundles ≤ MAX_BUNDLES
   pub entries_within : AllByRecursion EntryWithin p.entries
   pub svids_within : AllByRecursion SvidWithin p.svids
   pub bundles_within : AllByRecursion BundleWithin p.bundles

@@ -8,6 +8,7 @@ use Rattle.wl_entry.specs.Asks.{is_ask_of}
 use Rattle.wl_entry.specs.Entitled.{is_entitled}
 use Rattle.wl_entry.specs.Keys.{entry_key, svid_key, bundle_key}
 use Rattle.wl_entry.specs.Limits.{EntryWithin, BundleWithin, SignedWithin}
+use Rattle.wl_entry.specs.declared.limits.TheConstants.{MAX_ENTRIES, MAX_BUNDLES}
 use Rattle.wl_entry.specs.declared.entries.Entry.{Entry}
 use Rattle.wl_entry.specs.declared.signing.Svid.{Svid}
 use Rattle.wl_entry.specs.declared.bundles.Bundle.{Bundle}
@@ -68,8 +69,8 @@ pub record IsSight (v : Sight) : Type 0 where
   pub held : Rises (map held_key v.held)
   pub bundles : Rises (map bundle_key v.bundles)
   pub asked : AllByRecursion IsAskedFor v.held
-  pub few_held : length v.held ≤ 10000
-  pub few_bundles : length v.bundles ≤ 1024
+  pub few_held : length v.held ≤ MAX_ENTRIES
+  pub few_bundles : length v.bundles ≤ MAX_BUNDLES
   pub held_within : AllByRecursion HeldWithin v.held
   pub bundles_within : AllByRecursion BundleWithin v.bundles
 
@@ -78,4 +79,4 @@ pub record ChosenFrom (p : Publication) (entries : List Entry) : Type 0 where
   pub rises : Rises (map entry_key entries)
   pub found : AllByRecursion (λ e. item_at entry_key p.entries e.id ≡ Some e) entries
   pub within : AllByRecursion EntryWithin entries
-  pub few : length entries ≤ 10000
+  pub few : length entries ≤ MAX_ENTRIES

@@ -1,7 +1,9 @@
 //! Answering the streaming calls.
 
 ghost use Rattle.std.specs.Prelude.{◌≡◌, ◌≤◌, ◌+◌, length, IfOk, IfErr};
+ghost use Rattle.grpc_wire.specs.declared.prefix.TheConstants.{PREFIX_LEN};
 ghost use Rattle.grpc_wire.specs.Messages.{framed};
+ghost use Rattle.workload_proto.specs.declared.limits.TheConstants.{MAX_RESPONSE_LEN};
 ghost use Rattle.workload_proto.specs.Spelling.{capped};
 ghost use Rattle.wl_snapshot.specs.Answers.{answer_of, with_prefix, message_of, waits, IsShort, IsFramed};
 ghost use Rattle.wl_snapshot.specs.declared.answers.Answer.TheVariants as answers;
@@ -10,15 +12,10 @@ use crate::answers::{Answer, Method3};
 use crate::messages::put_message;
 use crate::sizes::size_of;
 use crate::views::View;
-use grpc_wire::message_prefix;
+use grpc_wire::{PREFIX_LEN, message_prefix};
 use std::alloc::Global;
 use wl_octets::{Memory, Octets};
-
-/// How many bytes a response message has at most.
-const LIMIT: u64 = 4_194_304;
-
-/// How many bytes a gRPC message has before its own.
-const PREFIX_LEN: usize = 5;
+use workload_proto::MAX_RESPONSE_LEN;
 
 /// Whether the call waits for SVIDs.
 fn must_wait(method: Method3, view: &View) -> bool
@@ -35,7 +32,7 @@ fn must_wait(method: Method3, view: &View) -> bool
 fn message_size(method: Method3, view: &View) -> Result<u64, Answer>
     ensures message { IfOk result (λ size. answer_of method view.now ≡ answers.Message (message_of method view.now)) }
     ensures size { IfOk result (λ size. size ≡ length (message_of method view.now)) }
-    ensures within { IfOk result (λ size. size ≤ 4_194_304) }
+    ensures within { IfOk result (λ size. size ≤ MAX_RESPONSE_LEN) }
     ensures other { IfErr result (λ a. a ≡ answer_of method view.now) }
     ensures short { IfErr result IsShort }
     ensures framed { IfErr result IsFramed }
@@ -48,7 +45,7 @@ fn message_size(method: Method3, view: &View) -> Result<u64, Answer>
         return Err(Answer::Wait);
     }
     let size = size_of(method, view);
-    if size > LIMIT {
+    if size > u64::from(MAX_RESPONSE_LEN) {
         return Err(Answer::TooLong(size));
     }
     Ok(size)
@@ -56,7 +53,7 @@ fn message_size(method: Method3, view: &View) -> Result<u64, Answer>
 
 /// A method's message in its encoding, which has this size.
 fn message(alloc: Global, method: Method3, view: &View, size: u64) -> Result<Octets, Memory>
-    requires { length (message_of method view.now) ≤ 4_194_304 }
+    requires { length (message_of method view.now) ≤ MAX_RESPONSE_LEN }
     ensures { IfOk result (λ o. o ≡ message_of method view.now) }
 {
     let mut out = Vec::with_capacity(alloc, size as usize)?;
@@ -68,9 +65,9 @@ fn message(alloc: Global, method: Method3, view: &View, size: u64) -> Result<Oct
 #[tactic(auto, unfolding(grpc_wire::specs::Messages::framed))]
 fn framed_message(alloc: Global, method: Method3, view: &View, size: u64) -> Result<Octets, Memory>
     requires size { size ≡ length (message_of method view.now) }
-    requires within { size ≤ 4_194_304 }
+    requires within { size ≤ MAX_RESPONSE_LEN }
     ensures value { IfOk result (λ o. o ≡ framed (message_of method view.now)) }
-    ensures size { IfOk result (λ o. length o ≡ 5 + size) }
+    ensures size { IfOk result (λ o. length o ≡ PREFIX_LEN + size) }
 {
     let mut out = Vec::with_capacity(alloc, PREFIX_LEN + size as usize)?;
     out.extend_from_slice(&message_prefix(size as u32))?;

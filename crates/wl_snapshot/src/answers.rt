@@ -19,6 +19,6 @@ pub enum Answer {
     Wait,
     /// The message has so many bytes, above 4,194,304.
     TooLong(u64),
-    /// The message in its spelling, without the gRPC prefix.
+    /// The message in its encoding, without the gRPC prefix.
     Message(Octets),
 }

@@ -10,12 +10,12 @@ ghost use Rattle.wl_entry.specs.Entitled.{is_entitled};
 ghost use Rattle.wl_entry.specs.Keys.{entry_key, svid_key, bundle_key};
 ghost use Rattle.wl_snapshot.specs.Views.{view_in, sight_of, entries_at, held_of, is_federated, is_seen, ChosenFrom};
 
-use crate::views::{Held, View};
 use crate::snapshot::Snapshot;
+use crate::views::{Held, View};
+use sorted_lists::{find_by_key, mark_key};
 use spiffe_id::TrustDomain;
 use std::alloc::Global;
 use wl_entry::{Bundle, Entry, Svid};
-use sorted_lists::{find_by_key, mark_key};
 use wl_octets::{Memory, Row, Shared};
 use wl_selector::Selectors;
 
@@ -92,7 +92,8 @@ fn mark_domains(bundles: &[Shared<Bundle>], domains: &[TrustDomain], marks: &mut
     requires rising { Rises (map bundle_key bundles.now) }
     requires each { length marks.old ≡ length bundles.now }
     ensures each { length marks.new ≡ length bundles.now }
-    ensures marked { (before : Bundle → Bool) → marks.old ≡ map before bundles.now → marks.new ≡ map (λ b. before b || list_any (λ other. bytes_eq other b.domain) domains.now) bundles.now }
+    ensures marked { (before : Bundle → Bool) → marks.old ≡ map before bundles.now →
+        marks.new ≡ map (λ b. before b || list_any (λ other. bytes_eq other b.domain) domains.now) bundles.now }
 {
     for domain in domains {
         mark_key(bundles, domain.as_bytes(), marks);
@@ -155,10 +156,7 @@ fn view_with(alloc: Global, snapshot: &Snapshot, entries: &[Shared<Entry>]) -> R
     requires { ChosenFrom snapshot.now entries.now }
     ensures { IfOk result (λ v. v ≡ sight_of snapshot.now entries.now) }
 {
-    let domain = match snapshot.domain.copy(alloc) {
-        Ok(domain) => domain,
-        Err(_) => return Err(Memory),
-    };
+    let domain = snapshot.domain.copy(alloc)?;
     let bundles = bundles_in(
         alloc,
         snapshot.bundles.as_slice(),

@@ -7,9 +7,9 @@ ghost use Rattle.wl_snapshot.specs.Answers.{x509_bundle, x509_items, federated_i
 
 use crate::answers::Method3;
 use crate::views::{Held, View};
+use sorted_lists::find_by_key;
 use std::alloc::Global;
 use wl_entry::Bundle;
-use sorted_lists::find_by_key;
 use wl_octets::{Memory, Octets, Shared};
 use workload_proto::{put_map_item, put_x509_item};
 
@@ -35,17 +35,14 @@ fn put_svid(out: &mut Vec<u8>, own: &[u8], held: &Held) -> Result<(), Memory>
     };
     let entry = held.entry.part();
     let signed = &svid.part().signed;
-    match put_x509_item(
+    put_x509_item(
         out,
         entry.spiffe_id.as_bytes(),
         signed.chain.as_slice(),
         signed.key.as_slice(),
         own,
         entry.hint.as_slice(),
-    ) {
-        Ok(()) => Ok(()),
-        Err(_) => Err(Memory),
-    }
+    )
 }
 
 fn put_svids(out: &mut Vec<u8>, own: &[u8], held: &[Held]) -> Result<(), Memory>
@@ -84,10 +81,7 @@ fn put_item(
         return Ok(());
     }
     let key = domain_key(alloc, domain)?;
-    match put_map_item(out, number, key.as_slice(), value) {
-        Ok(()) => Ok(()),
-        Err(_) => Err(Memory),
-    }
+    put_map_item(out, number, key.as_slice(), value)
 }
 
 /// Writes a foreign domain's X.509 bundle.

@@ -1,4 +1,4 @@
--- The one output spelling of a message (SPIFFE Workload API, `workload.proto`; proto3): fields by ascending number, empty
+-- The one output encoding of a message (SPIFFE Workload API, `workload.proto`; proto3): fields by ascending number, empty
 -- ones left out but inside items of a map, items of lists and maps in their order, shortest varints.
 use Rattle.std.specs.Prelude.{ℕ, min, List, ◌++◌}
 use Rattle.std.specs.List.{flat_map}

@@ -21,7 +21,7 @@ fn take_audience(
 ) -> Result<(), ProtoFault>
     ensures { MatchResult result
         (λ _. (fault_of (text_of bytes.now field.now) ≡ None)
-            × (audience.new ≡ audience.old ++ text_list (text_of bytes.now field.now)))
+        × (audience.new ≡ audience.old ++ text_list (text_of bytes.now field.now)))
         (λ e. StepFails e (fault_of (text_of bytes.now field.now))) }
 {
     let text = field.text(bytes)?;
@@ -32,7 +32,7 @@ fn take_audience(
 fn take_id(alloc: Global, bytes: &[u8], field: &Field, id: &mut Octets) -> Result<(), ProtoFault>
     ensures { MatchResult result
         (λ _. (fault_of (text_of bytes.now field.now) ≡ None)
-            × (id.new ≡ last_of id.old (text_list (text_of bytes.now field.now))))
+        × (id.new ≡ last_of id.old (text_list (text_of bytes.now field.now))))
         (λ e. StepFails e (fault_of (text_of bytes.now field.now))) }
 {
     let text = field.text(bytes)?;
@@ -49,7 +49,7 @@ fn take_field(
 ) -> Result<(), ProtoFault>
     ensures { MatchResult result
         (λ _. (field_fault is_jwt_field bytes.now field.now ≡ None)
-            × (request.new ≡ asked_more bytes.now request.old field.now))
+        × (request.new ≡ asked_more bytes.now request.old field.now))
         (λ e. StepFails e (field_fault is_jwt_field bytes.now field.now)) }
 {
     match field.number {

@@ -18,7 +18,7 @@ fn put_x509(out: &mut Vec<u8>, message: &X509Response) -> Result<(), Memory>
     put_map_items(out, 3, message.federated.as_slice())
 }
 
-/// The spelling of an `X509SVIDResponse`, which has at most 2^31 bytes. Its map's keys are written in their order.
+/// The encoding of an `X509SVIDResponse`, which has at most 2^31 bytes. Its map's keys are written in their order.
 pub fn encode_x509(alloc: Global, message: &X509Response) -> Result<Octets, Memory>
     requires { length (spell_x509 message.now) ≤ 2 ^ 31 }
     ensures { IfOk result (λ o. o ≡ spell_x509 message.now) }
@@ -28,7 +28,7 @@ pub fn encode_x509(alloc: Global, message: &X509Response) -> Result<Octets, Memo
     Ok(Octets::from_vec(out))
 }
 
-/// The spelling of an `X509BundlesResponse`, which has at most 2^31 bytes. Its map's keys are written in their order.
+/// The encoding of an `X509BundlesResponse`, which has at most 2^31 bytes. Its map's keys are written in their order.
 #[tactic(auto, unfolding(crate::specs::Spelling::spell_bundles))]
 pub fn encode_bundles(alloc: Global, message: &BundlesResponse) -> Result<Octets, Memory>
     requires { length (spell_bundles message.now) ≤ 2 ^ 31 }
@@ -39,7 +39,7 @@ pub fn encode_bundles(alloc: Global, message: &BundlesResponse) -> Result<Octets
     Ok(Octets::from_vec(out))
 }
 
-/// The spelling of a `JWTBundlesResponse`, which has at most 2^31 bytes. Its map's keys are written in their order.
+/// The encoding of a `JWTBundlesResponse`, which has at most 2^31 bytes. Its map's keys are written in their order.
 #[tactic(auto, unfolding(crate::specs::Spelling::spell_jwt_bundles))]
 pub fn encode_jwt_bundles(alloc: Global, message: &JwtBundlesResponse) -> Result<Octets, Memory>
     requires { length (spell_jwt_bundles message.now) ≤ 2 ^ 31 }
@@ -50,7 +50,7 @@ pub fn encode_jwt_bundles(alloc: Global, message: &JwtBundlesResponse) -> Result
     Ok(Octets::from_vec(out))
 }
 
-/// The spelling of a `JWTSVIDResponse`, which has at most 2^31 bytes.
+/// The encoding of a `JWTSVIDResponse`, which has at most 2^31 bytes.
 #[tactic(auto, unfolding(crate::specs::Spelling::spell_jwt))]
 pub fn encode_jwt(alloc: Global, message: &JwtResponse) -> Result<Octets, Memory>
     requires { length (spell_jwt message.now) ≤ 2 ^ 31 }

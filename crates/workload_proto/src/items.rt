@@ -35,8 +35,20 @@ fn put_x509_content(
     bundle: &[u8],
     hint: &[u8],
 ) -> Result<(), Memory>
-    ensures ok { OnOk result (out.new.items ≡ out.old.items ++ spell_x509_item (record { spiffe_id = spiffe_id.now; chain = chain.now; key = key.now; bundle = bundle.now; hint = hint.now })) }
-    ensures err { OnErr result (GainsFront (spell_x509_item (record { spiffe_id = spiffe_id.now; chain = chain.now; key = key.now; bundle = bundle.now; hint = hint.now })) out.old.items out.new.items) }
+    ensures ok { OnOk result (out.new.items ≡ out.old.items ++ spell_x509_item (record {
+      spiffe_id = spiffe_id.now;
+      chain = chain.now;
+      key = key.now;
+      bundle = bundle.now;
+      hint = hint.now;
+    })) }
+    ensures err { OnErr result (GainsFront (spell_x509_item (record {
+      spiffe_id = spiffe_id.now;
+      chain = chain.now;
+      key = key.now;
+      bundle = bundle.now;
+      hint = hint.now;
+    })) out.old.items out.new.items) }
 {
     put_optional(out, 1, spiffe_id)?;
     put_optional(out, 2, chain)?;
@@ -56,9 +68,27 @@ pub fn put_x509_item(
     bundle: &[u8],
     hint: &[u8],
 ) -> Result<(), Memory>
-    requires { length (x509_field (record { spiffe_id = spiffe_id.now; chain = chain.now; key = key.now; bundle = bundle.now; hint = hint.now })) ≤ 2 ^ 31 }
-    ensures ok { OnOk result (out.new.items ≡ out.old.items ++ x509_field (record { spiffe_id = spiffe_id.now; chain = chain.now; key = key.now; bundle = bundle.now; hint = hint.now })) }
-    ensures err { OnErr result (GainsFront (x509_field (record { spiffe_id = spiffe_id.now; chain = chain.now; key = key.now; bundle = bundle.now; hint = hint.now })) out.old.items out.new.items) }
+    requires { length (x509_field (record {
+      spiffe_id = spiffe_id.now;
+      chain = chain.now;
+      key = key.now;
+      bundle = bundle.now;
+      hint = hint.now;
+    })) ≤ 2 ^ 31 }
+    ensures ok { OnOk result (out.new.items ≡ out.old.items ++ x509_field (record {
+      spiffe_id = spiffe_id.now;
+      chain = chain.now;
+      key = key.now;
+      bundle = bundle.now;
+      hint = hint.now;
+    })) }
+    ensures err { OnErr result (GainsFront (x509_field (record {
+      spiffe_id = spiffe_id.now;
+      chain = chain.now;
+      key = key.now;
+      bundle = bundle.now;
+      hint = hint.now;
+    })) out.old.items out.new.items) }
 {
     let size = x509_content_size(spiffe_id, chain, key, bundle, hint);
     put_head(out, 1, size)?;
@@ -67,8 +97,14 @@ pub fn put_x509_item(
 
 #[tactic(auto, unfolding(crate::specs::Spelling::spell_map_item))]
 fn put_map_content(out: &mut Vec<u8>, key: &[u8], value: &[u8]) -> Result<(), Memory>
-    ensures ok { OnOk result (out.new.items ≡ out.old.items ++ spell_map_item (record { key = key.now; value = value.now })) }
-    ensures err { OnErr result (GainsFront (spell_map_item (record { key = key.now; value = value.now })) out.old.items out.new.items) }
+    ensures ok { OnOk result (out.new.items ≡ out.old.items ++ spell_map_item (record {
+      key = key.now;
+      value = value.now;
+    })) }
+    ensures err { OnErr result (GainsFront (spell_map_item (record {
+      key = key.now;
+      value = value.now;
+    })) out.old.items out.new.items) }
 {
     put_bytes(out, 1, key)?;
     put_bytes(out, 2, value)
@@ -82,8 +118,14 @@ pub fn put_map_item(out: &mut Vec<u8>, number: u32, key: &[u8], value: &[u8]) ->
     requires least { 1 ≤ number }
     requires most { number ≤ MAX_FIELD_NUMBER }
     requires size { length (map_field number (record { key = key.now; value = value.now })) ≤ 2 ^ 31 }
-    ensures ok { OnOk result (out.new.items ≡ out.old.items ++ map_field number (record { key = key.now; value = value.now })) }
-    ensures err { OnErr result (GainsFront (map_field number (record { key = key.now; value = value.now })) out.old.items out.new.items) }
+    ensures ok { OnOk result (out.new.items ≡ out.old.items ++ map_field number (record {
+      key = key.now;
+      value = value.now;
+    })) }
+    ensures err { OnErr result (GainsFront (map_field number (record {
+      key = key.now;
+      value = value.now;
+    })) out.old.items out.new.items) }
 {
     let size = map_content_size(key.len(), value);
     put_head(out, number, size)?;

@@ -1,6 +1,6 @@
 //! The messages of the SPIFFE Workload API: those that are answered to bytes, those that are asked from bytes.
 //!
-//! Each message has one spelling (specs/Spelling): the `encode_` calls give it, in one allocation of the counted size,
+//! Each message has one encoding (specs/Spelling): the `encode_` calls give it, in one allocation of the counted size,
 //! and the `size_` calls count it without making it. Requests are read by the grammar of proto3 in this project's
 //! profile (specs/Requests); bytes outside it have the first fault in them.
 #![tactic(auto)]

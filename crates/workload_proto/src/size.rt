@@ -1,4 +1,4 @@
-//! How many bytes a message has in its spelling: a count of 64 bits that stands still at its end.
+//! How many bytes a message has in its encoding: a count of 64 bits that stands still at its end.
 
 ghost use Rattle.std.specs.Prelude.{◌≡◌, ◌≤◌, ◌+◌, ◌*◌, ◌++◌, ℕ, List, length};
 ghost use Rattle.std.specs.List.{flat_map};
@@ -55,14 +55,19 @@ pub(crate) fn x509_content_size(
 
 /// The size of an item of a map without its tag and its length.
 pub(crate) fn map_content_size(key_len: usize, value: &[u8]) -> u64
-    ensures { (key : List ℕ) → length key ≡ key_len → result ≡ capped (length (spell_map_item (record { key = key; value = value.now }))) }
+    ensures { (key : List ℕ) → length key ≡ key_len
+        → result ≡ capped (length (spell_map_item (record { key = key; value = value.now }))) }
 {
     field_size(1, key_len as u64).saturating_add(field_size(2, value.len() as u64))
 }
 
 /// The size of a `JWTSVID` without its tag and its length.
 pub(crate) fn jwt_content_size(spiffe_id: &[u8], svid: &[u8], hint: &[u8]) -> u64
-    ensures { result ≡ capped (length (spell_jwt_item (record { spiffe_id = spiffe_id.now; svid = svid.now; hint = hint.now }))) }
+    ensures { result ≡ capped (length (spell_jwt_item (record {
+      spiffe_id = spiffe_id.now;
+      svid = svid.now;
+      hint = hint.now;
+    }))) }
 {
     let id = optional_size(1, spiffe_id);
     id.saturating_add(optional_size(2, svid))
@@ -88,7 +93,8 @@ pub fn x509_item_size(spiffe_id: &[u8], chain: &[u8], key: &[u8], bundle: &[u8],
 /// bytes. The map is number 3 in an `X509SVIDResponse`, 2 in an `X509BundlesResponse`, 1 in a `JWTBundlesResponse`.
 #[tactic(auto, unfolding(crate::specs::Spelling::map_field))]
 pub fn map_item_size(number: u32, key_len: usize, value: &[u8]) -> u64
-    ensures { (key : List ℕ) → length key ≡ key_len → result ≡ capped (length (map_field number (record { key = key; value = value.now }))) }
+    ensures { (key : List ℕ) → length key ≡ key_len
+        → result ≡ capped (length (map_field number (record { key = key; value = value.now }))) }
 {
     field_size(number, map_content_size(key_len, value))
 }
@@ -96,7 +102,11 @@ pub fn map_item_size(number: u32, key_len: usize, value: &[u8]) -> u64
 /// The size of one SVID in a `JWTSVIDResponse`, with its tag and its length.
 #[tactic(auto, unfolding(crate::specs::Spelling::jwt_field))]
 pub fn jwt_item_size(spiffe_id: &[u8], svid: &[u8], hint: &[u8]) -> u64
-    ensures { result ≡ capped (length (jwt_field (record { spiffe_id = spiffe_id.now; svid = svid.now; hint = hint.now }))) }
+    ensures { result ≡ capped (length (jwt_field (record {
+      spiffe_id = spiffe_id.now;
+      svid = svid.now;
+      hint = hint.now;
+    }))) }
 {
     field_size(1, jwt_content_size(spiffe_id, svid, hint))
 }

@@ -239,3 +239,24 @@ fn empty_requests(rt: HostRuntime) {
         assert_eq!(rt; decode_empty(bytes), want, "of {bytes:?}");
     }
 }
+
+/// 64 audiences are read, and 64 SVIDs written.
+#[test]
+fn sixty_four_items(rt: HostRuntime) -> Result<(), Fail> {
+    let alloc = rt.alloc();
+    let mut bytes = Vec::new(alloc);
+    for _ in 0..64 {
+        bytes.extend_from_slice(b"\x0a\x01x")?;
+    }
+    match decode_jwt_request(alloc, bytes.as_slice()) {
+        Ok(request) => assert_eq!(rt; request.audience.len(), 64),
+        Err(_) => return Err(Fail::from("it is a request")),
+    }
+    let items: [[&[u8]; 5]; 64] = [[b"i", b"c", b"k", b"b", b""]; 64];
+    let response = X509Response {
+        svids: x509_svids(alloc, &items)?,
+        federated: Row::empty(alloc),
+    };
+    assert_eq!(rt; encode_x509(alloc, &response)?.len(), 64 * 14);
+    Ok(())
+}

@@ -1,48 +1,20 @@
-use Rattle.std.proofs.Common.{◌∷◌, ◌+◌, ap, sym, ◌∙◌, arith, length}
-use Rattle.std.proofs.lemmas.List.{length-append}
-use Rattle.sorted_lists.specs.Keys.{place_at}
-use Rattle.sorted_lists.proofs.Halving.{parts_of}
-use Rattle.sorted_lists.proofs.Places.{later, later_later, place_above, place_there, place_below}
+use Rattle.std.proofs.Common.{rules, sym, ap, ◌∙◌}
+use Rattle.std.proofs.lemmas.Fn.{always_returns_same}
+use Rattle.sorted_lists.proofs.Places.{ord, place_of, searched}
 use Rattle.sorted_lists.proofs.finding.place_by_key.Goals as goal
 
-pub halves-preserved-in-Less : goal.halves-preserved-in-Less
-halves-preserved-in-Less g c =
+pub returns-in-Ok-clause-place : goal.returns-in-Ok-clause-place
+returns-in-Ok-clause-place g c =
     let key = g.T.Keyed.key in
-    let below = c.in-Some.below.now in
-    let first = c.in-Some.first.now in
-    let above = c.in-Some.above.now in
-    let p = parts_of key c.halves.rest.now below first above c.in-Some.ensures.parts c.halves.invariant.rises in
-    let at = rw c.key.ensures at c.in-Less.ensures in
-    record {
-      rises = p.back;
-      within = omega (arith, c.halves.invariant.within, ap length c.in-Some.ensures.parts, length-append below (first ∷ above));
-      same = c.halves.invariant.same ∙ ap (λ xs. later c.halves.from (place_at key xs c.args.key.now)) c.in-Some.ensures.parts ∙ ap (later c.halves.from) (place_above key c.args.key.now below first above p (sym at)) ∙ later_later c.halves.from (length below + 1) (place_at key above c.args.key.now);
-    }
+    let k = c.args.key.now in
+    let facts = c.binary_search_by.ensures in
+    let by_key = facts.position (ord key k) (always_returns_same _ _ _ (λ a r after called. (search rules, search rules))) in
+    sym (searched key k c.args.items.now c.binary_search_by.result c.requires facts.bound by_key ∙ ap (place_of key k) c.in-Ok.is)
 
-pub returns-in-Equal-clause-place : goal.returns-in-Equal-clause-place
-returns-in-Equal-clause-place g c =
+pub returns-in-Err-clause-place : goal.returns-in-Err-clause-place
+returns-in-Err-clause-place g c =
     let key = g.T.Keyed.key in
-    let below = c.in-Some.below.now in
-    let first = c.in-Some.first.now in
-    let above = c.in-Some.above.now in
-    let p = parts_of key c.halves.rest.now below first above c.in-Some.ensures.parts c.halves.invariant.rises in
-    let at = rw c.key.ensures at c.in-Equal.ensures in
-    sym (c.halves.invariant.same ∙ ap (λ xs. later c.halves.from (place_at key xs c.args.key.now)) c.in-Some.ensures.parts ∙ ap (later c.halves.from) (place_there key c.args.key.now below first above p (sym at)))
-
-pub halves-preserved : goal.halves-preserved
-halves-preserved g c =
-    let key = g.T.Keyed.key in
-    let below = c.in-Some.below.now in
-    let first = c.in-Some.first.now in
-    let above = c.in-Some.above.now in
-    let p = parts_of key c.halves.rest.now below first above c.in-Some.ensures.parts c.halves.invariant.rises in
-    let at = rw c.key.ensures at c.in-Greater.ensures in
-    record {
-      rises = p.front;
-      within = omega (arith, c.halves.invariant.within, ap length c.in-Some.ensures.parts, length-append below (first ∷ above));
-      same = c.halves.invariant.same ∙ ap (λ xs. later c.halves.from (place_at key xs c.args.key.now)) c.in-Some.ensures.parts ∙ ap (later c.halves.from) (place_below key c.args.key.now below first above p (sym at));
-    }
-
-pub returns-clause-place : goal.returns-clause-place
-unfolding place_at
-returns-clause-place g c = sym (rw c.in_default.ensures.none at c.halves.invariant.same)
+    let k = c.args.key.now in
+    let facts = c.binary_search_by.ensures in
+    let by_key = facts.position (ord key k) (always_returns_same _ _ _ (λ a r after called. (search rules, search rules))) in
+    sym (searched key k c.args.items.now c.binary_search_by.result c.requires facts.bound by_key ∙ ap (place_of key k) c.in-Err.is)

@@ -1,5 +1,5 @@
 use Rattle.std.proofs.Common.{◌≡◌, ◌++◌, take}
-use Rattle.wl_agent.specs.Lines.{spaced_all}
+use Rattle.fault_lines.specs.Lines.{spaced_all}
 use Rattle.wl_agent.proofs.output.put_all.Given as goal
 
 abbrev pub invariant-loop-number : goal.invariant-loop-number

@@ -4,4 +4,4 @@ use Rattle.wl_document.proofs.Plain.{state_same}
 use Rattle.wl_document.proofs.read.state.Goals as goal
 
 pub returns : goal.returns
-returns c = subst (Gives (λ s. s) c.walked.result) (state_same _ _) c.walked.ensures
+returns c = subst (Gives (λ s. s) c.state_inner.result) (state_same _ _) c.state_inner.ensures

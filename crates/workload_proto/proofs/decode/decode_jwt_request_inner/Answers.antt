@@ -1,4 +1,4 @@
-use Rattle.std.proofs.Common.{◌≡◌, refl, sym, ◌∙◌, ap, arith, Some, Result, Ok}
+use Rattle.std.proofs.Common.{◌≡◌, refl, sym, ◌∙◌, ap, arith, Some, Ok}
 use Rattle.std.proofs.lemmas.Result.{err_from_is_err_and}
 use Rattle.pb_wire.specs.declared.fault.FieldFault.{FieldFault}
 use Rattle.pb_wire.specs.Strings.{field_fault, message_of}
@@ -24,7 +24,7 @@ returns-in_err-take_field c =
     let p = err_from_is_err_and c.from_residual-in_err-take_field.result c.from_residual-in_err-take_field.ensures.1 in
     let bytes = c.args.bytes.now in
     let wrong = λ (d : FieldFault) (e : field_fault is_jwt_field bytes c.in_ok-field.field ≡ Some d).
-        sym c.loop-at.invariant ∙ said-wrong is_jwt_field bytes c.loop-at.at (asked_in bytes c.loop-at.request) c.in_ok-field.field d (λ i. omega (arith, c.type_inv.bytes i)) c.loop-at-test.true (sym c.in_ok-field.ensures.value) e in
+    sym c.loop-at.invariant ∙ said-wrong is_jwt_field bytes c.loop-at.at (asked_in bytes c.loop-at.request) c.in_ok-field.field d (λ i. omega (arith, c.type_inv.bytes i)) c.loop-at-test.true (sym c.in_ok-field.ensures.value) e in
     rw (p.1, p.2) (step_fails c.in_err-take_field.field-0.0 (field_fault is_jwt_field bytes c.in_ok-field.field) (jwt_request_of bytes) wrong c.in_err-take_field.ensures)
 
 pub loop-at-preserved : goal.loop-at-preserved
