@@ -9,7 +9,8 @@ use Rattle.std.proofs.lemmas.Bool.{and_parts}
 use Rattle.std.proofs.lemmas.Bool.Decides.{nat_tests}
 use Rattle.list_laws.proofs.Elements.{all_append}
 use Rattle.wl_entry.specs.Same.{same_ask}
-use Rattle.wl_entry.proofs.Sames.{ask_is, texts_are}
+use Rattle.list_laws.proofs.Equality.{texts_are}
+use Rattle.wl_entry.proofs.Sames.{ask_is}
 use Rattle.wl_entry.specs.Fitness.{is_still_fresh}
 use Rattle.wl_entry.specs.declared.asks.Ask.{Ask}
 use Rattle.wl_entry.specs.declared.tokens.JwtToken.{JwtToken}

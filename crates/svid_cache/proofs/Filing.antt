@@ -18,9 +18,9 @@ use Rattle.wl_entry.specs.Same.{same_ask}
 use Rattle.wl_entry.specs.declared.asks.Ask.{Ask}
 use Rattle.wl_entry.specs.declared.signing.Signed.{Signed}
 use Rattle.wl_entry.specs.declared.signing.Svid.{Svid}
-use Rattle.list_laws.specs.Keys.{item_at}
 use Rattle.list_laws.proofs.Elements.{all_append, all_such}
-use Rattle.list_laws.proofs.Order.{order, not_same, turned}
+use Rattle.list_laws.proofs.Equality.{same_bytes}
+use Rattle.list_laws.proofs.Order.{order}
 use Rattle.svid_cache.proofs.Keeping.{same_entry_id}
 use Rattle.svid_cache.specs.Caches.{kept_for, is_due, lasts, is_below, is_above, with_svid}
 use Rattle.svid_cache.specs.Queue.{half_second, first_second, NotBefore, OthersNotBefore, Filed, NoneBelow, clear_second}
@@ -226,27 +226,33 @@ filed_swept now size svids firsts asks filed = filed_such (NotBefore svids) (Not
 
 -- ---- a new SVID
 
-other_ask : (s : Svid) (a : Ask) → bytes_eq s.ask.entry_id a.entry_id ≡ false → same_ask s.ask a ≡ false
-other_ask s a other = rw other refl
+-- a test that only the SVID of this entry can pass
+abbrev OnlyOf : (Svid → Bool) → List ℕ → Type 0
+OnlyOf t q = (k : Svid) → t k ≡ true → k.ask.entry_id ≡ q
 
-put_go : (s : Svid) (svids : List Svid) (a : Ask) (o : Ordering) → order a.entry_id s.ask.entry_id ≡ o → is_eq o ≡ false → kept_for (with_svid s svids) a ≡ kept_for svids a
-unfolding kept_for with_svid
-put_go s svids a Less at other =
-    let t : Svid → Bool = λ k. same_ask k.ask a in
-    let new : t s ≡ false = other_ask s a (not_same s.ask.entry_id a.entry_id Greater (turned a.entry_id s.ask.entry_id at) refl) in
-    let over : find t (filter (is_above s.ask.entry_id) svids) ≡ None = find_none t (is_above s.ask.entry_id) (λ k same. subst (λ i. is_gt (order i s.ask.entry_id) ≡ false) (sym (same_entry_id k.ask a same)) (ap is_gt at)) svids in
+fails_other : (t : Svid → Bool) (q : List ℕ) (s : Svid) → OnlyOf t q → bytes_eq q s.ask.entry_id ≡ false → (b : Bool) → t s ≡ b → t s ≡ false
+fails_other t q s only other true is = let same : bytes_eq q q ≡ false = subst (λ k. bytes_eq q k ≡ false) (only s is) other in cc (sym same ∙ same_bytes q)
+fails_other t q s only other false is = is
+
+put_go : (s : Svid) (svids : List Svid) (t : Svid → Bool) (q : List ℕ) → OnlyOf t q → t s ≡ false → (o : Ordering) → order q s.ask.entry_id ≡ o → is_eq o ≡ false → find t (with_svid s svids) ≡ find t svids
+unfolding with_svid
+put_go s svids t q only new Less at other =
+    let over : find t (filter (is_above s.ask.entry_id) svids) ≡ None = find_none t (is_above s.ask.entry_id) (λ k same. subst (λ i. is_gt (order i s.ask.entry_id) ≡ false) (sym (only k same)) (ap is_gt at)) svids in
     find_front t (filter (is_below s.ask.entry_id) svids) (s ∷ filter (is_above s.ask.entry_id) svids) (rw new over)
-    ∙ find_all t (is_below s.ask.entry_id) (λ k same. subst (λ i. is_lt (order i s.ask.entry_id) ≡ true) (sym (same_entry_id k.ask a same)) (ap is_lt at)) svids
-put_go s svids a Greater at other =
-    let t : Svid → Bool = λ k. same_ask k.ask a in
-    let new : t s ≡ false = other_ask s a (not_same s.ask.entry_id a.entry_id Less (nat_list_cmp_total.antisymm s.ask.entry_id a.entry_id ∙ ap ordering_reverse at) refl) in
-    let under : find t (filter (is_below s.ask.entry_id) svids) ≡ None = find_none t (is_below s.ask.entry_id) (λ k same. subst (λ i. is_lt (order i s.ask.entry_id) ≡ false) (sym (same_entry_id k.ask a same)) (ap is_lt at)) svids in
+    ∙ find_all t (is_below s.ask.entry_id) (λ k same. subst (λ i. is_lt (order i s.ask.entry_id) ≡ true) (sym (only k same)) (ap is_lt at)) svids
+put_go s svids t q only new Greater at other =
+    let under : find t (filter (is_below s.ask.entry_id) svids) ≡ None = find_none t (is_below s.ask.entry_id) (λ k same. subst (λ i. is_lt (order i s.ask.entry_id) ≡ false) (sym (only k same)) (ap is_lt at)) svids in
     find_back t (filter (is_below s.ask.entry_id) svids) (s ∷ filter (is_above s.ask.entry_id) svids) under
-    ∙ rw new (find_all t (is_above s.ask.entry_id) (λ k same. subst (λ i. is_gt (order i s.ask.entry_id) ≡ true) (sym (same_entry_id k.ask a same)) (ap is_gt at)) svids)
-put_go s svids a Equal at other = cc
+    ∙ rw new (find_all t (is_above s.ask.entry_id) (λ k same. subst (λ i. is_gt (order i s.ask.entry_id) ≡ true) (sym (only k same)) (ap is_gt at)) svids)
+put_go s svids t q only new Equal at other = cc
+
+-- what is found of another entry is found as before
+pub find_put : (s : Svid) (svids : List Svid) (t : Svid → Bool) (q : List ℕ) → OnlyOf t q → bytes_eq q s.ask.entry_id ≡ false → find t (with_svid s svids) ≡ find t svids
+find_put s svids t q only other = put_go s svids t q only (fails_other t q s only other (t s) refl) (order q s.ask.entry_id) refl (is_eq-slice_cmp q s.ask.entry_id ∙ other)
 
 put_other : (s : Svid) (svids : List Svid) (a : Ask) → bytes_eq a.entry_id s.ask.entry_id ≡ false → kept_for (with_svid s svids) a ≡ kept_for svids a
-put_other s svids a other = put_go s svids a (order a.entry_id s.ask.entry_id) refl (is_eq-slice_cmp a.entry_id s.ask.entry_id ∙ other)
+unfolding kept_for
+put_other s svids a other = find_put s svids (λ k. same_ask k.ask a) a.entry_id (λ k same. same_entry_id k.ask a same) other
 
 put_fits : (s : Svid) (svids : List Svid) (first : ℕ) (a : Ask) → NotBefore svids first a → OthersNotBefore s.ask.entry_id (with_svid s svids) first a
 unfolding first_second
@@ -261,15 +267,3 @@ others_at size id id' svids svids' firsts firsts' asks asks' same_id same_svids 
     (subst (λ x. Filed (OthersNotBefore id' x) size firsts asks) (sym same_svids)
     (subst (λ x. Filed (OthersNotBefore id' svids') size x asks) (sym same_firsts)
     (subst (λ x. Filed (OthersNotBefore id' svids') size firsts' x) (sym same_asks) filed)))
-
--- in a block without this entry no ask is that of the entry
-absent_go : (a : Ask) (found : Option Ask) (b : Bool) → (if b then Some a else found) ≡ None → (b ≡ false) × (found ≡ None)
-absent_go a found true none = cc
-absent_go a found false none = (refl, none)
-
-pub others_all : (id : List ℕ) (svids : List Svid) (first : ℕ) (asks : List Ask) → item_at ask_key asks id ≡ None → AllByRecursion (OthersNotBefore id svids first) asks → AllByRecursion (NotBefore svids first) asks
-unfolding item_at
-others_all id svids first [] none all = tt
-others_all id svids first (a ∷ more) none all =
-    let absent = absent_go a (find (λ b. bytes_eq b.entry_id id) more) (bytes_eq a.entry_id id) none in
-    (all.0 absent.0, others_all id svids first more absent.1 all.1)

@@ -81,8 +81,8 @@ pub(crate) fn publication(alloc: Global, state: AuthorityState) -> Result<Snapsh
         svids,
     } = state;
     let svids = keep_all(alloc, entries.as_slice(), svids)?;
-    let entries = into_shared(alloc, entries)?;
-    let bundles = into_shared(alloc, bundles)?;
+    let entries = Shared::new(alloc, into_shared(alloc, entries)?)?;
+    let bundles = Shared::new(alloc, into_shared(alloc, bundles)?)?;
     Ok(Snapshot {
         number: 0,
         domain,

@@ -533,7 +533,7 @@ fn view_asks(rt: HostRuntime) -> Result<(), Fail> {
 
 /// The view that is made of the first entry, where there is one.
 fn first_alone(alloc: Global, snapshot: &Snapshot) -> Result<Option<View>, Memory> {
-    if snapshot.entries.len() == 0 {
+    if snapshot.entries.part().len() == 0 {
         return Ok(None);
     }
     Ok(Some(view_of(alloc, snapshot, &[0])?))

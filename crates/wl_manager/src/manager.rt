@@ -1,6 +1,6 @@
 //! The manager.
 
-ghost use Rattle.std.specs.Prelude.{◌≡◌, ◌<◌, ◌==◌, true, false, filter, length, None, IfOk, IfErr, IsOkAnd};
+ghost use Rattle.std.specs.Prelude.{◌≡◌, ◌<◌, ◌==◌, true, false, [], filter, find, length, option_map, None, IfOk, IfErr, IsOkAnd};
 ghost use Rattle.std.specs.List.{list_any, All};
 ghost use Rattle.std.specs.List.Sorted.{IsStrictlySortedBy};
 ghost use Rattle.std.specs.Ordering.{nat_cmp};
@@ -8,6 +8,7 @@ ghost use Rattle.wl_entry.specs.Entitled.{is_entitled};
 ghost use Rattle.wl_match.specs.Indexes.{entitled_places, items_at};
 ghost use Rattle.wl_document.specs.Checks.{Faults};
 ghost use Rattle.wl_document.specs.Documents.{document_state};
+ghost use Rattle.jwt_cache.specs.Rings.{StandsFor};
 ghost use Rattle.wl_store.specs.Stores.{has_ticket};
 ghost use Rattle.wl_store.specs.Steps.{after_failed, AllTrusted};
 ghost use Rattle.wl_manager.specs.Managers.{first_managed};
@@ -21,7 +22,7 @@ use wl_match::Index;
 use wl_octets::{Memory, Row, Shared};
 use wl_selector::Selectors;
 use wl_snapshot::Snapshot;
-use wl_store::{Store, Ticket};
+use wl_store::{Flight, Store, Ticket};
 
 /// The store of the agent, its last publication, and the kept tokens. Times are Unix seconds.
 #[derive(Drop)]
@@ -45,6 +46,7 @@ impl<V: Voucher> Manager<V> {
     /// first check of the document that fails is the fault.
     pub fn start(alloc: Global, document: &[u8]) -> Result<Manager<V>, DocFault>
         ensures ok { IfOk result (λ m. IsOkAnd (document_state None document.now) (λ d. m ≡ first_managed false d)) }
+        ensures tokens { IfOk result (λ m. StandsFor m.tokens []) }
         ensures fault { IfErr result (λ e. Faults e (document_state None document.now)) }
     {
         let store = Store::start(alloc, document)?;
@@ -58,6 +60,7 @@ impl<V: Voucher> Manager<V> {
     /// other times.
     pub fn start_strict(alloc: Global, document: &[u8]) -> Result<Manager<V>, DocFault>
         ensures ok { IfOk result (λ m. IsOkAnd (document_state None document.now) (λ d. m ≡ first_managed true d)) }
+        ensures tokens { IfOk result (λ m. StandsFor m.tokens []) }
         ensures fault { IfErr result (λ e. Faults e (document_state None document.now)) }
     {
         let store = Store::start_strict(alloc, document)?;
@@ -76,7 +79,7 @@ impl<V: Voucher> Manager<V> {
     }
 
     /// The index of the entries of the last publication. It takes no memory.
-    pub fn index(&self) -> &Index
+    pub fn index(&self) -> &Shared<Index>
         ensures { result.now ≡ self.now.stored.published.entries }
     {
         self.store.index()
@@ -90,8 +93,15 @@ impl<V: Voucher> Manager<V> {
         ensures rising { IfOk result (IsStrictlySortedBy nat_cmp) }
         ensures there { IfOk result (All (λ place. place < length self.now.stored.published.entries)) }
     {
-        let places = self.index().entitled(alloc, selectors)?;
+        let places = self.store.entitled(alloc, selectors)?;
         Ok(places)
+    }
+
+    /// The first ticket in flight of this number. It takes no memory.
+    pub fn flight(&self, number: u64) -> Option<&Flight>
+        ensures { option_map (λ f. f.now) result ≡ find (λ f. f.number == number) self.now.stored.store.in_flight }
+    {
+        self.store.flight(number)
     }
 
     /// Whether a ticket of this number is in flight. It takes no memory.
@@ -104,7 +114,8 @@ impl<V: Voucher> Manager<V> {
     /// Takes back a ticket without an identity: it is in flight no more. Nothing changes where it was not in flight.
     /// It takes no memory.
     pub fn failed(&mut self, ticket: Ticket)
-        ensures left { has_ticket ticket.number ticket.ask self.old.stored.store.in_flight ≡ true → self.new.stored ≡ after_failed ticket.number self.old.stored }
+        ensures left { has_ticket ticket.number ticket.ask self.old.stored.store.in_flight ≡ true →
+            self.new.stored ≡ after_failed ticket.number self.old.stored }
         ensures other { has_ticket ticket.number ticket.ask self.old.stored.store.in_flight ≡ false → self.new.stored ≡ self.old.stored }
         ensures tokens { self.new.tokens ≡ self.old.tokens }
     {

@@ -8,6 +8,7 @@ ghost use Rattle.jwt_cache.specs.declared.rings.CachedToken.{CachedToken};
 ghost use Rattle.wl_store.specs.Flights.{flights_of};
 ghost use Rattle.wl_store.specs.Steps.{stored_after, change_to, after_sync, news, after_failed, AllTrusted};
 ghost use Rattle.wl_store.specs.Stores.{asks_of, after_claim, asks_to_claim, flights_from, has_ticket, install, after_signed};
+ghost use Rattle.wl_store.specs.Touched.{SameBut};
 ghost use Rattle.wl_manager.specs.Tokens.{changed_ids, without_all, history_after};
 
 use crate::dropping::{changed_ids, forget_all};
@@ -53,8 +54,13 @@ impl<V: Voucher> Manager<V> {
     /// Prepares the step that a document is read. Its own domain has to be the manager's. The tokens are to be dropped
     /// of each entry whose ask it changes or removes.
     pub fn prepare_sync(&self, alloc: Global, document: &[u8]) -> Result<Prepared<V>, DocFault>
-        ensures next { IfOk result (λ p. IsOkAnd (document_state (Some self.now.stored.published.domain) document.now) (λ d. p.step.next ≡ stored_after (after_sync d self.now.stored) self.now.stored)) }
-        ensures answer { IfOk result (λ p. IsOkAnd (document_state (Some self.now.stored.published.domain) document.now) (λ d. p.step.answer ≡ record { change = change_to (after_sync d self.now.stored) self.now.stored; tickets = []; installed = None })) }
+        ensures next { IfOk result (λ p. IsOkAnd (document_state (Some self.now.stored.published.domain) document.now)
+            (λ d. p.step.next ≡ stored_after (after_sync d self.now.stored) self.now.stored)) }
+        ensures change { IfOk result (λ p. IsOkAnd (document_state (Some self.now.stored.published.domain) document.now)
+            (λ d. p.step.answer.change ≡ change_to (after_sync d self.now.stored) self.now.stored)) }
+        ensures tickets { IfOk result (λ p. p.step.answer.tickets ≡ []) }
+        ensures installed { IfOk result (λ p. p.step.answer.installed ≡ None) }
+        ensures touched { IfOk result (λ p. SameBut p.step.answer.touched self.now.stored.published p.step.next.published) }
         ensures dropped { IfOk result (λ p. p.dropped ≡ changed_ids (asks_of self.now.stored.store.entries) (asks_of p.step.next.store.entries)) }
         ensures fault { IfErr result (λ e. Faults e (document_state (Some self.now.stored.published.domain) document.now)) }
     {
@@ -75,6 +81,7 @@ impl<V: Voucher> Manager<V> {
         ensures change { IfOk result (λ p. p.step.answer.change ≡ change_to (after_claim now self.now.stored.store) self.now.stored) }
         ensures tickets { IfOk result (λ p. flights_of p.step.answer.tickets ≡ flights_from self.now.stored.store.last_ticket (asks_to_claim now self.now.stored.store)) }
         ensures installed { IfOk result (λ p. p.step.answer.installed ≡ None) }
+        ensures touched { IfOk result (λ p. SameBut p.step.answer.touched self.now.stored.published p.step.next.published) }
         ensures dropped { IfOk result (λ p. p.dropped ≡ []) }
     {
         let step = self.store.prepare_claim(alloc, now)?;
@@ -95,13 +102,18 @@ impl<V: Voucher> Manager<V> {
         requires { V.signed ticket.now.ask signed.now }
 
         // A ticket that is not in flight changes nothing.
-        ensures spent { has_ticket ticket.now.number ticket.now.ask self.now.stored.store.in_flight ≡ false → IfOk result (λ p. (p.step.next ≡ self.now.stored) × (p.step.answer.change ≡ Change.Same) × (p.step.answer.installed ≡ Some Installed.Spent)) }
+        ensures spent { has_ticket ticket.now.number ticket.now.ask self.now.stored.store.in_flight ≡ false →
+            IfOk result (λ p. (p.step.next ≡ self.now.stored) × (p.step.answer.change ≡ Change.Same) × (p.step.answer.installed ≡ Some Installed.Spent)) }
 
         // The ticket leaves, and the answer is that of Install.
-        ensures next { has_ticket ticket.now.number ticket.now.ask self.now.stored.store.in_flight ≡ true → IfOk result (λ p. p.step.next ≡ stored_after (after_signed now ticket.now.number ticket.now.ask signed.now self.now.stored.store) self.now.stored) }
-        ensures change { has_ticket ticket.now.number ticket.now.ask self.now.stored.store.in_flight ≡ true → IfOk result (λ p. p.step.answer.change ≡ change_to (after_signed now ticket.now.number ticket.now.ask signed.now self.now.stored.store) self.now.stored) }
-        ensures installed { has_ticket ticket.now.number ticket.now.ask self.now.stored.store.in_flight ≡ true → IfOk result (λ p. p.step.answer.installed ≡ Some (install now ticket.now.ask signed.now self.now.stored.store)) }
+        ensures next { has_ticket ticket.now.number ticket.now.ask self.now.stored.store.in_flight ≡ true →
+            IfOk result (λ p. p.step.next ≡ stored_after (after_signed now ticket.now.number ticket.now.ask signed.now self.now.stored.store) self.now.stored) }
+        ensures change { has_ticket ticket.now.number ticket.now.ask self.now.stored.store.in_flight ≡ true →
+            IfOk result (λ p. p.step.answer.change ≡ change_to (after_signed now ticket.now.number ticket.now.ask signed.now self.now.stored.store) self.now.stored) }
+        ensures installed { has_ticket ticket.now.number ticket.now.ask self.now.stored.store.in_flight ≡ true →
+            IfOk result (λ p. p.step.answer.installed ≡ Some (install now ticket.now.ask signed.now self.now.stored.store)) }
         ensures tickets { IfOk result (λ p. p.step.answer.tickets ≡ []) }
+        ensures touched { IfOk result (λ p. SameBut p.step.answer.touched self.now.stored.published p.step.next.published) }
         ensures dropped { IfOk result (λ p. p.dropped ≡ []) }
     {
         let step = self.store.prepare_signed(alloc, ticket, signed, now)?;
@@ -111,7 +123,8 @@ impl<V: Voucher> Manager<V> {
         })
     }
 
-    /// Takes a prepared step. The manager has to be as it was when the step was prepared. It takes no memory.
+    /// Takes a prepared step: the store's whole state, whatever it is now, and the tokens without those of the entries that
+    /// the step drops. So a caller prepares a step and adopts it with no other step between. It takes no memory.
     pub fn adopt(&mut self, prepared: Prepared<V>) -> Adopted
         ensures stored { self.new.stored ≡ prepared.step.next }
         ensures history { (history : List CachedToken) → StandsFor self.old.tokens history → StandsFor self.new.tokens (without_all prepared.dropped history) }
@@ -127,9 +140,11 @@ impl<V: Voucher> Manager<V> {
     /// removed. Its own domain has to be the manager's. The first check that fails is the fault, and nothing changes
     /// then.
     pub fn sync(&mut self, alloc: Global, document: &[u8]) -> Result<Change, DocFault>
-        ensures ok { OnOk result (IsOkAnd (document_state (Some self.old.stored.published.domain) document.now) (λ d. self.new.stored ≡ stored_after (after_sync d self.old.stored) self.old.stored)) }
+        ensures ok { OnOk result (IsOkAnd (document_state (Some self.old.stored.published.domain) document.now)
+            (λ d. self.new.stored ≡ stored_after (after_sync d self.old.stored) self.old.stored)) }
         ensures history { (history : List CachedToken) → StandsFor self.old.tokens history → OnOk result (StandsFor self.new.tokens (history_after self.old.stored.store.entries self.new.stored.store.entries history)) }
-        ensures change { IfOk result (λ c. IsOkAnd (document_state (Some self.old.stored.published.domain) document.now) (λ d. c ≡ change_to (after_sync d self.old.stored) self.old.stored)) }
+        ensures change { IfOk result (λ c. IsOkAnd (document_state (Some self.old.stored.published.domain) document.now)
+            (λ d. c ≡ change_to (after_sync d self.old.stored) self.old.stored)) }
         ensures fault { IfErr result (λ e. Faults e (document_state (Some self.old.stored.published.domain) document.now)) }
         ensures err { OnErr result (self.new ≡ self.old) }
     {
@@ -171,8 +186,10 @@ impl<V: Voucher> Manager<V> {
         ensures spent { has_ticket ticket.number ticket.ask self.old.stored.store.in_flight ≡ false → (result ≡ Ok Installed.Spent) × (self.new ≡ self.old) }
 
         // The ticket leaves, and the answer is that of Install.
-        ensures ok { has_ticket ticket.number ticket.ask self.old.stored.store.in_flight ≡ true → OnOk result (self.new.stored ≡ stored_after (after_signed now ticket.number ticket.ask signed self.old.stored.store) self.old.stored) }
-        ensures installed { has_ticket ticket.number ticket.ask self.old.stored.store.in_flight ≡ true → IfOk result (λ i. i ≡ install now ticket.ask signed self.old.stored.store) }
+        ensures ok { has_ticket ticket.number ticket.ask self.old.stored.store.in_flight ≡ true →
+            OnOk result (self.new.stored ≡ stored_after (after_signed now ticket.number ticket.ask signed self.old.stored.store) self.old.stored) }
+        ensures installed { has_ticket ticket.number ticket.ask self.old.stored.store.in_flight ≡ true →
+            IfOk result (λ i. i ≡ install now ticket.ask signed self.old.stored.store) }
         ensures tokens { self.new.tokens ≡ self.old.tokens }
         ensures err { OnErr result (self.new.stored ≡ after_failed ticket.number self.old.stored) }
     {

@@ -94,7 +94,7 @@ fn places_of(alloc: Global, manager: &Manager<Free>, selector: &[u8]) -> Result<
 fn manager_entitled(rt: HostRuntime) -> Result<(), Fail> {
     let alloc = rt.alloc();
     let manager = Manager::<Free>::start(alloc, DOC)?;
-    assert_eq!(rt; manager.index().entries().len(), 1);
+    assert_eq!(rt; manager.index().part().entries().len(), 1);
     let owned = places_of(alloc, &manager, b"unix:uid:1")?;
     assert_eq!(rt; owned.len(), 1);
     assert!(rt; owned.get(0) == Some(&0));

@@ -71,7 +71,11 @@ impl Index {
         requires few { length entries.now < 2 ^ 32 }
         ensures { IfOk result (λ index. index ≡ entries.now) }
     {
-        let index = index_with(alloc, share_all(alloc, entries)?.into_vec(), self.postings.as_slice())?;
+        let index = index_with(
+            alloc,
+            share_all(alloc, entries)?.into_vec(),
+            self.postings.as_slice(),
+        )?;
         Ok(index)
     }
 

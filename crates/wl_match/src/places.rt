@@ -11,10 +11,10 @@ ghost use Rattle.wl_match.specs.Indexes.{entitled_places};
 ghost use Rattle.wl_match.specs.Postings.{is_hit, ids_at, posting_key, IsIndex};
 
 use crate::postings::{Posting, ids_at};
+use sorted_lists::place_by_key;
 use std::alloc::Global;
 use std::collections::BTreeSet;
 use wl_entry::Entry;
-use sorted_lists::place_by_key;
 use wl_octets::{Memory, Octets, Row, Shared};
 use wl_selector::Selectors;
 

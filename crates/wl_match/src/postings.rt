@@ -9,10 +9,10 @@ ghost use Rattle.std.specs.Cmp.Lexicographic.{slice_cmp};
 ghost use Rattle.list_laws.specs.Lists.{Rises};
 ghost use Rattle.wl_match.specs.Postings.{posting_key, posting_of, first_text, ids_under, ids_at};
 
+use sorted_lists::{Keyed, find_by_key};
 use std::alloc::Global;
 use std::collections::BTreeMap;
 use wl_entry::Entry;
-use sorted_lists::{Keyed, find_by_key};
 use wl_octets::{Memory, Octets, Row, Shared};
 
 /// The ids of the entries that are filed under a selector.
@@ -59,7 +59,10 @@ fn file(
 }
 
 /// The ids of the entries, by the selector under which each is filed.
-fn file_all(alloc: Global, entries: &[Shared<Entry>]) -> Result<BTreeMap<Octets, Row<Octets>>, Memory>
+fn file_all(
+    alloc: Global,
+    entries: &[Shared<Entry>],
+) -> Result<BTreeMap<Octets, Row<Octets>>, Memory>
     ensures { IfOk result (λ groups. (q : List ℕ) → unwrap_or (btree.get (slice_cmp nat_cmp) groups q) [] ≡ ids_under q entries.now) }
 {
     let mut groups = BTreeMap::new(alloc);
@@ -70,7 +73,11 @@ fn file_all(alloc: Global, entries: &[Shared<Entry>]) -> Result<BTreeMap<Octets,
 }
 
 /// A posting to share: one of these, where it is among them.
-fn share_posting(alloc: Global, fresh: Posting, old: &[Shared<Posting>]) -> Result<Shared<Posting>, Memory>
+fn share_posting(
+    alloc: Global,
+    fresh: Posting,
+    old: &[Shared<Posting>],
+) -> Result<Shared<Posting>, Memory>
     requires { Rises (map posting_key old.now) }
     ensures { IfOk result (λ p. p ≡ fresh) }
 {

@@ -159,7 +159,7 @@ fn view_with(alloc: Global, snapshot: &Snapshot, entries: &[Shared<Entry>]) -> R
     let domain = snapshot.domain.copy(alloc)?;
     let bundles = bundles_in(
         alloc,
-        snapshot.bundles.as_slice(),
+        snapshot.bundles.part().as_slice(),
         domain.as_bytes(),
         entries,
     )?;
@@ -176,7 +176,7 @@ fn view_with(alloc: Global, snapshot: &Snapshot, entries: &[Shared<Entry>]) -> R
 pub fn view(alloc: Global, snapshot: &Snapshot, selectors: &Selectors) -> Result<View, Memory>
     ensures { IfOk result (λ v. v ≡ view_in snapshot.now selectors.now) }
 {
-    let entries = entitled_in(alloc, snapshot.entries.as_slice(), selectors)?;
+    let entries = entitled_in(alloc, snapshot.entries.part().as_slice(), selectors)?;
     view_with(alloc, snapshot, entries.as_slice())
 }
 
@@ -223,6 +223,6 @@ pub fn view_of(alloc: Global, snapshot: &Snapshot, places: &[u32]) -> Result<Vie
     requires there { All (λ place. place < length snapshot.now.entries) places.now }
     ensures { IfOk result (λ v. v ≡ sight_of snapshot.now (entries_at snapshot.now.entries places.now)) }
 {
-    let entries = pick_all(alloc, snapshot.entries.as_slice(), places)?;
+    let entries = pick_all(alloc, snapshot.entries.part().as_slice(), places)?;
     view_with(alloc, snapshot, entries.as_slice())
 }

@@ -6,15 +6,16 @@ use wl_entry::{Bundle, Entry, Svid};
 use wl_octets::{Row, Shared};
 
 /// A publication: its number, the entries by ascending id, the kept SVIDs by ascending entry id and the bundles by
-/// ascending domain. Each SVID's ask is the ask of an entry in it. It shares what did not change with others.
+/// ascending domain. Each SVID's ask is the ask of an entry in it. It shares what did not change with others, the whole
+/// list where nothing in it did.
 #[derive(Drop)]
 pub struct Snapshot {
     pub number: u64,
     /// The own trust domain.
     pub domain: TrustDomain,
-    pub entries: Row<Shared<Entry>>,
+    pub entries: Shared<Row<Shared<Entry>>>,
     pub svids: Row<Shared<Svid>>,
-    pub bundles: Row<Shared<Bundle>>,
+    pub bundles: Shared<Row<Shared<Bundle>>>,
 }
 
 impl Model for Snapshot {

@@ -3,3 +3,5 @@ pub mod Grouping
 pub mod Publications
 pub mod Sames
 pub mod Settling
+pub mod Touching
+pub mod Unmarked

@@ -31,7 +31,7 @@ ask_at_go : (e : Entry) (rest : Option Entry) (found : Option Ask) (b : Bool) �
 ask_at_go e rest found true same = refl
 ask_at_go e rest found false same = same
 
-ask_at : (entries : List Entry) (k : List ℕ) → item_at ask_key (asks_of entries) k ≡ option_map ask_of (item_at entry_key entries k)
+pub ask_at : (entries : List Entry) (k : List ℕ) → item_at ask_key (asks_of entries) k ≡ option_map ask_of (item_at entry_key entries k)
 unfolding item_at
 ask_at [] k = refl
 ask_at (e ∷ es) k = ask_at_go e (item_at entry_key es k) (item_at ask_key (asks_of es) k) (bytes_eq e.id k) (ask_at es k)

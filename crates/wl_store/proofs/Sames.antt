@@ -1,7 +1,7 @@
 -- A publication shows its own parts.
 use Rattle.std.specs.Prelude.{◌≡◌, ◌&&◌, Bool, true, false, List}
 use Rattle.std.specs.Cmp.Lexicographic.{pointwise}
-use Rattle.std.proofs.Common.{arith, refl}
+use Rattle.std.proofs.Common.{refl, ◌∙◌}
 use Rattle.wl_entry.specs.declared.entries.Entry.{Entry}
 use Rattle.wl_entry.specs.declared.bundles.Bundle.{Bundle}
 use Rattle.wl_entry.specs.declared.signing.Svid.{Svid}
@@ -14,11 +14,13 @@ use Rattle.wl_store.specs.Stores.{shows_parts}
 pub shows_itself : (p : Publication) → shows_parts p p.entries p.svids p.bundles ≡ true
 shows_itself p = both_true _ _ (list_self same_entry entry_self p.entries) (both_true _ _ (list_self same_svid svid_self p.svids) (list_self same_bundle bundle_self p.bundles))
 
-no_other : (a b c : Bool) → b ≡ false → (a && (b && c)) ≡ false
-no_other true true c is = grind (arith, is)
-no_other true false c is = refl
-no_other false b c is = refl
+shows_go : (a b c : Bool) → a ≡ true → c ≡ true → (a && (b && c)) ≡ b
+shows_go true true true own also = refl
+shows_go true false c own also = refl
+shows_go true true false own also = also
+shows_go false b c own also = cc own
 
--- it does not show other SVIDs
-pub shows_no_other : (p : Publication) (entries : List Entry) (svids : List Svid) (bundles : List Bundle) → pointwise same_svid p.svids svids ≡ false → shows_parts p entries svids bundles ≡ false
-shows_no_other p entries svids bundles other = no_other (pointwise same_entry p.entries entries) (pointwise same_svid p.svids svids) (pointwise same_bundle p.bundles bundles) other
+-- with its own entries and bundles it shows those SVIDs that are its own
+pub shows_svids : (p : Publication) (entries : List Entry) (bundles : List Bundle) (svids : List Svid) → entries ≡ p.entries → bundles ≡ p.bundles → shows_parts p entries svids bundles ≡ pointwise same_svid p.svids svids
+shows_svids p entries bundles svids are also =
+    (λ i. shows_parts p (are i) svids (also i)) ∙ shows_go (pointwise same_entry p.entries p.entries) (pointwise same_svid p.svids svids) (pointwise same_bundle p.bundles p.bundles) (list_self same_entry entry_self p.entries) (list_self same_bundle bundle_self p.bundles)

@@ -1,5 +1,5 @@
 -- What a step leaves is the step of the definitions.
-use Rattle.std.specs.Prelude.{◌≡◌, ℕ, ◌+◌, ◌<◌, ◌≤◌, ◌&&◌, Bool, true, false, nat_le, if◌then◌else◌, List, [], ◌∷◌, ◌++◌, filter, find, length, Option, Some, None, unwrap_or}
+use Rattle.std.specs.Prelude.{◌≡◌, ℕ, ◌+◌, ◌==◌, ◌<◌, ◌≤◌, ◌&&◌, Bool, true, false, nat_le, if◌then◌else◌, List, [], ◌∷◌, ◌++◌, filter, find, length, Option, Some, None, unwrap_or}
 use Rattle.std.specs.Str.{bytes_eq}
 use Rattle.std.specs.List.{AllByRecursion}
 use Rattle.std.specs.Ordering.{nat_cmp, is_lt}
@@ -22,16 +22,17 @@ use Rattle.wl_entry.specs.declared.entries.Entry.{Entry}
 use Rattle.wl_entry.specs.declared.bundles.Bundle.{Bundle}
 use Rattle.wl_entry.specs.declared.signing.Svid.{Svid}
 use Rattle.wl_snapshot.specs.Snapshots.{Publication}
-use Rattle.wl_store.specs.Stores.{Store, asks_of, cached_of, refusal, install, svids_after, as_unfit, leaf_judged, shows, shows_parts, publish}
+use Rattle.wl_store.specs.Stores.{Store, asks_of, cached_of, refusal, install, svids_after, as_unfit, leaf_judged, shows, shows_parts, publish, after_signed, with_entries, without_flight}
+use Rattle.wl_store.specs.declared.tickets.Flight.{Flight}
 use Rattle.svid_cache.specs.Caches.{Cached, is_listed, kept_for, with_svid, is_below, is_above, unless_older, unless_unfit}
 use Rattle.wl_store.specs.declared.tickets.Change.TheVariants as change
-use Rattle.wl_store.specs.Steps.{Stored, stored_after, stored_of, change_to, cached_in, Trusted, AllTrusted, is_refused, IsInstalled}
+use Rattle.wl_store.specs.Steps.{Stored, stored_after, stored_of, change_to, cached_in, Trusted, AllTrusted, is_refused, with_parts, IsInstalled}
 use Rattle.std.proofs.lemmas.Bool.{and_parts}
-use Rattle.wl_entry.proofs.Sames.{entries_are, svids_are, bundles_are, ask_self}
+use Rattle.wl_entry.proofs.Sames.{entries_are, svids_are, bundles_are, ask_self, svid_self, list_self}
 use Rattle.wl_store.proofs.Sames.{shows_itself}
 
 -- where the last publication shows what is kept
-pub settled_same : (s : Store) (m : Stored) → shows_parts m.published s.entries s.svids s.bundles ≡ true → stored s.strict m.published s.in_flight s.last_ticket ≡ stored_after s m
+pub settled_same : (s : Store) (m : Stored) → shows_parts m.published s.entries s.svids s.bundles ≡ true → stored_of s.strict m.published s.in_flight s.last_ticket ≡ stored_after s m
 unfolding shows
 settled_same s m is =
     let entries = and_parts (pointwise same_entry m.published.entries s.entries) _ is in
@@ -40,7 +41,7 @@ settled_same s m is =
     ∙ (λ i. record { store = s; published = if sym is i then m.published else publish (m.published.number + 1) m.published.domain s })
 
 -- where it does not
-pub settled_new : (s : Store) (m : Stored) → shows_parts m.published s.entries s.svids s.bundles ≡ false → stored s.strict (publish (m.published.number + 1) m.published.domain s) s.in_flight s.last_ticket ≡ stored_after s m
+pub settled_new : (s : Store) (m : Stored) → shows_parts m.published s.entries s.svids s.bundles ≡ false → stored_of s.strict (publish (m.published.number + 1) m.published.domain s) s.in_flight s.last_ticket ≡ stored_after s m
 unfolding shows
 settled_new s m is = λ i. record { store = s; published = if sym is i then m.published else publish (m.published.number + 1) m.published.domain s }
 
@@ -180,18 +181,21 @@ stays (installed.Unfit u) v svids away = refl
 stays (installed.Older x) v svids away = refl
 stays installed.Spent v svids away = refl
 
+self_same : (svids : List Svid) (other : List Svid) (i : Installed) → is_refused i ≡ true → other ≡ svids → is_refused i ≡ pointwise same_svid svids other
+self_same svids other i away same = away ∙ sym (subst (λ l. pointwise same_svid svids l ≡ true) (sym same) (list_self same_svid svid_self svids))
+
 pub refusal_gives : (signed : Ask → Signed → Type 0) (now : ℕ) (s : Store) (v : Svid) (r : Installed) (c : Cached) → AllTrusted signed s.strict s.svids → refusal now v.ask v.signed s ≡ Some r → c ≡ cached_of s → IsInstalled signed s v r c
 refusal_gives signed now s v r c trusted is same =
     let away : is_refused r ≡ true = refusal_is now v.ask v.signed s r is in
     subst (λ k. IsInstalled signed s v r k) (sym same)
-    (record { asks = refl; svids = sym (stays r v s.svids away); trusted = trusted; same = λ away. refl; other = λ yes. grind (arith, yes, away) })
+    (record { asks = refl; svids = sym (stays r v s.svids away); trusted = trusted; same = self_same s.svids s.svids r away refl })
 
 gives_go : (signed : Ask → Signed → Type 0) (s : Store) (v : Svid) → AllTrusted signed s.strict s.svids → Trusted signed s.strict v.ask v.signed → (i : Installed) → (i ≡ installed.Kept → unless_older v.signed (kept_for s.svids v.ask) ≡ installed.Kept) → IsInstalled signed s v i (caches.after_install i v (cached_of s))
-gives_go signed s v trusted one installed.Kept kept = record { asks = refl; svids = refl; trusted = put_trusted signed s.strict v s.svids trusted one; same = λ away. grind (arith, away); other = λ yes. put_differs v s.svids (kept refl) }
-gives_go signed s v trusted one installed.NoSuchAsk kept = record { asks = refl; svids = refl; trusted = trusted; same = λ away. refl; other = λ yes. grind (arith, yes) }
-gives_go signed s v trusted one (installed.Unfit u) kept = record { asks = refl; svids = refl; trusted = trusted; same = λ away. refl; other = λ yes. grind (arith, yes) }
-gives_go signed s v trusted one (installed.Older x) kept = record { asks = refl; svids = refl; trusted = trusted; same = λ away. refl; other = λ yes. grind (arith, yes) }
-gives_go signed s v trusted one installed.Spent kept = record { asks = refl; svids = refl; trusted = trusted; same = λ away. refl; other = λ yes. grind (arith, yes) }
+gives_go signed s v trusted one installed.Kept kept = record { asks = refl; svids = refl; trusted = put_trusted signed s.strict v s.svids trusted one; same = sym (put_differs v s.svids (kept refl)) }
+gives_go signed s v trusted one installed.NoSuchAsk kept = record { asks = refl; svids = refl; trusted = trusted; same = self_same s.svids s.svids installed.NoSuchAsk refl refl }
+gives_go signed s v trusted one (installed.Unfit u) kept = record { asks = refl; svids = refl; trusted = trusted; same = self_same s.svids s.svids (installed.Unfit u) refl refl }
+gives_go signed s v trusted one (installed.Older x) kept = record { asks = refl; svids = refl; trusted = trusted; same = self_same s.svids s.svids (installed.Older x) refl refl }
+gives_go signed s v trusted one installed.Spent kept = record { asks = refl; svids = refl; trusted = trusted; same = self_same s.svids s.svids installed.Spent refl refl }
 
 older_kept : (now : ℕ) (v : Svid) (s : Store) → refusal now v.ask v.signed s ≡ None → install now v.ask v.signed s ≡ unless_older v.signed (kept_for s.svids v.ask)
 unfolding install
@@ -200,3 +204,28 @@ older_kept now v s none = λ i. unwrap_or (none i) (unless_older v.signed (kept_
 pub install_gives : (signed : Ask → Signed → Type 0) (now : ℕ) (s : Store) (v : Svid) (i : Installed) (c : Cached) → AllTrusted signed s.strict s.svids → Trusted signed s.strict v.ask v.signed → refusal now v.ask v.signed s ≡ None → i ≡ install now v.ask v.signed s → c ≡ caches.after_install i v (cached_of s) → IsInstalled signed s v i c
 install_gives signed now s v i c trusted one none is same =
     subst (λ k. IsInstalled signed s v i k) (sym same) (gives_go signed s v trusted one i (λ kept. sym (older_kept now v s none) ∙ (sym is ∙ kept)))
+
+-- ---- a sweep
+
+swept_go : (b : Bool) (svids left : List Svid) → (b ≡ true → left ≡ svids) → (b ≡ false → length left < length svids) → b ≡ pointwise same_svid svids left
+swept_go true svids left same less = sym (subst (λ l. pointwise same_svid svids l ≡ true) (sym (same refl)) (list_self same_svid svid_self svids))
+swept_go false svids left same less = sym (other_length same_svid svids left (less refl))
+
+-- whether as many SVIDs are left as there were
+pub sweep_same : (keep : Svid → Bool) (svids : List Svid) (count : ℕ) → count + length (filter keep svids) ≡ length svids → (count == 0) ≡ pointwise same_svid svids (filter keep svids)
+sweep_same keep svids count long =
+    swept_go (count == 0) svids (filter keep svids) (λ none. all_left keep svids (grind (arith, nat_tests, none, long))) (λ some. grind (arith, nat_tests, some, long))
+
+-- ---- the parts of a step are those of its definition
+
+pub signed_parts : (now n : ℕ) (s : Store) (v : Svid) (i : Installed) (entries : List Entry) (bundles : List Bundle) (svids : List Svid) (in_flight : List Flight) (last : ℕ) → entries ≡ s.entries → bundles ≡ s.bundles → svids ≡ svids_after i v s.svids → i ≡ install now v.ask v.signed s → in_flight ≡ without_flight n s.in_flight → last ≡ s.last_ticket
+    → with_parts entries bundles svids in_flight last s ≡ after_signed now n v.ask v.signed s
+unfolding after_signed
+signed_parts now n s v i entries bundles svids in_flight last es bs left is flights number =
+    λ j. record { strict = s.strict; entries = es j; bundles = bs j; svids = (left ∙ ap (λ r. svids_after r v s.svids) is) j; in_flight = flights j; last_ticket = number j }
+
+pub synced_parts : (s : Store) (entries given : List Entry) (bundles also : List Bundle) (svids : List Svid) (in_flight : List Flight) (last : ℕ) → entries ≡ given → bundles ≡ also → svids ≡ (caches.with_asks (asks_of given) (cached_of s)).svids → in_flight ≡ s.in_flight → last ≡ s.last_ticket
+    → with_parts entries bundles svids in_flight last s ≡ with_entries given also s
+unfolding with_entries
+synced_parts s entries given bundles also svids in_flight last es bs left flights number =
+    λ j. record { strict = s.strict; entries = es j; bundles = bs j; svids = left j; in_flight = flights j; last_ticket = number j }

@@ -1,4 +1,5 @@
 pub mod Stores
 pub mod Flights
 pub mod Steps
+pub mod Touched
 pub mod Groups

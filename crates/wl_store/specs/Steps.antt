@@ -80,13 +80,12 @@ is_refused installed.Kept = false
 is_refused _ = true
 
 -- the cache after Install has answered: its asks stay, its SVIDs are those that Install leaves and are trusted; they
--- are others exactly where the SVID is kept
+-- are the same exactly where the SVID is not kept
 pub record IsInstalled (signed : Ask → Signed → Type 0) (s : Store) (v : Svid) (i : Installed) (c : Cached) : Type 0 where
   pub asks : c.asks ≡ asks_of s.entries
   pub svids : c.svids ≡ svids_after i v s.svids
   pub trusted : AllTrusted signed s.strict c.svids
-  pub same : is_refused i ≡ true → c.svids ≡ s.svids
-  pub other : is_refused i ≡ false → pointwise same_svid s.svids c.svids ≡ false
+  pub same : is_refused i ≡ pointwise same_svid s.svids c.svids
 
 -- ---- what the calls answer
 

@@ -1,8 +1,7 @@
-//! Tickets in flight.
+//! Tickets that are issued.
 
-ghost use Rattle.std.specs.Prelude.{◌≡◌, ◌+◌, ◌<◌, ◌^◌, ◌==◌, ◌++◌, not, map, filter, length, IfOk, OnOk, ◌∷◌, []};
-ghost use Rattle.std.specs.List.{list_any};
-ghost use Rattle.wl_store.specs.Stores.{is_in_flight, has_ticket, flights_from, without_flight};
+ghost use Rattle.std.specs.Prelude.{◌≡◌, ◌+◌, ◌<◌, ◌^◌, ◌++◌, not, filter, length, IfOk, OnOk, ◌∷◌, []};
+ghost use Rattle.wl_store.specs.Stores.{is_in_flight, flights_from};
 ghost use Rattle.wl_store.specs.Flights.{flights_of};
 
 use crate::groups::{group_all, has_flight};
@@ -11,23 +10,13 @@ use std::alloc::Global;
 use wl_entry::Ask;
 use wl_octets::{Memory, Row, Shared};
 
-/// Whether a ticket of this number is in flight.
-pub(crate) fn has_number(in_flight: &[Flight], number: u64) -> bool
-    ensures { result ≡ list_any (λ f. f.number == number) in_flight.now }
-{
-    in_flight.iter().any(|flight| flight.number == number)
-}
-
-/// Whether the ticket is in flight.
-pub(crate) fn has_ticket(in_flight: &[Flight], ticket: &Ticket) -> bool
-    ensures { result ≡ has_ticket ticket.now.number ticket.now.ask in_flight.now }
-{
-    in_flight.iter().any(|flight| flight.number == ticket.number && *flight.ask.part() == ticket.ask)
-}
-
 /// The asks that have no ticket in flight. The flights are grouped by entry first, so that no ask is looked for among
 /// all of them.
-pub(crate) fn without_in_flight(alloc: Global, asks: &[Ask], in_flight: &[Flight]) -> Result<Row<Ask>, Memory>
+pub(crate) fn without_in_flight(
+    alloc: Global,
+    asks: &[Ask],
+    in_flight: &[Flight],
+) -> Result<Row<Ask>, Memory>
     ensures { IfOk result (λ r. r ≡ filter (λ a. not (is_in_flight in_flight.now a)) asks.now) }
 {
     let groups = group_all(alloc, in_flight)?;
@@ -38,21 +27,6 @@ pub(crate) fn without_in_flight(alloc: Global, asks: &[Ask], in_flight: &[Flight
         }
     }
     Ok(Row::from_vec(left))
-}
-
-/// A copy of the flights.
-pub(crate) fn share_flights(alloc: Global, in_flight: &[Flight]) -> Result<Vec<Flight>, Memory>
-    ensures { IfOk result (λ v. v.items ≡ in_flight.now) }
-{
-    let mut shared = Vec::with_capacity(alloc, in_flight.len())?;
-    for flight in in_flight {
-        let ask = flight.ask.share()?;
-        shared.push(Flight {
-            number: flight.number,
-            ask,
-        })?;
-    }
-    Ok(shared)
 }
 
 /// Adds one flight for each ask, numbered from the last number on.
@@ -109,18 +83,6 @@ fn push_ticket(
         Err((ticket, memory)) => {
             ticket.abandon();
             Err(memory)
-        }
-    }
-}
-
-/// Takes out the first flight of this number.
-pub(crate) fn remove_flight(in_flight: &mut Vec<Flight>, number: u64)
-    ensures { in_flight.new.items ≡ without_flight number in_flight.old.items }
-{
-    for i in 0..in_flight.len() {
-        if in_flight[i].number == number {
-            let _ = in_flight.remove(i);
-            return;
         }
     }
 }

@@ -9,12 +9,16 @@
 mod claiming;
 mod flights;
 mod groups;
-mod signing_result;
+mod in_flight;
 mod lists;
 mod preparing;
 mod publishing;
+mod signing_result;
+mod stock;
 mod store;
+mod syncing;
 mod tickets;
+mod touched;
 
 pub use preparing::Prepared;
 pub use store::Store;

@@ -4,13 +4,12 @@ ghost use Rattle.std.specs.Prelude.{◌≡◌, ◌≤◌, [], map, length, IfOk}
 ghost use Rattle.list_laws.specs.Lists.{Rises};
 ghost use Rattle.wl_entry.specs.Asks.{ask_of};
 ghost use Rattle.wl_entry.specs.Keys.{entry_key, bundle_key};
-ghost use Rattle.svid_cache.specs.Caches.{with_asks};
 ghost use Rattle.wl_store.specs.Stores.{asks_of};
 
+use sorted_lists::find_by_key;
 use std::alloc::Global;
 use svid_cache::Cache;
 use wl_entry::{Ask, Bundle, Entry, Svid};
-use sorted_lists::find_by_key;
 use wl_match::Index;
 use wl_octets::{Memory, Row, Shared};
 
@@ -93,20 +92,6 @@ pub(crate) fn share_bundles(
     Ok(Row::from_vec(shared))
 }
 
-/// The parts, shared.
-pub(crate) fn share_all<T: Drop>(
-    alloc: Global,
-    parts: &[Shared<T>],
-) -> Result<Row<Shared<T>>, Memory>
-    ensures { IfOk result (λ r. r ≡ parts.now) }
-{
-    let mut shared = Vec::with_capacity(alloc, parts.len())?;
-    for part in parts {
-        shared.push(part.share()?)?;
-    }
-    Ok(Row::from_vec(shared))
-}
-
 /// The index of these entries, to be shared.
 pub(crate) fn index_of(alloc: Global, entries: &[Shared<Entry>]) -> Result<Shared<Index>, Memory>
     requires rises { Rises (map entry_key entries.now) }
@@ -127,20 +112,4 @@ pub(crate) fn cache_of(alloc: Global, entries: &[Entry]) -> Result<Shared<Cache>
     let asks = asks_for(alloc, entries)?;
     cache.sync(alloc, asks)?;
     Ok(Shared::new(alloc, cache)?)
-}
-
-/// The cache with the asks of these entries.
-pub(crate) fn cache_with(
-    alloc: Global,
-    cache: &Cache,
-    entries: &[Entry],
-) -> Result<Shared<Cache>, Memory>
-    requires rises { Rises (map entry_key entries.now) }
-    requires few { length entries.now ≤ 10000 }
-    ensures { IfOk result (λ c. c ≡ with_asks (asks_of entries.now) cache.now) }
-{
-    let mut next = cache.copy(alloc)?;
-    let asks = asks_for(alloc, entries)?;
-    next.sync(alloc, asks)?;
-    Ok(Shared::new(alloc, next)?)
 }

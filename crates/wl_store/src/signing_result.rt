@@ -1,22 +1,41 @@
 //! Tickets that come back with a signed identity.
 
-ghost use Rattle.std.specs.Prelude.{◌≡◌, true, false, [], unwrap_or, Ok, None, Some, IfOk, OnOk, OnErr};
-ghost use Rattle.std.specs.Cmp.Lexicographic.{pointwise};
-ghost use Rattle.wl_entry.specs.Same.{same_svid};
+ghost use Rattle.std.specs.Prelude.{◌≡◌, true, false, if◌then◌else◌, [], ◌∷◌, unwrap_or, Ok, None, Some, IfOk, OnOk, OnErr};
 ghost use Rattle.wl_x509.specs.Leaves.{NamesAsk};
-ghost use Rattle.wl_store.specs.Steps.{stored_after, change_to, after_failed, with_parts, AllTrusted, Trusted, IsInstalled, is_refused};
-ghost use Rattle.wl_store.specs.Stores.{asks_of, cached_of, has_ticket, after_signed, install, leaf_judged, refusal, svids_after, without_flight};
+ghost use Rattle.wl_store.specs.Steps.{stored_after, change_to, after_failed, IsInstalled, is_refused};
+ghost use Rattle.wl_store.specs.Stores.{cached_of, has_ticket, after_signed, install, leaf_judged, refusal};
+ghost use Rattle.wl_store.specs.Touched.{SameBut};
 ghost use Rattle.svid_cache.specs.Caches.{after_install};
 
-use crate::flights::{has_ticket, remove_flight};
 use crate::preparing::Prepared;
 use crate::store::Store;
-use crate::tickets::{Adopted, Change, Flight, Ticket, abandon_all};
+use crate::tickets::{Adopted, Change, Ticket, abandon_all};
 use std::alloc::Global;
 use svid_cache::{Cache, Installed};
 use wl_entry::{Ask, Signed, Svid, Unfit, Voucher};
-use wl_octets::{Memory, Row, Shared};
+use wl_octets::{Memory, Octets, Row, Shared};
 use wl_x509::leaf_unfit;
+
+/// Whether it was not kept.
+fn is_refused(installed: &Installed) -> bool
+    ensures { result ≡ is_refused installed.now }
+{
+    match installed {
+        Installed::Kept => false,
+        _ => true,
+    }
+}
+
+/// The id of the entry that a signing touches: none, where nothing is kept.
+fn id_touched(alloc: Global, id: Octets, is_same: bool) -> Result<Row<Octets>, Memory>
+    ensures { IfOk result (λ ids. ids ≡ (if is_same then [] else id ∷ [])) }
+{
+    let mut ids = Row::empty(alloc);
+    if !is_same {
+        ids.push(id)?;
+    }
+    Ok(ids)
+}
 
 impl<V: Voucher> Store<V> {
     /// The first reason that the leaf gives, in a strict store.
@@ -55,9 +74,17 @@ impl<V: Voucher> Store<V> {
             None => Ok(None),
         }
     }
-}
 
-impl<V: Voucher> Store<V> {
+    /// This cache, or else the store's own.
+    fn cache_or_own(&self, alloc: Global, next: Option<Cache>) -> Result<Shared<Cache>, Memory>
+        ensures { IfOk result (λ c. c ≡ unwrap_or next (cached_of self.now.store)) }
+    {
+        match next {
+            Some(next) => Ok(Shared::new(alloc, next)?),
+            None => self.cache.share(),
+        }
+    }
+
     /// The cache with an SVID against which nothing stands yet, and what became of it.
     fn install_cache(
         &self,
@@ -69,9 +96,9 @@ impl<V: Voucher> Store<V> {
         ensures answer { IfOk result (λ r. r.1 ≡ install now svid.ask svid.signed self.now.store) }
         ensures cache { IfOk result (λ r. r.0 ≡ after_install r.1 svid (cached_of self.now.store)) }
     {
-        let mut cache = self.kept().copy(alloc)?;
-        let installed = cache.install(alloc, svid, now)?;
-        Ok((Shared::new(alloc, cache)?, installed))
+        let (next, installed) = self.kept().prepare_install(alloc, svid, now)?;
+        let cache = self.cache_or_own(alloc, next)?;
+        Ok((cache, installed))
     }
 
     /// The cache as it is, where a signed identity is refused.
@@ -108,44 +135,46 @@ impl<V: Voucher> Store<V> {
         }
     }
 
-    /// The tickets in flight without the first of this number.
-    fn fewer_flights(&self, alloc: Global, number: u64) -> Result<Vec<Flight>, Memory>
-        ensures { IfOk result (λ v. v.items ≡ without_flight number self.now.store.in_flight) }
-    {
-        let mut in_flight = self.flights(alloc)?;
-        remove_flight(&mut in_flight, number);
-        Ok(in_flight)
-    }
-
     /// The step of a ticket in flight that comes back with a signed identity.
     #[tactic(auto, unfolding(crate::specs::Stores::after_signed))]
     fn signed_step(
         &self,
         alloc: Global,
-        ticket: &Ticket,
-        signed: &Signed,
+        number: u64,
+        svid: Svid,
         now: u64,
     ) -> Result<Prepared<V>, Memory>
-        requires { V.signed ticket.now.ask signed.now }
-        ensures next { IfOk result (λ p. p.next ≡ stored_after (after_signed now ticket.now.number ticket.now.ask signed.now self.now.store) self.now) }
-        ensures change { IfOk result (λ p. p.answer.change ≡ change_to (after_signed now ticket.now.number ticket.now.ask signed.now self.now.store) self.now) }
+        requires { V.signed svid.ask svid.signed }
+        ensures next { IfOk result (λ p. p.next ≡ stored_after (after_signed now number svid.ask svid.signed self.now.store) self.now) }
+        ensures change { IfOk result (λ p. p.answer.change ≡ change_to (after_signed now number svid.ask svid.signed self.now.store) self.now) }
         ensures tickets { IfOk result (λ p. p.answer.tickets ≡ []) }
-        ensures installed { IfOk result (λ p. p.answer.installed ≡ Some (install now ticket.now.ask signed.now self.now.store)) }
+        ensures installed { IfOk result (λ p. p.answer.installed ≡ Some (install now svid.ask svid.signed self.now.store)) }
+        ensures touched { IfOk result (λ p. SameBut p.answer.touched self.now.published p.next.published) }
     {
-        let svid = Svid {
-            ask: ticket.ask.copy(alloc)?,
-            signed: signed.copy(alloc)?,
-        };
-        let in_flight = self.fewer_flights(alloc, ticket.number)?;
+        // a field that is read tells the proof what the type keeps
+        let _ = &self.last_ticket;
+        let mut in_flight = self.copy_flights(alloc)?;
+        in_flight.remove(number);
+        let id = svid.ask.entry_id.copy(alloc)?;
         let (cache, installed) = self.installed_cache(alloc, svid, now)?;
         let is_same = is_refused(&installed);
-        let (next, change) = self.settle_svids(alloc, cache, is_same, in_flight, self.last_number())?;
+        let touched = id_touched(alloc, id, is_same)?;
+        let stock = self.shared_stock()?;
+        let (next, change) = self.settle(
+            alloc,
+            stock,
+            cache,
+            is_same,
+            in_flight,
+            self.last_number(),
+        )?;
         Ok(Prepared {
             next,
             answer: Adopted {
                 change,
                 tickets: Row::empty(alloc),
                 installed: Some(installed),
+                touched,
             },
         })
     }
@@ -156,17 +185,29 @@ impl<V: Voucher> Store<V> {
         ensures change { IfOk result (λ p. p.answer.change ≡ Change.Same) }
         ensures tickets { IfOk result (λ p. p.answer.tickets ≡ []) }
         ensures installed { IfOk result (λ p. p.answer.installed ≡ Some Installed.Spent) }
+        ensures touched { IfOk result (λ p. p.answer.touched ≡ []) }
     {
         let cache = self.cache.share()?;
-        let in_flight = self.flights(alloc)?;
-        let next = self.keep_published(cache, in_flight, self.last_ticket)?;
+        let in_flight = self.copy_flights(alloc)?;
+        let next = self.keep_published(cache, in_flight, self.last_number())?;
         Ok(Prepared {
             next,
             answer: Adopted {
                 change: Change::Same,
                 tickets: Row::empty(alloc),
                 installed: Some(Installed::Spent),
+                touched: Row::empty(alloc),
             },
+        })
+    }
+
+    /// A copy of the ask and the identity, as an SVID.
+    fn copy_svid(&self, alloc: Global, ask: &Ask, signed: &Signed) -> Result<Svid, Memory>
+        ensures { IfOk result (λ s. s ≡ record { ask = ask.now; signed = signed.now }) }
+    {
+        Ok(Svid {
+            ask: ask.copy(alloc)?,
+            signed: signed.copy(alloc)?,
         })
     }
 
@@ -181,16 +222,22 @@ impl<V: Voucher> Store<V> {
         requires { V.signed ticket.now.ask signed.now }
 
         // A ticket that is not in flight changes nothing.
-        ensures spent { has_ticket ticket.now.number ticket.now.ask self.now.store.in_flight ≡ false → IfOk result (λ p. (p.next ≡ self.now) × (p.answer.change ≡ Change.Same) × (p.answer.installed ≡ Some Installed.Spent)) }
+        ensures spent { has_ticket ticket.now.number ticket.now.ask self.now.store.in_flight ≡ false →
+            IfOk result (λ p. (p.next ≡ self.now) × (p.answer.change ≡ Change.Same) × (p.answer.installed ≡ Some Installed.Spent)) }
 
         // The ticket leaves, and the answer is that of Install.
-        ensures next { has_ticket ticket.now.number ticket.now.ask self.now.store.in_flight ≡ true → IfOk result (λ p. p.next ≡ stored_after (after_signed now ticket.now.number ticket.now.ask signed.now self.now.store) self.now) }
-        ensures change { has_ticket ticket.now.number ticket.now.ask self.now.store.in_flight ≡ true → IfOk result (λ p. p.answer.change ≡ change_to (after_signed now ticket.now.number ticket.now.ask signed.now self.now.store) self.now) }
-        ensures installed { has_ticket ticket.now.number ticket.now.ask self.now.store.in_flight ≡ true → IfOk result (λ p. p.answer.installed ≡ Some (install now ticket.now.ask signed.now self.now.store)) }
+        ensures next { has_ticket ticket.now.number ticket.now.ask self.now.store.in_flight ≡ true → IfOk result (λ p. p.next
+            ≡ stored_after (after_signed now ticket.now.number ticket.now.ask signed.now self.now.store) self.now) }
+        ensures change { has_ticket ticket.now.number ticket.now.ask self.now.store.in_flight ≡ true → IfOk result (λ p. p.answer.change
+            ≡ change_to (after_signed now ticket.now.number ticket.now.ask signed.now self.now.store) self.now) }
+        ensures installed { has_ticket ticket.now.number ticket.now.ask self.now.store.in_flight ≡ true → IfOk result (λ p. p.answer.installed
+            ≡ Some (install now ticket.now.ask signed.now self.now.store)) }
         ensures tickets { IfOk result (λ p. p.answer.tickets ≡ []) }
+        ensures touched { IfOk result (λ p. SameBut p.answer.touched self.now.published p.next.published) }
     {
-        if has_ticket(self.in_flight.as_slice(), ticket) {
-            let prepared = self.signed_step(alloc, ticket, signed, now)?;
+        if self.in_flight.has_ticket(ticket) {
+            let svid = self.copy_svid(alloc, &ticket.ask, signed)?;
+            let prepared = self.signed_step(alloc, ticket.number, svid, now)?;
             Ok(prepared)
         } else {
             let prepared = self.unchanged(alloc)?;
@@ -200,6 +247,7 @@ impl<V: Voucher> Store<V> {
 
     /// Takes a ticket back with a signed identity, which has to be vouched for the ticket's ask, and tells what became
     /// of it. The ticket is spent in each case; if memory runs out nothing else changes.
+    #[tactic(auto, unfolding(crate::specs::Stores::without_ticket))]
     pub fn signed(
         &mut self,
         alloc: Global,
@@ -210,24 +258,25 @@ impl<V: Voucher> Store<V> {
         requires { V.signed ticket.ask signed }
 
         // A ticket that is not in flight changes nothing.
-        ensures spent { has_ticket ticket.number ticket.ask self.old.store.in_flight ≡ false → (result ≡ Ok Installed.Spent) × (self.new ≡ self.old) }
+        ensures spent { has_ticket ticket.number ticket.ask self.old.store.in_flight ≡ false →
+            (result ≡ Ok Installed.Spent) × (self.new ≡ self.old) }
 
         // The ticket leaves, and the answer is that of Install.
-        ensures ok { has_ticket ticket.number ticket.ask self.old.store.in_flight ≡ true → OnOk result (self.new ≡ stored_after (after_signed now ticket.number ticket.ask signed self.old.store) self.old) }
-        ensures installed { has_ticket ticket.number ticket.ask self.old.store.in_flight ≡ true → IfOk result (λ i. i ≡ install now ticket.ask signed self.old.store) }
+        ensures ok { has_ticket ticket.number ticket.ask self.old.store.in_flight ≡ true → OnOk result
+            (self.new ≡ stored_after (after_signed now ticket.number ticket.ask signed self.old.store) self.old) }
+        ensures installed { has_ticket ticket.number ticket.ask self.old.store.in_flight ≡ true → IfOk result
+            (λ i. i ≡ install now ticket.ask signed self.old.store) }
         ensures err { OnErr result (self.new ≡ after_failed ticket.number self.old) }
     {
-        if !has_ticket(self.in_flight.as_slice(), &ticket) {
+        if !self.in_flight.has_ticket(&ticket) {
             ticket.abandon();
             return Ok(Installed::Spent);
         }
-        match self.prepare_signed(alloc, &ticket, &signed, now) {
-            Ok(prepared) => {
-                ticket.abandon();
-                Ok(self.take(prepared))
-            }
+        let Ticket { number, ask } = ticket;
+        match self.signed_step(alloc, number, Svid { ask, signed }, now) {
+            Ok(prepared) => Ok(self.take(prepared)),
             Err(memory) => {
-                self.failed(ticket);
+                self.in_flight.remove(number);
                 Err(memory)
             }
         }
@@ -242,21 +291,12 @@ impl<V: Voucher> Store<V> {
             change: _,
             tickets,
             installed,
+            touched: _,
         } = self.adopt(prepared);
         abandon_all(tickets);
         match installed {
             Some(installed) => installed,
             None => Installed::Spent,
         }
-    }
-}
-
-/// Whether it was not kept.
-fn is_refused(installed: &Installed) -> bool
-    ensures { result ≡ is_refused installed.now }
-{
-    match installed {
-        Installed::Kept => false,
-        _ => true,
     }
 }

@@ -1,6 +1,6 @@
 //! The store.
 
-ghost use Rattle.std.specs.Prelude.{◌≡◌, ◌<◌, ◌==◌, [], true, false, filter, length, None, IfOk, IfErr, IsOkAnd};
+ghost use Rattle.std.specs.Prelude.{◌≡◌, ◌<◌, ◌==◌, [], true, false, filter, find, length, option_map, None, IfOk, IfErr, IsOkAnd};
 ghost use Rattle.std.specs.List.{list_any, All};
 ghost use Rattle.std.specs.List.Sorted.{IsStrictlySortedBy};
 ghost use Rattle.std.specs.Ordering.{nat_cmp};
@@ -12,7 +12,7 @@ ghost use Rattle.svid_cache.specs.Caches.{is_listed};
 ghost use Rattle.wl_store.specs.Stores.{asks_of, cached_of, has_ticket};
 ghost use Rattle.wl_store.specs.Steps.{first_stored, after_failed, AllTrusted, IsStock};
 
-use crate::flights::{has_number, has_ticket, remove_flight};
+use crate::in_flight::InFlight;
 use crate::lists::{cache_of, index_of, share_bundles, share_entries};
 use crate::publishing::publication;
 use crate::tickets::{Flight, Ticket};
@@ -34,7 +34,7 @@ pub struct Store<V: Voucher> {
     pub(crate) published: Shared<Snapshot>,
     pub(crate) index: Shared<Index>,
     pub(crate) cache: Shared<Cache>,
-    pub(crate) in_flight: Vec<Flight>,
+    pub(crate) in_flight: InFlight,
     pub(crate) last_ticket: u64,
     pub(crate) of: PhantomData<V>,
 }
@@ -44,7 +44,7 @@ impl<V: Voucher> Model for Store<V> {
 
     ghost Value = { Stored };
 
-    ghost view = { λ m. stored_of m.strict m.published m.in_flight.items m.last_ticket };
+    ghost view = { λ m. stored_of m.strict m.published m.in_flight m.last_ticket };
 
     ghost invariant = { λ m. IsKept V.signed m.strict m.published m.cache m.index };
 }
@@ -105,14 +105,16 @@ impl<V: Voucher> Store<V> {
         let entries = share_entries(alloc, &[], entries)?;
         let bundles = share_bundles(alloc, &[], bundles)?;
         let index = index_of(alloc, entries.as_slice())?;
+        let entries = Shared::new(alloc, entries)?;
+        let bundles = Shared::new(alloc, bundles)?;
         let published = publication(alloc, 0, domain, entries, Row::empty(alloc), bundles)?;
         Ok(Store {
             strict,
             published,
             index,
             cache,
-            in_flight: Vec::new(alloc),
-            last: 0,
+            in_flight: InFlight::from_vec(alloc, Vec::new(alloc))?,
+            last_ticket: 0,
             of: PhantomData,
         })
     }
@@ -125,6 +127,20 @@ impl<V: Voucher> Store<V> {
         self.cache.part()
     }
 
+    /// The number of the last ticket.
+    pub(crate) fn last_number(&self) -> u64
+        ensures { result ≡ self.now.store.last_ticket }
+    {
+        self.last_ticket
+    }
+
+    /// A copy of what is in flight, which shares the list.
+    pub(crate) fn copy_flights(&self, alloc: Global) -> Result<InFlight, Memory>
+        ensures { IfOk result (λ f. f ≡ self.now.store.in_flight) }
+    {
+        self.in_flight.copy(alloc)
+    }
+
     /// The last publication. It takes no memory.
     pub fn snapshot(&self) -> &Shared<Snapshot>
         ensures value { result.now ≡ self.now.published }
@@ -134,10 +150,10 @@ impl<V: Voucher> Store<V> {
     }
 
     /// The index of the entries of the last publication. It takes no memory.
-    pub fn index(&self) -> &Index
+    pub fn index(&self) -> &Shared<Index>
         ensures { result.now ≡ self.now.published.entries }
     {
-        self.index.part()
+        &self.index
     }
 
     /// The places, rising, of exactly the entries of the last publication to which a caller with these selectors is
@@ -148,16 +164,23 @@ impl<V: Voucher> Store<V> {
         ensures rising { IfOk result (IsStrictlySortedBy nat_cmp) }
         ensures there { IfOk result (All (λ place. place < length self.now.published.entries)) }
     {
-        let index = self.index();
-        let places = index.entitled(alloc, selectors)?;
+        let places = self.index().part().entitled(alloc, selectors)?;
         Ok(places)
     }
 
+    /// The first ticket in flight of this number. It takes no memory.
+    pub fn flight(&self, number: u64) -> Option<&Flight>
+        ensures { option_map (λ f. f.now) result ≡ find (λ f. f.number == number) self.now.store.in_flight }
+    {
+        self.in_flight.find(number)
+    }
+
     /// Whether a ticket of this number is in flight. It takes no memory.
+    #[tactic(auto, using(crate::proofs::Unmarked::any_found))]
     pub fn in_flight(&self, number: u64) -> bool
         ensures { result ≡ list_any (λ f. f.number == number) self.now.store.in_flight }
     {
-        has_number(self.in_flight.as_slice(), number)
+        self.flight(number).is_some()
     }
 
     /// The asks of the entries, by ascending entry id. It takes no memory.
@@ -181,8 +204,8 @@ impl<V: Voucher> Store<V> {
         ensures left { has_ticket ticket.number ticket.ask self.old.store.in_flight ≡ true → self.new ≡ after_failed ticket.number self.old }
         ensures other { has_ticket ticket.number ticket.ask self.old.store.in_flight ≡ false → self.new ≡ self.old }
     {
-        if has_ticket(self.in_flight.as_slice(), &ticket) {
-            remove_flight(&mut self.in_flight, ticket.number);
+        if self.in_flight.has_ticket(&ticket) {
+            self.in_flight.remove(ticket.number);
         }
         ticket.abandon();
     }

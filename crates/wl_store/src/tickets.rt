@@ -1,9 +1,12 @@
 //! Tickets, and what the calls of a store answer.
 
+ghost use Rattle.std.specs.Prelude.{◌≡◌, ◌==◌, ◌&&◌, IfOk};
+ghost use Rattle.wl_entry.specs.Same.{same_ask};
+
 use std::alloc::Global;
 use svid_cache::Installed;
 use wl_entry::Ask;
-use wl_octets::{Row, Shared};
+use wl_octets::{Memory, Octets, Row, Shared};
 
 /// What the signer is to be asked for. It is spent when it comes back, and can't be dropped.
 pub struct Ticket {
@@ -35,6 +38,25 @@ pub struct Flight {
     pub ask: Shared<Ask>,
 }
 
+impl Flight {
+    /// The same flight, whose ask has one owner more.
+    pub(crate) fn share(&self) -> Result<Flight, Memory>
+        ensures { IfOk result (λ f. f ≡ self.now) }
+    {
+        Ok(Flight {
+            number: self.number,
+            ask: self.ask.share()?,
+        })
+    }
+
+    /// Whether it is the ticket's: its number and its ask are equal.
+    pub(crate) fn is_of(&self, ticket: &Ticket) -> bool
+        ensures { result ≡ ((self.now.number == ticket.now.number) && same_ask self.now.ask ticket.now.ask) }
+    {
+        self.number == ticket.number && *self.ask.part() == ticket.ask
+    }
+}
+
 /// Whether there is a new publication.
 #[derive(Clone, Copy, Debug, PartialEq, Eq)]
 pub enum Change {
@@ -57,6 +79,8 @@ pub struct Adopted {
     pub tickets: Row<Ticket>,
     /// What became of a signed identity.
     pub installed: Option<Installed>,
+    /// The ids of the entries of which the entry or the SVID may be another than in the last publication.
+    pub touched: Row<Octets>,
 }
 
 impl Adopted {
@@ -66,6 +90,7 @@ impl Adopted {
             change: _,
             tickets,
             installed: _,
+            touched: _,
         } = self;
         abandon_all(tickets);
     }

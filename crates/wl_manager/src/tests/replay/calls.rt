@@ -24,7 +24,7 @@ impl Replay {
         if self.number() == number {
             return Err(Memory);
         }
-        self.say("published in want of memory")
+        self.say("published out of memory")
     }
 
     pub(super) fn sync(&mut self, alloc: Global, document: &[u8]) -> Result<(), Memory> {

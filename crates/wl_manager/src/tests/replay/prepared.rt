@@ -30,6 +30,7 @@ impl Replay {
             change,
             tickets,
             installed,
+            touched: _,
         } = self.manager.adopt(prepared);
         let slips = noted(alloc, tickets)?;
         if self.number_of(change) != number {

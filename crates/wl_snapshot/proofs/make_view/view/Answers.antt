@@ -8,5 +8,5 @@ use Rattle.wl_snapshot.proofs.make_view.view.Goals as goal
 pub view_with-requires : goal.view_with-requires
 view_with-requires c =
     let is = subst IsPublication c.snapshot.view_is c.snapshot.invariant in
-    let entries = c.as_slice-2.ensures.value ∙ c.in_ok-entries.ensures ∙ ap (filter (is_entitled c.args.selectors.now)) (c.as_slice.ensures ∙ ap (λ p. p.entries) c.snapshot.view_is) in
+    let entries = c.as_slice-2.ensures.value ∙ c.in_ok-entries.ensures ∙ ap (filter (is_entitled c.args.selectors.now)) (c.as_slice.ensures ∙ c.part.ensures ∙ ap (λ p. p.entries) c.snapshot.view_is) in
     subst (ChosenFrom c.args.snapshot.now) (sym entries) (chosen_by c.args.snapshot.now (is_entitled c.args.selectors.now) is)

@@ -12,7 +12,7 @@ pub returns-in_ok-both-in-Some-clause-gives : goal.returns-in_ok-both-in-Some-cl
 returns-in_ok-both-in-Some-clause-gives g c =
     let s = c.args.self.now.store in
     let trusted : AllTrusted g.V.Voucher.signed s.strict s.svids = subst (λ m. AllTrusted g.V.Voucher.signed m.store.strict m.store.svids) c.self.view_is c.self.invariant.trusted in
-    let is : refused c.args.now c.args.svid.ask c.args.svid.signed s ≡ Some c.in_ok-both-in-Some.both.1 = sym c.in_ok-refusal.ensures.value ∙ (c.in-Some.is ∙ ap Some (sym c.in_ok-both-in-Some.ensures.answer)) in
+    let is : refusal c.args.now c.args.svid.ask c.args.svid.signed s ≡ Some c.in_ok-both-in-Some.both.1 = sym c.in_ok-refusal.ensures.value ∙ (c.in-Some.is ∙ ap Some (sym c.in_ok-both-in-Some.ensures.answer)) in
     refusal_gives g.V.Voucher.signed c.args.now s c.args.svid c.in_ok-both-in-Some.both.1 c.in_ok-both-in-Some.both.0 trusted is c.in_ok-both-in-Some.ensures.cache
 
 pub returns-in_ok-both-in-None-clause-gives : goal.returns-in_ok-both-in-None-clause-gives
@@ -20,5 +20,5 @@ returns-in_ok-both-in-None-clause-gives g c =
     let s = c.args.self.now.store in
     let trusted : AllTrusted g.V.Voucher.signed s.strict s.svids = subst (λ m. AllTrusted g.V.Voucher.signed m.store.strict m.store.svids) c.self.view_is c.self.invariant.trusted in
     let one : Trusted g.V.Voucher.signed s.strict c.args.svid.ask c.args.svid.signed = (c.requires, c.in_ok-refusal.ensures.named c.in-None.is) in
-    let none : refused c.args.now c.args.svid.ask c.args.svid.signed s ≡ None = sym c.in_ok-refusal.ensures.value ∙ c.in-None.is in
+    let none : refusal c.args.now c.args.svid.ask c.args.svid.signed s ≡ None = sym c.in_ok-refusal.ensures.value ∙ c.in-None.is in
     install_gives g.V.Voucher.signed c.args.now s c.args.svid c.in_ok-both-in-None.both.1 c.in_ok-both-in-None.both.0 trusted one none c.in_ok-both-in-None.ensures.answer c.in_ok-both-in-None.ensures.cache
