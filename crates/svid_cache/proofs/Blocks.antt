@@ -125,9 +125,10 @@ filed_set id svids size zero r f p (x ∷ fs) asks is less rises at filed all =
 filed_set id svids size (suc b) r f p (x ∷ fs) asks is less rises at filed all =
     let le : size ≤ p = omega (arith, is) in
     let rest : p - size ≡ b * size + r = omega (arith, is) in
-    let all' : AllByRecursion (NotBefore svids f) (take size (drop (b * size) (drop size asks))) = subst (λ l. AllByRecursion (NotBefore svids f) (take size l)) (sym (drop-drop (b * size) size asks)) (subst (λ n. AllByRecursion (NotBefore svids f) (take size (drop n asks))) (let sum : suc b * size ≡ size + b * size = omega arith in sum) all) in
-    (others_all id svids x (take size asks) (absent_before id size p asks le at) filed.0,
-    filed_set id svids size b r f (p - size) fs (drop size asks) rest less (rises_drop size asks rises) (place_later id size p asks le at) filed.1 all')
+    let all' : AllByRecursion (NotBefore svids f) (take size (drop (b * size) (drop size asks))) = subst (λ l. AllByRecursion (NotBefore svids f) (take size l)) (sym (drop-drop (b * size) size asks)) (subst (λ n. AllByRecursion (NotBefore svids f) (take size (drop n asks))) (let sum : suc b * size ≡ size + b * size = omega arith in sum) all) in (
+      others_all id svids x (take size asks) (absent_before id size p asks le at) filed.0,
+      filed_set id svids size b r f (p - size) fs (drop size asks) rest less (rises_drop size asks rises) (place_later id size p asks le at) filed.1 all',
+    )
 
 -- a new second is written for the block of the entry's ask
 pub filed_anew : (id : List ℕ) (svids : List Svid) (size f p : ℕ) (firsts : List ℕ) (asks : List Ask) → 0 < size → Rises (map ask_key asks) → place_at ask_key asks id ≡ Some p

@@ -5,8 +5,8 @@ ghost use Rattle.list_laws.specs.Lists.{Rises};
 ghost use Rattle.wl_entry.specs.Keys.{ask_key};
 ghost use Rattle.svid_cache.specs.Caches.{is_listed};
 
-use wl_entry::Ask;
 use sorted_lists::find_by_key;
+use wl_entry::Ask;
 
 /// Whether the ask is among these, by binary search.
 #[tactic(auto, using(crate::proofs::Finding::listed_found))]

@@ -9,9 +9,9 @@ ghost use Rattle.svid_cache.specs.Queue.{svid_end};
 
 use crate::asks::lists;
 use crate::install::Installed;
+use sorted_lists::find_by_key;
 use std::alloc::Global;
 use wl_entry::{Ask, Signed, Svid};
-use sorted_lists::find_by_key;
 use wl_octets::{Memory, Octets, Shared};
 
 /// The SVID, where it was signed for this ask.

@@ -10,9 +10,9 @@ ghost use Rattle.svid_cache.specs.Caches.{is_due};
 ghost use Rattle.svid_cache.specs.Queue.{half_second, first_second, NotBefore, OthersNotBefore, Filed, NoneBelow, clear_second};
 
 use crate::kept::{due_at, find_kept};
+use sorted_lists::place_by_key;
 use std::alloc::Global;
 use wl_entry::{Ask, Signed, Svid};
-use sorted_lists::place_by_key;
 use wl_octets::{Memory, Octets, Row, Shared};
 
 /// The first second at which half of its time has passed.

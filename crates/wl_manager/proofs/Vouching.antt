@@ -10,7 +10,7 @@ use Rattle.jwt_cache.specs.Rings.{tokens_for}
 use Rattle.jwt_cache.proofs.Holding.{last_holds, found_holds}
 use Rattle.wl_manager.specs.Managers.{Vouched, AllVouched}
 
-none_or : (P : Kept → Type 0) (b : Bool) (history : List CachedToken) → AllByRecursion P history → AllByRecursion P (if b then [] else history)
+none_or : (P : CachedToken → Type 0) (b : Bool) (history : List CachedToken) → AllByRecursion P history → AllByRecursion P (if b then [] else history)
 none_or P true history all = tt
 none_or P false history all = all
 
@@ -20,7 +20,7 @@ pub fewer_vouched : (token : Ask → List (List ℕ) → JwtToken → Type 0) (i
 fewer_vouched token ids rings next step all =
     λ q. subst (AllByRecursion (Vouched token)) (sym (step q)) (none_or (Vouched token) (has_text ids q) (tokens_for rings q) (all q))
 
-one_or : (P : Kept → Type 0) (b : Bool) (history : List CachedToken) (k : CachedToken) → AllByRecursion P history → P k → AllByRecursion P (if b then last_of 16 (history ++ k ∷ []) else history)
+one_or : (P : CachedToken → Type 0) (b : Bool) (history : List CachedToken) (k : CachedToken) → AllByRecursion P history → P k → AllByRecursion P (if b then last_of 16 (history ++ k ∷ []) else history)
 one_or P true history k all one = last_holds P 16 history k all one
 one_or P false history k all one = all
 

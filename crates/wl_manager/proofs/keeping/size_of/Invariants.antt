@@ -1,5 +1,5 @@
 use Rattle.std.proofs.Common.{◌≡◌, min, sum, map, length, take}
-use Rattle.wl_manager.proofs.keep_verdict.size_of.Given as goal
+use Rattle.wl_manager.proofs.keeping.size_of.Given as goal
 
 -- the bytes of the texts so far
 abbrev pub invariant-loop-one : goal.invariant-loop-one
