@@ -1,7 +1,6 @@
 -- Each step keeps the History rule.
-use Rattle.std.proofs.Common.{◌≡◌, ◌≢◌, ◌⊎◌, ⊎_elim, ℕ, ◌+◌, Bool, true, false, List, [], ◌∷◌, ◌++◌, length, set, refl, ap, sym, ◌∙◌, subst, arith, append_assoc, fold}
+use Rattle.std.proofs.Common.{◌≡◌, ◌≢◌, ⊎_elim, ℕ, ◌+◌, List, [], ◌∷◌, ◌++◌, set, refl, ap, sym, ◌∙◌, subst, arith, append_assoc, fold}
 use mathlib.Core.Option.{some}
-use mathlib.Core.List.{IsPrefix}
 use lib.ListN.{get_elem?}
 use Rattle.atomic_table.proofs.Lists.{at_set, at_snoc}
 use Rattle.left_right.specs.Register.{Admits, Turns, TurnsAt, Forks, Merges}
@@ -11,11 +10,11 @@ use Rattle.wl_entry.specs.declared.asks.Ask.{Ask}
 use Rattle.wl_entry.specs.declared.signing.Signed.{Signed}
 use Rattle.wl_snapshot.specs.Snapshots.{Publication}
 use Rattle.wl_publish.specs.declared.rule.Knowledge.{Knowledge}
-use Rattle.wl_publish.specs.Lists.{IsLast, IsMine, IsVouched, AllVouched, Numbered}
+use Rattle.wl_publish.specs.Lists.{IsLast, IsVouched}
 use Rattle.wl_publish.specs.Books.{Legal}
 use Rattle.wl_publish.specs.Listings.{Listing}
 use Rattle.wl_publish.specs.declared.rule.Current.{Current}
-use Rattle.wl_publish.specs.History.{Fits, Kept, HasRead, knowing, newcomer, book_of}
+use Rattle.wl_publish.specs.History.{Fits, Kept, HasRead, knowing, newcomer}
 use Rattle.wl_publish.proofs.Prefixes.{prefix_self}
 use Rattle.wl_publish.proofs.Numbers.{last_number, numbered_more, mine_more}
 

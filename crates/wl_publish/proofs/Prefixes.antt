@@ -1,5 +1,6 @@
 -- Prefixes of one list.
-use Rattle.std.proofs.Common.{◌≡◌, ◌⊎◌, inl, inr, ℕ, ◌≤◌, Bool, true, false, List, [], ◌∷◌, ◌++◌, length, refl, ap, sym, ◌∙◌, arith, append_assoc, length-append, MatchBool}
+use Rattle.std.proofs.Common.{◌≡◌, ℕ, ◌≤◌, Bool, true, false, List, [], ◌∷◌, length, refl, sym, ◌∙◌, arith, MatchBool}
+use Rattle.std.specs.Prelude.{nat_eq, ⊤}
 use Rattle.std.proofs.lemmas.List.{append-nil}
 use Rattle.std.proofs.lemmas.Bool.Decides.{nat_tests}
 use lib.Dec.{leb}
@@ -30,3 +31,12 @@ prefix_whole (x ∷ xs) (y ∷ ys) p le =
 pub shorter_by : {A : Type 0} (xs ys zs : List A) (m n : ℕ) → IsPrefix xs zs → IsPrefix ys zs → m ≡ length xs → n ≡ length ys → (b : Bool) → leb m n ≡ b → MatchBool b (IsPrefix xs ys) (IsPrefix ys xs)
 shorter_by xs ys zs m n p q mx ny true is = let le : m ≤ n = grind (arith, nat_tests) in prefix_shorter xs ys zs p q (omega arith)
 shorter_by xs ys zs m n p q mx ny false is = let le : n ≤ m = grind (arith, nat_tests) in prefix_shorter ys xs zs q p (omega arith)
+
+-- two prefixes of one list that are as long as each other are the same
+pub same_long : {A : Type 0} (xs ys zs : List A) → IsPrefix xs zs → IsPrefix ys zs → length xs ≡ length ys → xs ≡ ys
+same_long xs ys zs p q long = prefix_whole xs ys (prefix_shorter xs ys zs p q (omega (arith, long))) (omega (arith, long))
+
+-- the same by a test of the lengths
+pub same_by : {A : Type 0} (xs ys zs : List A) (m n : ℕ) → IsPrefix xs zs → IsPrefix ys zs → m ≡ length xs → n ≡ length ys → (b : Bool) → nat_eq m n ≡ b → MatchBool b (xs ≡ ys) ⊤
+same_by xs ys zs m n p q mx ny true is = let same : m ≡ n = grind (arith, nat_tests) in same_long xs ys zs p q (sym mx ∙ (same ∙ ny))
+same_by xs ys zs m n p q mx ny false is = tt

@@ -1,6 +1,6 @@
 //! The one list of publications, as a book whose log only grows.
 
-ghost use Rattle.std.specs.Prelude.{◌≡◌, ◌++◌, ◌∷◌, [], MatchBool};
+ghost use Rattle.std.specs.Prelude.{◌≡◌, ◌++◌, ◌∷◌, [], MatchBool, ⊤};
 ghost use mathlib.Core.List.{IsPrefix};
 ghost use Rattle.wl_publish.specs.Books.{head_of};
 ghost use Rattle.wl_publish.specs.Listings.{listing};
@@ -108,6 +108,16 @@ impl Prefix {
         self.count <= other.count
     }
 
+    /// Whether this list is as long as the other, which is the same list then.
+    pub fn is_as_long(&self, other: &Prefix) -> bool
+        requires { other.now.store ≡ self.now.store }
+        ensures { MatchBool result (self.now.list ≡ other.now.list) ⊤ }
+    {
+        let mut both = self.seen.again();
+        both.learn(&other.seen);
+        self.count == other.count
+    }
+
     /// Adds a publication to the book, and says whether it did. It does not where the book is longer, or full.
     pub fn add(&mut self, head: &Head, next: &Edition) -> bool
         requires head { head.now ≡ head_of self.old.store }
@@ -118,11 +128,13 @@ impl Prefix {
             return false;
         };
         let mut seen = self.seen.again();
-        let mut offer: Offer<Snapshot, u64, OneList, Nothing> = seen
-            .plain::<Nothing, Edition, Add>(next);
+        let mut offer: Offer<Snapshot, u64, OneList, Nothing> = seen.plain::<Nothing, Edition, Add>(
+            next,
+        );
         let mut pen = seen.no_pen();
-        let found = head
-            .compare_exchange::<Add, Nothing>(count, more, &mut seen, &mut offer, &mut pen);
+        let found = head.compare_exchange::<Add, Nothing>(
+            count, more, &mut seen, &mut offer, &mut pen,
+        );
         if found != count {
             return false;
         }

@@ -5,13 +5,14 @@ ghost use mathlib.Core.List.{IsPrefix};
 ghost use Rattle.wl_publish.specs.Places.{known_at};
 ghost use Rattle.wl_snapshot.specs.Snapshots.{Publication};
 ghost use Rattle.wl_publish.specs.Listings.{listing, passing, EndsWith};
+ghost use Rattle.wl_publish.specs.Lists.{IsLast};
 ghost use Rattle.wl_publish.specs.Books.{Legal};
 ghost use Rattle.wl_publish.specs.History.{book_of, knowing, Took};
 ghost use Rattle.wl_publish.specs.Reading.{Reads, ReadsAfter};
 
 use crate::book::Prefix;
 use crate::edition::Edition;
-use crate::rule::ListReader;
+use crate::rule::OwnReader;
 use crate::steps;
 use core::mem::replace_with;
 use std::marker::{Model, PhantomData};
@@ -62,46 +63,61 @@ impl<V: Voucher> Note<V> {
 /// A reader. A contract sees what it has seen, the numbers that it read, and the longest list that it was told.
 #[derive(Drop)]
 pub struct Pass<V: Voucher> {
-    reader: ListReader<V>,
+    held: OwnReader<V>,
     told: Prefix,
 }
 
 impl<V: Voucher> Model for Pass<V> {
     ghost use Rattle.std.specs.Prelude.{◌≡◌, true};
-    ghost use Rattle.wl_publish.specs.Lists.{IsMine};
+    ghost use Rattle.wl_publish.specs.Lists.{IsLast, IsMine};
     ghost use Rattle.wl_publish.specs.History.{book_of};
     ghost use Rattle.wl_publish.specs.Places.{known_at};
     ghost use Rattle.wl_publish.specs.Listings.{Passing, passing};
 
     ghost Value = { Passing };
 
-    ghost view = { λ p. passing p.told.store (known_at p.reader.place).seen (known_at p.reader.place).mine p.told.list };
+    ghost view = { λ p. passing p.told.store (known_at p.held.reader.place).seen (known_at p.held.reader.place).mine p.told.list };
 
-    ghost invariant = { λ p. ((known_at p.reader.place).known ≡ true) × (book_of (known_at p.reader.place) ≡ p.told.store) × IsMine (known_at p.reader.place).seen (known_at p.reader.place).mine };
+    ghost invariant = { λ p. ((known_at p.held.reader.place).known ≡ true)
+        × (book_of (known_at p.held.reader.place) ≡ p.told.store)
+        × IsMine (known_at p.held.reader.place).seen (known_at p.held.reader.place).mine
+        × (p.held.own.prefix.store ≡ p.told.store) × IsLast p.held.own.prefix.list p.held.own.edition };
 }
 
 impl<V: Voucher> Pass<V> {
     /// A pass that has seen and was told the list of this prefix, and has read nothing.
-    pub(crate) fn new(reader: ListReader<V>, told: Prefix) -> Pass<V>
-        requires { known_at reader.place ≡ knowing told.store told.list [] }
+    pub(crate) fn new(held: OwnReader<V>, told: Prefix) -> Pass<V>
+        requires known { known_at held.reader.place ≡ knowing told.store told.list [] }
+        requires own { (held.own.prefix.store ≡ told.store) × IsLast held.own.prefix.list held.own.edition }
         ensures { result ≡ passing told.store told.list [] told.list }
     {
-        Pass { reader, told }
+        Pass { held, told }
     }
 
     /// The last publication, with the index of its entries; the numbers that were read grow by its number. It waits for
     /// nobody. At `Memory` the pass is as before, or as after a read whose answer could not be shared.
     pub fn read(&mut self) -> Result<Edition, Memory>
-        ensures { MatchResult result (λ s. ReadsAfter V.signed self.old s self.new) (λ _. (self.new ≡ self.old) ⊎ ((s : Publication) × Reads V.signed self.old s self.new)) }
+        ensures { MatchResult result (λ s. ReadsAfter V.signed self.old s self.new)
+            (λ _. (self.new ≡ self.old) ⊎ ((s : Publication) × Reads V.signed self.old s self.new)) }
     {
         replace_with(
-            &mut self.reader,
+            &mut self.held,
             &self.told,
-            |reader: ListReader<V>, told: &Prefix| -> (ListReader<V>, Result<Edition, Memory>)
-                requires known { ((known_at reader.place).known ≡ true) × (book_of (known_at reader.place) ≡ told.now.store) }
-                ensures store { ((known_at result.0.place).known ≡ true) × (book_of (known_at result.0.place) ≡ told.now.store) }
-                ensures read { MatchResult result.1 (λ s. Took V.signed (known_at reader.place) s (known_at result.0.place) × IsPrefix told.now.list (known_at result.0.place).seen) (λ _. (known_at result.0.place ≡ known_at reader.place) ⊎ ((s : Publication) × Took V.signed (known_at reader.place) s (known_at result.0.place))) }
-            { steps::read_after(reader, told) },
+            |held: OwnReader<V>, told: &Prefix| -> (OwnReader<V>, Result<Edition, Memory>)
+                requires known { ((known_at held.reader.place).known ≡ true)
+                    × (book_of (known_at held.reader.place) ≡ told.now.store) }
+                requires own { (held.own.prefix.store ≡ told.now.store)
+                    × IsLast held.own.prefix.list held.own.edition }
+                ensures store { ((known_at result.0.reader.place).known ≡ true)
+                    × (book_of (known_at result.0.reader.place) ≡ told.now.store) }
+                ensures own { (result.0.own.prefix.store ≡ told.now.store)
+                    × IsLast result.0.own.prefix.list result.0.own.edition }
+                ensures read { MatchResult result.1
+                    (λ s. Took V.signed (known_at held.reader.place) s (known_at result.0.reader.place)
+                    × IsPrefix told.now.list (known_at result.0.reader.place).seen)
+                    (λ _. (known_at result.0.reader.place ≡ known_at held.reader.place) ⊎ ((s : Publication)
+                    × Took V.signed (known_at held.reader.place) s (known_at result.0.reader.place))) }
+            { steps::read_after(held, told) },
         )
     }
 
@@ -109,7 +125,8 @@ impl<V: Voucher> Pass<V> {
     /// this pass. It takes no memory.
     pub fn learn(&mut self, note: Note<V>)
         requires { note.store ≡ self.old.store }
-        ensures same { (self.new.store ≡ self.old.store) × (self.new.seen ≡ self.old.seen) × (self.new.mine ≡ self.old.mine) }
+        ensures same { (self.new.store ≡ self.old.store) × (self.new.seen ≡ self.old.seen)
+            × (self.new.mine ≡ self.old.mine) }
         ensures told { IsPrefix self.old.told self.new.told × IsPrefix note.list self.new.told }
         ensures one { (self.new.told ≡ self.old.told) ⊎ (self.new.told ≡ note.list) }
     {

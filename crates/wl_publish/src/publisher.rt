@@ -1,8 +1,8 @@
 //! The writer of the publications.
 
-ghost use Rattle.std.specs.Prelude.{◌≡◌, ℕ, ◌+◌, ◌<◌, ◌≤◌, ◌++◌, ◌∷◌, [], length, IfOk, MatchResult};
+ghost use Rattle.std.specs.Prelude.{◌≡◌, ℕ, ◌+◌, ◌<◌, ◌≤◌, ◌++◌, ◌∷◌, [], length, IfOk, IsOk, MatchResult};
 ghost use Rattle.std.specs.List.{AllByRecursion};
-ghost use Rattle.wl_publish.specs.Lists.{IsVouched};
+ghost use Rattle.wl_publish.specs.Lists.{IsLast, IsVouched};
 ghost use Rattle.wl_publish.specs.Places.{known_at};
 ghost use Rattle.wl_publish.specs.History.{knowing};
 ghost use Rattle.wl_publish.specs.Listings.{listing, passing, EndsWith};
@@ -10,7 +10,7 @@ ghost use Rattle.wl_publish.specs.Listings.{listing, passing, EndsWith};
 use crate::book::{Head, Prefix, open_book};
 use crate::edition::Edition;
 use crate::pass::{Note, Pass};
-use crate::rule::{Current, ListWriter};
+use crate::rule::{Current, ListWriter, OwnReader};
 use crate::steps;
 use core::mem::replace_with;
 use std::alloc::Global;
@@ -37,30 +37,34 @@ impl<V: Voucher> Model for Publisher<V> {
 
     ghost view = { λ p. p.prefix };
 
-    ghost invariant = { λ p. (p.head ≡ head_of p.prefix.store) × (p.writer.desk.shown.value.prefix ≡ p.prefix) × IsLast p.prefix.list p.writer.desk.shown.value.edition × (drop p.writer.behind p.writer.log.items ≡ []) × Legal V.signed p.prefix.list };
+    ghost invariant = { λ p. (p.head ≡ head_of p.prefix.store)
+        × (p.writer.desk.shown.value.prefix ≡ p.prefix)
+        × IsLast p.prefix.list p.writer.desk.shown.value.edition
+        × (drop p.writer.behind p.writer.log.items ≡ []) × Legal V.signed p.prefix.list };
 }
 
 impl<V: Voucher> Publisher<V> {
-    /// A note of the whole list, which stays as it is. It takes no memory and waits for nobody.
-    pub fn note(&self) -> Note<V>
-        ensures { result ≡ self.now }
+    /// A note of the whole list, which stays as it is. It takes no memory and waits for nobody, so it always succeeds; it has
+    /// the form of the calls that may not.
+    pub fn note<R: Wait>(&mut self, _rt: &R) -> Result<Note<V>, Memory>
+        ensures note { IfOk result (λ note. note ≡ self.old) }
+        ensures always { IsOk result }
+        ensures same { self.new ≡ self.old }
     {
-        Note::new(
+        Ok(Note::new(
             self.writer.published().edition.snapshot().number,
             self.prefix.again(),
-        )
+        ))
     }
 
     /// Publishes the next publication, whose number is one above the last. It may wait for readers that are reading an
     /// older one. At `Err` it comes back, and the list is as before.
-    pub fn publish<R: Wait>(
-        &mut self,
-        rt: &R,
-        next: Edition,
-    ) -> Result<Note<V>, (Edition, Memory)>
+    pub fn publish<R: Wait>(&mut self, rt: &R, next: Edition) -> Result<Note<V>, (Edition, Memory)>
         requires number { (last : ℕ) × EndsWith self.old.list last × (next.number ≡ last + 1) }
         requires vouched { IsVouched V.signed next }
-        ensures { MatchResult result (λ n. (self.new ≡ listing self.old.store (self.old.list ++ next ∷ [])) × (n ≡ self.new)) (λ e. (e.0 ≡ next) × (self.new ≡ self.old)) }
+        ensures { MatchResult result
+            (λ n. (self.new ≡ listing self.old.store (self.old.list ++ next ∷ [])) × (n ≡ self.new))
+            (λ e. (e.0 ≡ next) × (self.new ≡ self.old)) }
     {
         let number = next.snapshot().number;
         if !steps::add::<V>(&self.head, &mut self.prefix, &next) {
@@ -106,14 +110,22 @@ fn passes<V: Voucher>(
     places: u32,
 ) -> Result<Row<Pass<V>>, Memory>
     requires known { known_at writer.old.desk.place ≡ knowing prefix.now.store prefix.now.list [] }
+    requires last { IsLast prefix.now.list writer.old.desk.shown.value.edition }
     ensures places { IfOk result (λ passes. length passes ≡ places) }
-    ensures passes { IfOk result (λ passes. AllByRecursion (λ p. p ≡ passing prefix.now.store prefix.now.list [] prefix.now.list) passes) }
-    ensures shown { (writer.new.desk.shown ≡ writer.old.desk.shown) × (writer.new.log ≡ writer.old.log) × (writer.new.behind ≡ writer.old.behind) }
+    ensures passes { IfOk result (λ passes. AllByRecursion
+        (λ p. p ≡ passing prefix.now.store prefix.now.list [] prefix.now.list) passes) }
+    ensures shown { (writer.new.desk.shown ≡ writer.old.desk.shown) × (writer.new.log ≡ writer.old.log)
+        × (writer.new.behind ≡ writer.old.behind) }
 {
     let mut passes = Row::empty(alloc);
     for _place in 0..places {
+        let edition = writer.published().edition.copy(alloc)?;
+        let own = Current {
+            edition,
+            prefix: prefix.again(),
+        };
         let reader = steps::reader_of(writer)?;
-        passes.push(Pass::new(reader, prefix.again()))?;
+        passes.push(Pass::new(OwnReader { reader, own, alloc }, prefix.again()))?;
     }
     Ok(passes)
 }
@@ -129,7 +141,8 @@ pub fn start<V: Voucher, R: Wait>(
     requires vouched { IsVouched V.signed first }
     ensures list { IfOk result (λ r. r.0.list ≡ first ∷ []) }
     ensures places { IfOk result (λ r. length r.1 ≡ places) }
-    ensures passes { IfOk result (λ r. AllByRecursion (λ p. p ≡ passing r.0.store (first ∷ []) [] (first ∷ [])) r.1) }
+    ensures passes { IfOk result (λ r. AllByRecursion
+        (λ p. p ≡ passing r.0.store (first ∷ []) [] (first ∷ [])) r.1) }
 {
     let (head, mut prefix) = open_book();
     if !steps::add::<V>(&head, &mut prefix, &first) {

@@ -1,16 +1,20 @@
 //! The rule that readers and the writer keep over what is shown.
 
+ghost use Rattle.std.specs.Prelude.{◌≡◌, IfOk};
+ghost use Rattle.wl_publish.specs.Lists.{IsLast};
+
 use crate::book::Prefix;
 use crate::edition::Edition;
-use left_right::Absorb;
 use atomic_table::{Join, Split};
 use crossbeam_utils::rule::{Outcome, Protocol};
+use left_right::Absorb;
 use left_right::reader::Reader;
 use left_right::writer::Writer;
-use std::alloc::AllocError;
+use std::alloc::{AllocError, Global};
 use std::collections::LinkedList;
 use std::marker::PhantomData;
 use wl_entry::Voucher;
+use wl_octets::Memory;
 use wl_snapshot::Snapshot;
 
 /// What readers take: the last publication, and the list that it ends.
@@ -18,6 +22,25 @@ use wl_snapshot::Snapshot;
 pub struct Current {
     pub edition: Edition,
     pub prefix: Prefix,
+}
+
+impl Current {
+    /// Takes over what is shown, with owners counted apart, where that is another publication, and gives one more owner of
+    /// it. Out of memory either is as it was or as it is shown.
+    pub fn follow(&mut self, alloc: Global, shown: &Current) -> Result<Edition, Memory>
+        requires store { shown.now.prefix.store ≡ self.old.prefix.store }
+        requires last { IsLast self.old.prefix.list self.old.edition × IsLast shown.now.prefix.list shown.now.edition }
+        ensures edition { IfOk result (λ e. e ≡ shown.now.edition) }
+        ensures store { self.new.prefix.store ≡ self.old.prefix.store }
+        ensures last { IsLast self.new.prefix.list self.new.edition }
+    {
+        if self.prefix.is_as_long(&shown.prefix) {
+            return self.edition.share();
+        }
+        self.edition = shown.edition.copy(alloc)?;
+        self.prefix = shown.prefix.again();
+        self.edition.share()
+    }
 }
 
 impl Absorb<Current> for Current {
@@ -116,6 +139,14 @@ impl Join<Knowledge> for Starts {
     ghost both = { λ v w. w };
 
     ghost spent = { newcomer };
+}
+
+/// A reader with what it read last, whose owners are counted apart from those of other readers.
+#[derive(Drop)]
+pub struct OwnReader<V: Voucher> {
+    pub reader: ListReader<V>,
+    pub own: Current,
+    pub alloc: Global,
 }
 
 pub type ListReader<V> = Reader<Current, Knowledge, History<V>>;

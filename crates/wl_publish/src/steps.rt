@@ -11,7 +11,9 @@ ghost use Rattle.wl_publish.specs.History.{book_of, knowing, HasRead, Took};
 
 use crate::book::{Head, Prefix};
 use crate::edition::Edition;
-use crate::rule::{Begins, Current, ListReader, ListWriter, Publishes, Reads, Starts, Tells};
+use crate::rule::{
+    Begins, Current, ListReader, ListWriter, OwnReader, Publishes, Reads, Starts, Tells,
+};
 use std::alloc::{AllocError, Global};
 use std::mem::ManuallyDrop;
 use std::sync::Wait;
@@ -28,7 +30,8 @@ pub fn make<V: Voucher, R: Wait>(
     requires places { (0 < places) × (places ≤ 64) }
     requires first { first.prefix.list ≡ first.edition ∷ [] }
     requires legal { Legal V.signed first.prefix.list }
-    ensures shown { IfOk result (λ w. (w.desk.shown.value.prefix ≡ first.prefix) × (w.desk.shown.value.edition ≡ first.edition)) }
+    ensures shown { IfOk result (λ w. (w.desk.shown.value.prefix ≡ first.prefix)
+        × (w.desk.shown.value.edition ≡ first.edition)) }
     ensures none { IfOk result (λ w. drop w.behind w.log.items ≡ []) }
     ensures known { IfOk result (λ w. known_at w.desk.place ≡ knowing first.prefix.store first.prefix.list []) }
 {
@@ -59,8 +62,10 @@ fn begin<V: Voucher, R: Wait>(
     again: Current,
 ) -> Result<ListWriter<V>, Memory>
     requires none { drop writer.behind writer.log.items ≡ [] }
-    requires same { (again.prefix ≡ writer.desk.shown.value.prefix) × (again.edition ≡ writer.desk.shown.value.edition) }
-    ensures shown { IfOk result (λ w. (w.desk.shown.value.prefix ≡ again.prefix) × (w.desk.shown.value.edition ≡ again.edition)) }
+    requires same { (again.prefix ≡ writer.desk.shown.value.prefix)
+        × (again.edition ≡ writer.desk.shown.value.edition) }
+    ensures shown { IfOk result (λ w. (w.desk.shown.value.prefix ≡ again.prefix)
+        × (w.desk.shown.value.edition ≡ again.edition)) }
     ensures none { IfOk result (λ w. drop w.behind w.log.items ≡ []) }
     ensures known { IfOk result (λ w. known_at w.desk.place ≡ knowing again.prefix.store again.prefix.list []) }
 {
@@ -87,7 +92,8 @@ pub fn leak<V: Voucher>(writer: ListWriter<V>) {
 /// A reader that knows what the writer does.
 pub fn reader_of<V: Voucher>(writer: &mut ListWriter<V>) -> Result<ListReader<V>, AllocError>
     ensures known { IfOk result (λ r. known_at r.place ≡ known_at writer.old.desk.place) }
-    ensures shown { (writer.new.desk.shown ≡ writer.old.desk.shown) × (writer.new.log ≡ writer.old.log) × (writer.new.behind ≡ writer.old.behind) }
+    ensures shown { (writer.new.desk.shown ≡ writer.old.desk.shown) × (writer.new.log ≡ writer.old.log)
+        × (writer.new.behind ≡ writer.old.behind) }
     ensures same { known_at writer.new.desk.place ≡ known_at writer.old.desk.place }
 {
     let mut reader = writer.factory().reader()?;
@@ -96,43 +102,64 @@ pub fn reader_of<V: Voucher>(writer: &mut ListWriter<V>) -> Result<ListReader<V>
 }
 
 /// Reads the last publication, with the list that it ends. It waits for nobody.
-fn read<V: Voucher>(
-    reader: ListReader<V>,
-) -> (ListReader<V>, Result<(Edition, Prefix), Memory>)
-    ensures { MatchResult result.1 (λ r. HasRead V.signed r.1.store r.1.list (known_at reader.place) r.0 (known_at result.0.place)) (λ _. (known_at result.0.place ≡ known_at reader.place) ⊎ ((l : Listing) × (s : Publication) × HasRead V.signed l.store l.list (known_at reader.place) s (known_at result.0.place))) }
+fn read<V: Voucher>(held: OwnReader<V>) -> (OwnReader<V>, Result<(Edition, Prefix), Memory>)
+    requires known { ((known_at held.reader.place).known ≡ true)
+        × (book_of (known_at held.reader.place) ≡ held.own.prefix.store) }
+    requires last { IsLast held.own.prefix.list held.own.edition }
+    ensures own { (result.0.own.prefix.store ≡ held.own.prefix.store)
+        × IsLast result.0.own.prefix.list result.0.own.edition }
+    ensures read { MatchResult result.1
+        (λ r. HasRead V.signed r.1.store r.1.list (known_at held.reader.place) r.0 (known_at result.0.reader.place))
+        (λ _. (known_at result.0.reader.place ≡ known_at held.reader.place) ⊎ ((l : Listing)
+        × (s : Publication) × HasRead V.signed l.store l.list (known_at held.reader.place) s (known_at result.0.reader.place))) }
 {
+    let OwnReader {
+        reader,
+        mut own,
+        alloc,
+    } = held;
     match reader.enter_as::<Reads<V>>() {
         Ok(reading) => {
-            let edition = reading.get().edition.share();
+            let edition = own.follow(alloc, reading.get());
             let prefix = reading.get().prefix.again();
             let reader = reading.leave();
+            let held = OwnReader { reader, own, alloc };
             match edition {
-                Ok(edition) => (reader, Ok((edition, prefix))),
-                Err(Memory) => (reader, Err(Memory)),
+                Ok(edition) => (held, Ok((edition, prefix))),
+                Err(Memory) => (held, Err(Memory)),
             }
         }
-        Err(reader) => (reader, Err(Memory)),
+        Err(reader) => (OwnReader { reader, own, alloc }, Err(Memory)),
     }
 }
 
 /// Reads the last publication, where its list begins with what was told.
 pub fn read_after<V: Voucher>(
-    reader: ListReader<V>,
+    held: OwnReader<V>,
     told: &Prefix,
-) -> (ListReader<V>, Result<Edition, Memory>)
-    requires known { ((known_at reader.place).known ≡ true) × (book_of (known_at reader.place) ≡ told.now.store) }
-    ensures store { ((known_at result.0.place).known ≡ true) × (book_of (known_at result.0.place) ≡ told.now.store) }
-    ensures read { MatchResult result.1 (λ s. Took V.signed (known_at reader.place) s (known_at result.0.place) × IsPrefix told.now.list (known_at result.0.place).seen) (λ _. (known_at result.0.place ≡ known_at reader.place) ⊎ ((s : Publication) × Took V.signed (known_at reader.place) s (known_at result.0.place))) }
+) -> (OwnReader<V>, Result<Edition, Memory>)
+    requires known { ((known_at held.reader.place).known ≡ true)
+        × (book_of (known_at held.reader.place) ≡ told.now.store) }
+    requires own { (held.own.prefix.store ≡ told.now.store) × IsLast held.own.prefix.list held.own.edition }
+    ensures store { ((known_at result.0.reader.place).known ≡ true)
+        × (book_of (known_at result.0.reader.place) ≡ told.now.store) }
+    ensures own { (result.0.own.prefix.store ≡ told.now.store)
+        × IsLast result.0.own.prefix.list result.0.own.edition }
+    ensures read { MatchResult result.1
+        (λ s. Took V.signed (known_at held.reader.place) s (known_at result.0.reader.place)
+        × IsPrefix told.now.list (known_at result.0.reader.place).seen)
+        (λ _. (known_at result.0.reader.place ≡ known_at held.reader.place) ⊎ ((s : Publication)
+        × Took V.signed (known_at held.reader.place) s (known_at result.0.reader.place))) }
 {
-    match read(reader) {
-        (reader, Ok((edition, prefix))) => {
+    match read(held) {
+        (held, Ok((edition, prefix))) => {
             if told.begins(&prefix) {
-                (reader, Ok(edition))
+                (held, Ok(edition))
             } else {
-                (reader, Err(Memory))
+                (held, Err(Memory))
             }
         }
-        (reader, Err(Memory)) => (reader, Err(Memory)),
+        (held, Err(Memory)) => (held, Err(Memory)),
     }
 }
 
@@ -140,7 +167,8 @@ pub fn read_after<V: Voucher>(
 pub fn add<V: Voucher>(head: &Head, prefix: &mut Prefix, next: &Edition) -> bool
     requires head { head.now ≡ head_of prefix.old.store }
     requires legal { Legal V.signed (prefix.old.list ++ next.now ∷ []) }
-    ensures { MatchBool result ((prefix.new ≡ listing prefix.old.store (prefix.old.list ++ next.now ∷ [])) × Legal V.signed prefix.new.list) (prefix.new ≡ prefix.old) }
+    ensures { MatchBool result ((prefix.new ≡ listing prefix.old.store (prefix.old.list ++ next.now ∷ []))
+        × Legal V.signed prefix.new.list) (prefix.new ≡ prefix.old) }
 {
     prefix.add(head, next)
 }
@@ -152,7 +180,8 @@ fn queue<V: Voucher>(
 ) -> Result<ListWriter<V>, (ListWriter<V>, Current)>
     requires none { drop writer.behind writer.log.items ≡ [] }
     ensures queued { IfOk result (λ w. (drop w.behind w.log.items ≡ next ∷ []) × (w.desk ≡ writer.desk)) }
-    ensures back { IfErr result (λ e. (drop e.0.behind e.0.log.items ≡ []) × (e.0.desk ≡ writer.desk) × (e.1 ≡ next)) }
+    ensures back { IfErr result (λ e. (drop e.0.behind e.0.log.items ≡ []) × (e.0.desk ≡ writer.desk)
+        × (e.1 ≡ next)) }
 {
     match writer.append(next) {
         Ok(()) => Ok(writer),
@@ -186,7 +215,8 @@ pub fn show<V: Voucher, R: Wait>(rt: &R, writer: ListWriter<V>, next: Current) -
     requires store { next.prefix.store ≡ writer.desk.shown.value.prefix.store }
     requires list { next.prefix.list ≡ writer.desk.shown.value.prefix.list ++ next.edition ∷ [] }
     requires legal { Legal V.signed next.prefix.list }
-    ensures shown { (result.desk.shown.value.prefix ≡ next.prefix) × (result.desk.shown.value.edition ≡ next.edition) }
+    ensures shown { (result.desk.shown.value.prefix ≡ next.prefix)
+        × (result.desk.shown.value.edition ≡ next.edition) }
     ensures none { drop result.behind result.log.items ≡ [] }
 {
     let mut writer = enqueue(rt, writer, next);

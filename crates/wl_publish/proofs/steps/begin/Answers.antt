@@ -1,4 +1,4 @@
-use Rattle.std.proofs.Common.{◌≡◌, sym, ◌∙◌, ap}
+use Rattle.std.proofs.Common.{sym, ◌∙◌, ap}
 use Rattle.wl_publish.specs.declared.rule.Current.{Current}
 use Rattle.wl_publish.proofs.Keeps.{learns_all, shown_is}
 use Rattle.wl_publish.proofs.steps.begin.Goals as goal

@@ -1,4 +1,4 @@
-use Rattle.std.proofs.Common.{sym, ◌∙◌, ap, arith, ℕ, ◌≡◌, ◌+◌}
+use Rattle.std.proofs.Common.{sym, ◌∙◌, ap}
 use Rattle.wl_publish.proofs.Adding.{adds_moves}
 use Rattle.wl_publish.proofs.book.Prefix.add.Goals as goal
 
