@@ -1,0 +1,4 @@
+mod Prefixes
+mod Numbers
+mod Adding
+mod Keeps

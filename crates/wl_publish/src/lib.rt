@@ -1,0 +1,18 @@
+//! Publications that many threads read and one writer adds to.
+//!
+//! They form one list that only grows. A reader waits for nobody, and what it reads is never older than what it read or
+//! was told of before. The list itself is no list in memory: it exists in the contracts.
+#![tactic(auto)]
+
+mod book;
+mod edition;
+mod pass;
+mod publisher;
+mod rule;
+mod steps;
+#[cfg(test)]
+mod tests;
+
+pub use edition::Edition;
+pub use pass::{Note, Pass};
+pub use publisher::{Publisher, start};
