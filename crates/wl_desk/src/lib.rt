@@ -1,0 +1,15 @@
+//! The desk: a manager and a publisher under one lock, with the number of seats that still serve.
+//!
+//! Each call that changes what is kept prepares the step, publishes what the step publishes, and then adopts it. So the last
+//! publication is always the manager's, and out of memory leaves both as they were.
+#![tactic(auto)]
+
+mod desk;
+mod editions;
+mod settle;
+#[cfg(test)]
+mod tests;
+mod tokens;
+
+pub use desk::Desk;
+pub use editions::last_edition;
