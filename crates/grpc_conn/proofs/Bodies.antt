@@ -9,7 +9,7 @@ use Rattle.grpc_wire.specs.declared.method.Method.{Method}
 use Rattle.grpc_wire.specs.declared.refusal.Refusal.TheVariants.{Count}
 use Rattle.grpc_wire.specs.Messages.{prefix_of}
 use Rattle.grpc_conn.specs.declared.event.CallEvent.TheVariants.{Nothing, Refuse}
-use Rattle.grpc_conn.specs.Verdicts.{refused_by, part_verdict, sized_verdict, whole_verdict, body_verdict}
+use Rattle.grpc_conn.specs.Verdicts.{refusal_of_prefix, part_verdict, sized_verdict, whole_verdict, body_verdict}
 use Rattle.grpc_wire.proofs.Prefixes.{prefix_more, prefix_short, prefix_memory}
 
 -- ---- the front completes the prefix, as far as it has come
@@ -17,7 +17,7 @@ use Rattle.grpc_wire.proofs.Prefixes.{prefix_more, prefix_short, prefix_memory}
 pub parts_again : (old bytes front : List ℕ) (k : ℕ) → front ≡ old ++ take k bytes → front ++ drop k bytes ≡ old ++ bytes
 parts_again old bytes front k same = rw (same, append_assoc, take-append-drop) refl
 
-pub fault_parts : (method : Method) (ended : Bool) (old bytes front : List ℕ) (k : ℕ) (fault : MessageFault) → front ≡ old ++ take k bytes → prefix_of MAX_REQUEST_LEN front ≡ Err fault → body_verdict method (old ++ bytes) ended ≡ refused_by fault
+pub fault_parts : (method : Method) (ended : Bool) (old bytes front : List ℕ) (k : ℕ) (fault : MessageFault) → front ≡ old ++ take k bytes → prefix_of MAX_REQUEST_LEN front ≡ Err fault → body_verdict method (old ++ bytes) ended ≡ refusal_of_prefix fault
 unfolding body_verdict
 fault_parts method ended old bytes front k fault same said =
     elim (prefix_more MAX_REQUEST_LEN front (drop k bytes)) [
@@ -26,7 +26,7 @@ fault_parts method ended old bytes front k fault same said =
     ]
 
 -- a fault of a prefix is a refusal
-pub fault_told : (fault : MessageFault) (b : List ℕ) → prefix_of MAX_REQUEST_LEN b ≡ Err fault → refused_by fault ≡ Nothing → ⊥
+pub fault_told : (fault : MessageFault) (b : List ℕ) → prefix_of MAX_REQUEST_LEN b ≡ Err fault → refusal_of_prefix fault ≡ Nothing → ⊥
 fault_told (faults.Flag flag) b said nothing = cc nothing
 fault_told (faults.TooLong n) b said nothing = cc nothing
 fault_told faults.Memory b said nothing = prefix_memory MAX_REQUEST_LEN b said

@@ -21,43 +21,43 @@ named_id text =
     else if is_some (id_fault text) then Err BadId
     else Ok (Some text)
 
-abbrev pub jwt_with : List (List ℕ) → Result (Option (List ℕ)) Refusal → Result Request Refusal
-jwt_with audience (Ok id) = Ok (Jwt audience id)
-jwt_with audience (Err refusal) = Err refusal
+abbrev pub jwt_with_id : List (List ℕ) → Result (Option (List ℕ)) Refusal → Result Request Refusal
+jwt_with_id audience (Ok id) = Ok (Jwt audience id)
+jwt_with_id audience (Err refusal) = Err refusal
 
 -- own rules: a request of a JWT-SVID names an audience, and no id or a SPIFFE ID
-abbrev pub jwt_judged : JwtRequest → Result Request Refusal
-jwt_judged r = if length r.audience == 0 then Err NoAudience else jwt_with r.audience (named_id r.spiffe_id)
+abbrev pub jwt_with_audience : JwtRequest → Result Request Refusal
+jwt_with_audience r = if length r.audience == 0 then Err NoAudience else jwt_with_id r.audience (named_id r.spiffe_id)
 
-abbrev pub jwt_read : Result JwtRequest FieldFault → Result Request Refusal
-jwt_read (Ok r) = jwt_judged r
-jwt_read (Err fault) = Err Undecodable
+abbrev pub jwt_if_readable : Result JwtRequest FieldFault → Result Request Refusal
+jwt_if_readable (Ok r) = jwt_with_audience r
+jwt_if_readable (Err fault) = Err Undecodable
 
-abbrev pub jwt_said : List ℕ → Result Request Refusal
-jwt_said m = jwt_read (jwt_request_of m)
+abbrev pub jwt_in : List ℕ → Result Request Refusal
+jwt_in m = jwt_if_readable (jwt_request_of m)
 
-abbrev pub health_read : Result (List ℕ) FieldFault → Result Request Refusal
-health_read (Ok service) = Ok (Health service)
-health_read (Err fault) = Err Undecodable
+abbrev pub health_if_readable : Result (List ℕ) FieldFault → Result Request Refusal
+health_if_readable (Ok service) = Ok (Health service)
+health_if_readable (Err fault) = Err Undecodable
 
-abbrev pub health_said : List ℕ → Result Request Refusal
-health_said m = health_read (service_of m)
+abbrev pub health_in : List ℕ → Result Request Refusal
+health_in m = health_if_readable (service_of m)
 
-abbrev pub empty_read : Result (Unit {0}) FieldFault → Result Request Refusal
-empty_read (Ok x) = Ok Plain
-empty_read (Err fault) = Err Undecodable
+abbrev pub plain_if_readable : Result (Unit {0}) FieldFault → Result Request Refusal
+plain_if_readable (Ok x) = Ok Plain
+plain_if_readable (Err fault) = Err Undecodable
 
-abbrev pub empty_said : List ℕ → Result Request Refusal
-empty_said m = empty_read (empty_of m)
+abbrev pub plain_in : List ℕ → Result Request Refusal
+plain_in m = plain_if_readable (empty_of m)
 
 -- what a message says to a method
 unfoldable pub request_of : Method → List ℕ → Result Request Refusal
-request_of JwtSvid m = jwt_said m
-request_of HealthCheck m = health_said m
-request_of HealthWatch m = health_said m
-request_of X509Svid m = empty_said m
-request_of X509Bundles m = empty_said m
-request_of JwtBundles m = empty_said m
+request_of JwtSvid m = jwt_in m
+request_of HealthCheck m = health_in m
+request_of HealthWatch m = health_in m
+request_of X509Svid m = plain_in m
+request_of X509Bundles m = plain_in m
+request_of JwtBundles m = plain_in m
 
 -- an answer is what is due, unless memory ran out
 abbrev pub ReadsId : Result (Option (List ℕ)) RequestFault → Result (Option (List ℕ)) Refusal → Type 0

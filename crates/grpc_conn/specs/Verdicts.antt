@@ -37,17 +37,17 @@ sized_verdict method n after ended =
     else whole_verdict method after
 
 -- flag and length are those of the first message; a prefix never says that memory ran out
-abbrev pub refused_by : MessageFault → CallEvent
-refused_by (faults.Flag flag) = Refuse Flag
-refused_by (faults.TooLong n) = Refuse LongRequest
-refused_by faults.Memory = Nothing
+abbrev pub refusal_of_prefix : MessageFault → CallEvent
+refusal_of_prefix (faults.Flag flag) = Refuse Flag
+refusal_of_prefix (faults.TooLong n) = Refuse LongRequest
+refusal_of_prefix faults.Memory = Nothing
 
 -- an end within the prefix
 abbrev pub part_verdict : Bool → CallEvent
 part_verdict ended = if ended then Refuse Count else Nothing
 
 abbrev pub prefix_verdict : Method → Result (Option ℕ) MessageFault → List ℕ → Bool → CallEvent
-prefix_verdict method (Err fault) after ended = refused_by fault
+prefix_verdict method (Err fault) after ended = refusal_of_prefix fault
 prefix_verdict method (Ok None) after ended = part_verdict ended
 prefix_verdict method (Ok (Some n)) after ended = sized_verdict method n after ended
 

@@ -3,7 +3,7 @@
 ghost use Rattle.std.specs.Prelude.{◌≡◌, ◌≢◌, ◌≤◌, ◌++◌, drop, length, IfOk, OnOk};
 ghost use Rattle.grpc_wire.specs.declared.prefix.TheConstants.{PREFIX_LEN};
 ghost use Rattle.grpc_conn.specs.declared.event.CallEvent.TheVariants.{Nothing};
-ghost use Rattle.grpc_conn.specs.Verdicts.{sized_verdict, whole_verdict, part_verdict, refused_by, body_verdict};
+ghost use Rattle.grpc_conn.specs.Verdicts.{sized_verdict, whole_verdict, part_verdict, refusal_of_prefix, body_verdict};
 ghost use Rattle.grpc_conn.specs.Calls.{event_of, standing_after};
 
 use crate::event::CallEvent;
@@ -102,7 +102,7 @@ fn judge_part(ended: bool) -> CallEvent
 }
 
 fn refuse(fault: MessageFault) -> CallEvent
-    ensures { result ≡ refused_by fault }
+    ensures { result ≡ refusal_of_prefix fault }
 {
     match fault {
         MessageFault::Flag(_) => CallEvent::Refuse(Refusal::Flag),

@@ -1,7 +1,7 @@
 //! What the message of a request says.
 
 ghost use Rattle.std.specs.Prelude.{◌≡◌};
-ghost use Rattle.grpc_conn.specs.Requests.{Reads, ReadsId, request_of, jwt_said, jwt_judged, named_id, health_said, empty_said};
+ghost use Rattle.grpc_conn.specs.Requests.{Reads, ReadsId, request_of, jwt_in, jwt_with_audience, named_id, health_in, plain_in};
 
 use grpc_wire::{Method, Refusal};
 use spiffe_id::{IdFault, SpiffeId};
@@ -59,7 +59,7 @@ pub(crate) fn read_request(
 }
 
 fn read_plain(message: &[u8]) -> Result<Request, RequestFault>
-    ensures { Reads result (empty_said message.now) }
+    ensures { Reads result (plain_in message.now) }
 {
     match decode_empty(message) {
         Ok(()) => Ok(Request::Plain),
@@ -68,7 +68,7 @@ fn read_plain(message: &[u8]) -> Result<Request, RequestFault>
 }
 
 fn read_health(alloc: Global, message: &[u8]) -> Result<Request, RequestFault>
-    ensures { Reads result (health_said message.now) }
+    ensures { Reads result (health_in message.now) }
 {
     match decode_health(alloc, message) {
         Ok(service) => Ok(Request::Health(service)),
@@ -78,7 +78,7 @@ fn read_health(alloc: Global, message: &[u8]) -> Result<Request, RequestFault>
 }
 
 fn read_jwt(alloc: Global, message: &[u8]) -> Result<Request, RequestFault>
-    ensures { Reads result (jwt_said message.now) }
+    ensures { Reads result (jwt_in message.now) }
 {
     match decode_jwt_request(alloc, message) {
         Ok(request) => judge_jwt(alloc, request),
@@ -88,7 +88,7 @@ fn read_jwt(alloc: Global, message: &[u8]) -> Result<Request, RequestFault>
 }
 
 fn judge_jwt(alloc: Global, request: JwtRequest) -> Result<Request, RequestFault>
-    ensures { Reads result (jwt_judged request) }
+    ensures { Reads result (jwt_with_audience request) }
 {
     if request.audience.as_slice().is_empty() {
         return Err(RequestFault::Refused(Refusal::NoAudience));

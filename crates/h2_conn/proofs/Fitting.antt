@@ -8,9 +8,9 @@ use Rattle.h2_frame.specs.declared.fault.FrameFault.TheVariants as faults
 use Rattle.h2_frame.specs.declared.frame.Body.{Body}
 use Rattle.h2_frame.specs.declared.frame.Body.TheVariants.{Bytes, Headers, Settings, SettingsAck, WindowUpdate, Continuation, Unknown}
 use Rattle.h2_frame.specs.declared.head.Head.{Head}
-use Rattle.h2_frame.specs.Heads.{has, front_of, head_of, is_wrong_length}
+use Rattle.h2_frame.specs.Heads.{has_flag, front_of, head_of, is_wrong_length}
 use Rattle.h2_frame.specs.Payloads.{content_of, with_content, settings_of, body_of}
-use Rattle.h2_frame.specs.Reading.{Step, partial, whole, wrong, framed, judged, first_frame, End, Opening, Rest, Fault, Reading, after_step, frames_in, frames_of, opened, resumed}
+use Rattle.h2_frame.specs.Reading.{Step, partial, whole, wrong, step_of_body, step_after_head, first_frame, End, Opening, Rest, Fault, Reading, after_step, frames_in, frames_of, after_preface, reading_from}
 use Rattle.h2_conn.specs.Kinds.{FitsBody, Fits}
 
 -- ---- one frame
@@ -27,7 +27,7 @@ short_cond n false fault content le = le
 content_short : (h : Head) (payload : List ℕ) → IsShort (length payload) (content_of h payload)
 unfolding content_of
 content_short h payload =
-    let pad : ℕ = cond (has h.flags 8) (slice_index payload 0) 0 in
+    let pad : ℕ = cond (has_flag h.flags 8) (slice_index payload 0) 0 in
     let content : List ℕ = drop (front_of h) payload in
     let taken = length-take (length content - pad) content in
     let dropped = length-drop (front_of h) payload in
@@ -54,16 +54,16 @@ f_headers ended all (Err fault) = tt
 f_body : (h : Head) (payload : List ℕ) → length payload ≤ h.length → h.length ≤ 16384 → FitsResult (body_of h payload)
 unfolding body_of FitsResult
 f_body h payload le most =
-    f_cond (h.kind == 0) _ _ (f_bytes (length payload) h.length (has h.flags 1) (content_of h payload) (content_short h payload) le most)
-    (f_cond (h.kind == 1) _ _ (f_headers (has h.flags 1) (has h.flags 4) (content_of h payload))
+    f_cond (h.kind == 0) _ _ (f_bytes (length payload) h.length (has_flag h.flags 1) (content_of h payload) (content_short h payload) le most)
+    (f_cond (h.kind == 1) _ _ (f_headers (has_flag h.flags 1) (has_flag h.flags 4) (content_of h payload))
     (f_cond (h.kind == 2) _ _ tt
     (f_cond (h.kind == 3) _ _ tt
-    (f_cond (h.kind == 4) _ _ (f_cond (has h.flags 1) (Ok SettingsAck) (Ok (Settings (settings_of payload))) tt tt)
+    (f_cond (h.kind == 4) _ _ (f_cond (has_flag h.flags 1) (Ok SettingsAck) (Ok (Settings (settings_of payload))) tt tt)
     (f_cond (h.kind == 5) _ _ tt
     (f_cond (h.kind == 6) _ _ tt
     (f_cond (h.kind == 7) _ _ tt
     (f_cond (h.kind == 8) (Ok (WindowUpdate (from_be_bytes w32 payload % 2 ^ 31))) _ (omega arith)
-    (f_cond (h.kind == 9) (Ok (Continuation payload (has h.flags 4))) (Ok (Unknown h.kind)) tt tt)))))))))
+    (f_cond (h.kind == 9) (Ok (Continuation payload (has_flag h.flags 4))) (Ok (Unknown h.kind)) tt tt)))))))))
 
 -- ---- a stream of frames
 
@@ -76,13 +76,13 @@ step_if : (b : Bool) (x y : Step) → FitsStep x → (b ≡ false → FitsStep y
 step_if true x y h k = h
 step_if false x y h k = k refl
 
-step_framed : (h : Head) (r : Result Body FrameFault) (rest : List ℕ) → h.stream < 2 ^ 31 → FitsResult r → FitsStep (framed h r rest)
+step_framed : (h : Head) (r : Result Body FrameFault) (rest : List ℕ) → h.stream < 2 ^ 31 → FitsResult r → FitsStep (step_of_body h r rest)
 unfolding FitsStep FitsResult
 step_framed h (Ok body) rest low f = (low, f)
 step_framed h (Err fault) rest low f = tt
 
-step_judged : (h : Head) (after : List ℕ) → h.stream < 2 ^ 31 → FitsStep (judged h after)
-unfolding judged FitsStep
+step_judged : (h : Head) (after : List ℕ) → h.stream < 2 ^ 31 → FitsStep (step_after_head h after)
+unfolding step_after_head FitsStep
 step_judged h after low =
     step_if (nat_lt 16384 h.length) (wrong (faults.TooLarge h.length)) _ tt (λ small.
     step_if (is_wrong_length h) (wrong (faults.WrongLength h.kind h.length)) _ tt (λ right.
@@ -114,14 +114,14 @@ all_cond : (b : Bool) (x y : Reading) → AllByRecursion Fits x.frames → AllBy
 all_cond true x y h k = h
 all_cond false x y h k = k
 
-all_opened : (left b : List ℕ) → AllByRecursion Fits (opened left b).frames
-unfolding opened
+all_opened : (left b : List ℕ) → AllByRecursion Fits (after_preface left b).frames
+unfolding after_preface
 all_opened [] b = all_of b
 all_opened (p ∷ left) [] = tt
-all_opened (p ∷ left) (x ∷ b) = all_cond (p == x) (opened left b) _ (all_opened left b) tt
+all_opened (p ∷ left) (x ∷ b) = all_cond (p == x) (after_preface left b) _ (all_opened left b) tt
 
-pub frames_fit : (e : End) (b : List ℕ) → AllByRecursion Fits (resumed e b).frames
-unfolding resumed
+pub frames_fit : (e : End) (b : List ℕ) → AllByRecursion Fits (reading_from e b).frames
+unfolding reading_from
 frames_fit (Opening left) b = all_opened left b
 frames_fit (Rest rest) b = all_of (rest ++ b)
 frames_fit (Fault fault) b = tt

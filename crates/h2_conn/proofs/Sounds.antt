@@ -13,10 +13,10 @@ use Rattle.h2_frame.specs.declared.frame.Body.{Body}
 use Rattle.h2_frame.specs.declared.frame.Body.TheVariants.{Bytes, Headers, Priority, Reset, Settings, SettingsAck, PushPromise, Ping, GoAway, WindowUpdate, Continuation, Unknown}
 use Rattle.h2_frame.specs.declared.frame.Frame.{Frame}
 use Rattle.h2_frame.specs.declared.frame.Setting.{Setting}
-use Rattle.h2_frame.specs.Writing.{spelling}
+use Rattle.h2_frame.specs.Writing.{frame_encoding}
 use Rattle.h2_flow.specs.declared.overflow.Overflow.{Overflow}
 use Rattle.h2_flow.specs.declared.stream.Stream as other
-use Rattle.h2_flow.specs.Outboxes.{Out, has, is_number, is_written, is_shrunk, RisesFrom, numbers, IsAbove, added, controlled, shrunk, grown, initialed, headed, offered, withdrawn, finished_by, pulled}
+use Rattle.h2_flow.specs.Outboxes.{Out, has_stream, is_number, is_written, has_size_update, RisesFrom, numbers, IsAbove, with_stream, with_control, with_size_update, with_step, set_initial_window, with_head, with_message, without_waiting, with_trailers, pull_of}
 use Rattle.h2_flow.proofs.Numbers.{KeepsNumbers, numbers_added, numbers_removed, numbers_controlled, numbers_shrunk, numbers_grown, numbers_initialed, numbers_headed, numbers_offered, numbers_withdrawn, numbers_closed, numbers_pulled}
 use Rattle.h2_conn.specs.declared.fault.ConnCause.TheVariants as cause
 use Rattle.h2_conn.specs.declared.fault.ConnFault.{ConnFault}
@@ -29,9 +29,9 @@ use Rattle.h2_conn.specs.declared.state.State.{State}
 use Rattle.h2_conn.specs.declared.state.OpenBlock.{OpenBlock}
 use Rattle.h2_conn.specs.declared.streams.Stream.{Stream}
 use Rattle.h2_conn.specs.Streams.{is_live, is_remote_closed, is_local_closed, without, remote_closed_if, with_remote_closed, local_closed_if, with_local_closed}
-use Rattle.h2_conn.specs.Peer.{Outcome, goes, fails, fault, nothing, queued, closed, reset_with, request_ends, replenished, with_window, is_idle, has_come, is_settings, is_continuation, interrupts, is_none, is_misplaced, continuations_of, is_empty_data, is_rapid, is_frame_size, noted, set_one, after_setting, set_all, set_frame, reset_frame, data_on, data_counted, Gathered, started, continued, grows, decoding, opened, tabled, closed_in, ended_in, trailed, when, or_else, peer}
-use Rattle.h2_conn.specs.Kinds.{Steps, guarded, headers_rows, decoded_rows, block_rows, gathered_rows, kind_rows, data_rows, reset_rows, settings_rows, ping_rows, window_rows, head_rows, continuation_rows, Fits}
-use Rattle.h2_conn.specs.Conns.{takes, headed_on, finished_on, offered_on, withdrawn_on, reset_by}
+use Rattle.h2_conn.specs.Peer.{Outcome, goes, fails, fault, nothing, with_control_frame, without_live_stream, stream_error, request_ends, with_window_update, with_window, is_idle, has_come, is_settings, is_continuation, interrupts, is_none, is_misplaced, continuations_of, is_empty_data, is_rapid, is_frame_size, after_table_size, set_one, after_setting, set_all, set_frame, reset_frame, data_on, with_data_count, BlockFragment, first_fragment, next_fragment, grows, decoding, with_new_stream, with_decoder, closed_stream_row, ended_stream_row, after_trailers, when, or_else, peer}
+use Rattle.h2_conn.specs.Kinds.{Steps, guard_rows, headers_rows, header_list_rows, block_rows, fragment_rows, kind_rows, data_rows, reset_rows, settings_rows, ping_rows, window_rows, head_rows, continuation_rows, Fits}
+use Rattle.h2_conn.specs.Conns.{takes, with_head_on, with_trailers_on, with_message_on, without_waiting_on, after_reset}
 use Rattle.h2_conn.specs.Sound.{number_of, IsLow, Ties, Sound, SoundPhase, SoundAfter}
 use Rattle.h2_conn.specs.Naming.{Names, NamesAfter, NamesOn}
 use Rattle.h2_conn.proofs.Choice.{peer_is}
@@ -125,7 +125,7 @@ there_by_numbers n (o ∷ os) (s ∷ ss) e =
 pub there_is : (q : State) (n : ℕ) → Sound q → list_any (is_number n) q.outbox.streams ≡ is_live n q.streams
 there_is q n s = there_by_numbers n q.outbox.streams q.streams s.same
 
-pub is_there : (q : State) (n : ℕ) → Sound q → is_live n q.streams ≡ true → has n q.outbox ≡ true
+pub is_there : (q : State) (n : ℕ) → Sound q → is_live n q.streams ≡ true → has_stream n q.outbox ≡ true
 is_there q n s live = there_by_numbers n q.outbox.streams q.streams s.same ∙ live
 
 pub has_room : (q : State) → Sound q → length q.outbox.streams ≡ length q.streams
@@ -143,11 +143,11 @@ is_above q n above s = above_by_numbers n q.outbox.streams (all_below (q.last_st
 pub s_outbox : (q : State) (o : Out) → numbers o ≡ numbers q.outbox → Sound q → Sound (record q { outbox = o })
 s_outbox q o e s = rw e s
 
-s_queued : (n : ℕ) (body : Body) (q : State) → Sound q → Sound (queued n body q)
-s_queued n body q s = s_outbox q (controlled (spelling (record { stream = n; body = body })) q.outbox) (numbers_controlled (spelling (record { stream = n; body = body })) q.outbox) s
+s_queued : (n : ℕ) (body : Body) (q : State) → Sound q → Sound (with_control_frame n body q)
+s_queued n body q s = s_outbox q (with_control (frame_encoding (record { stream = n; body = body })) q.outbox) (numbers_controlled (frame_encoding (record { stream = n; body = body })) q.outbox) s
 
-pub s_closed : (n : ℕ) (q : State) → Sound q → Sound (closed n q)
-unfolding closed
+pub s_closed : (n : ℕ) (q : State) → Sound q → Sound (without_live_stream n q)
+unfolding without_live_stream
 s_closed n q s = record {
   same = numbers_removed n q.outbox ∙ (ap (λ (ns : List ℕ). filter (λ m. not (m == n)) ns) s.same ∙ without_numbers n q.streams);
   below = rw (numbers_removed n q.outbox) (all_filter (λ m. m < q.last_stream_id + 1) (λ m. not (m == n)) (numbers q.outbox) s.below);
@@ -167,7 +167,7 @@ s_answering n q s = s_streams (local_closed_if n) (λ x. number_cond (x.number =
 s_raised : (q : State) (n : ℕ) → q.last_stream_id < n → Sound q → Sound (record q { last_stream_id = n })
 s_raised q n above s = record { same = s.same; below = all_below (q.last_stream_id + 1) (n + 1) (omega (arith, above)) (numbers q.outbox) s.below; low = s.low; rises = s.rises }
 
-s_added : (q : State) (n : ℕ) (ended : Bool) → q.last_stream_id < n → Sound q → Sound (record q { last_stream_id = n; streams = q.streams ++ record { number = n; remote_closed = ended; local_closed = false } ∷ []; outbox = added n q.outbox })
+s_added : (q : State) (n : ℕ) (ended : Bool) → q.last_stream_id < n → Sound q → Sound (record q { last_stream_id = n; streams = q.streams ++ record { number = n; remote_closed = ended; local_closed = false } ∷ []; outbox = with_stream n q.outbox })
 s_added q n ended above s = record {
   same = numbers_added n q.outbox ∙ (ap (λ (ns : List ℕ). ns ++ n ∷ []) s.same ∙ sym (map-append number_of q.streams (record { number = n; remote_closed = ended; local_closed = false } ∷ [])));
   below = rw (numbers_added n q.outbox) (all_push (λ m. m < n + 1) (numbers q.outbox) n (all_below (q.last_stream_id + 1) (n + 1) (omega (arith, above)) (numbers q.outbox) s.below) (omega arith));
@@ -194,34 +194,34 @@ at_cond P false x y h k = k
 
 s_request : (n : ℕ) (q : State) → Sound q → Sound (request_ends n q)
 unfolding request_ends
-s_request n q s = at_cond (λ (r : State). Sound r) (is_local_closed n q.streams) (closed n q) (record q { streams = with_remote_closed n q.streams }) (s_closed n q s) (s_ending n q s)
+s_request n q s = at_cond (λ (r : State). Sound r) (is_local_closed n q.streams) (without_live_stream n q) (record q { streams = with_remote_closed n q.streams }) (s_closed n q s) (s_ending n q s)
 
 -- ---- answers and a pull
 
 s_cond : (b : Bool) (q : State) (o : Out) → numbers o ≡ numbers q.outbox → Sound q → Sound (cond b (record q { outbox = o }) q)
 s_cond b q o e s = at_cond (λ (r : State). Sound r) b (record q { outbox = o }) q (s_outbox q o e s) s
 
-pub s_headed_on : (n : ℕ) (block : List ℕ) (q : State) → Sound q → Sound (headed_on n block q)
-unfolding headed_on
-s_headed_on n block q s = s_cond (takes n q) q (headed n block q.outbox) (numbers_headed n block q.outbox) s
+pub s_headed_on : (n : ℕ) (block : List ℕ) (q : State) → Sound q → Sound (with_head_on n block q)
+unfolding with_head_on
+s_headed_on n block q s = s_cond (takes n q) q (with_head n block q.outbox) (numbers_headed n block q.outbox) s
 
-pub s_finished_on : (n : ℕ) (block : List ℕ) (q : State) → Sound q → Sound (finished_on n block q)
-unfolding finished_on
-s_finished_on n block q s = s_cond (takes n q) q (finished_by n block q.outbox) (numbers_closed n block q.outbox) s
+pub s_finished_on : (n : ℕ) (block : List ℕ) (q : State) → Sound q → Sound (with_trailers_on n block q)
+unfolding with_trailers_on
+s_finished_on n block q s = s_cond (takes n q) q (with_trailers n block q.outbox) (numbers_closed n block q.outbox) s
 
-pub s_offered_on : (n : ℕ) (message : List ℕ) (q : State) → Sound q → Sound (offered_on n message q)
-unfolding offered_on
-s_offered_on n message q s = s_cond (takes n q) q (offered n message q.outbox) (numbers_offered n message q.outbox) s
+pub s_offered_on : (n : ℕ) (message : List ℕ) (q : State) → Sound q → Sound (with_message_on n message q)
+unfolding with_message_on
+s_offered_on n message q s = s_cond (takes n q) q (with_message n message q.outbox) (numbers_offered n message q.outbox) s
 
-pub s_withdrawn_on : (n : ℕ) (q : State) → Sound q → Sound (withdrawn_on n q)
-unfolding withdrawn_on
-s_withdrawn_on n q s = s_cond (takes n q) q (withdrawn n q.outbox) (numbers_withdrawn n q.outbox) s
+pub s_withdrawn_on : (n : ℕ) (q : State) → Sound q → Sound (without_waiting_on n q)
+unfolding without_waiting_on
+s_withdrawn_on n q s = s_cond (takes n q) q (without_waiting n q.outbox) (numbers_withdrawn n q.outbox) s
 
-pub s_reset_by : (n code : ℕ) (q : State) → Sound q → Sound (reset_by n code q)
-unfolding reset_by
-s_reset_by n code q s = at_cond (λ (r : State). Sound r) (is_live n q.streams) (closed n (queued n (Reset code) q)) q (s_closed n (queued n (Reset code) q) (s_queued n (Reset code) q s)) s
+pub s_reset_by : (n code : ℕ) (q : State) → Sound q → Sound (after_reset n code q)
+unfolding after_reset
+s_reset_by n code q s = at_cond (λ (r : State). Sound r) (is_live n q.streams) (without_live_stream n (with_control_frame n (Reset code) q)) q (s_closed n (with_control_frame n (Reset code) q) (s_queued n (Reset code) q s)) s
 
-pub s_pulled : (last_stream_id : ℕ) (streams : List Stream) (o left : Out) (u : Option OpenBlock) → left ≡ (pulled o).left → Ties last_stream_id streams (numbers o) u → Ties last_stream_id streams (numbers left) u
+pub s_pulled : (last_stream_id : ℕ) (streams : List Stream) (o left : Out) (u : Option OpenBlock) → left ≡ (pull_of o).left → Ties last_stream_id streams (numbers o) u → Ties last_stream_id streams (numbers left) u
 s_pulled last_stream_id streams o left u e s = rw (e, numbers_pulled o) s
 
 -- ---- outcomes
@@ -254,21 +254,21 @@ g_window : (h : ℕ) (ss : List Stream) (q : State) (r : Result Out Overflow) (o
 g_window h ss q (Err e) over k s g = g
 g_window h ss q (Ok o) over k s g = silent (record q { outbox = o }) (s_outbox q o k s)
 
-g_reset : (q : State) (n code : ℕ) → Sound q → Good q.last_stream_id q.streams (reset_with q n code)
-unfolding reset_with closed
+g_reset : (q : State) (n code : ℕ) → Sound q → Good q.last_stream_id q.streams (stream_error q n code)
+unfolding stream_error without_live_stream
 g_reset q n code s =
-    let t : Sound (queued n (Reset code) q) = s_queued n (Reset code) q s in
+    let t : Sound (with_control_frame n (Reset code) q) = s_queued n (Reset code) q s in
     g_if q.last_stream_id q.streams (is_live n q.streams) _ _
-    (λ live. tells (closed n (queued n (Reset code) q)) (happening.Gone n) (s_closed n (queued n (Reset code) q) t) (live, gone n q.streams))
-    (λ live. silent (queued n (Reset code) q) t)
+    (λ live. tells (without_live_stream n (with_control_frame n (Reset code) q)) (happening.Gone n) (s_closed n (with_control_frame n (Reset code) q) t) (live, gone n q.streams))
+    (λ live. silent (with_control_frame n (Reset code) q) t)
 
 -- ---- DATA and RST_STREAM
 
-g_given : (P : State → Type 0) (n size : ℕ) (q : State) → P q → P (queued n (WindowUpdate size) q) → P (replenished n size q)
-unfolding replenished
-g_given P n size q x y = at_cond P (size == 0) q (queued n (WindowUpdate size) q) x y
+g_given : (P : State → Type 0) (n size : ℕ) (q : State) → P q → P (with_control_frame n (WindowUpdate size) q) → P (with_window_update n size q)
+unfolding with_window_update
+g_given P n size q x y = at_cond P (size == 0) q (with_control_frame n (WindowUpdate size) q) x y
 
-s_given : (n size : ℕ) (q : State) → Sound q → Sound (replenished n size q)
+s_given : (n size : ℕ) (q : State) → Sound q → Sound (with_window_update n size q)
 s_given n size q s = g_given (λ (r : State). Sound r) n size q s (s_queued n (WindowUpdate size) q s)
 
 g_on : (q : State) (n : ℕ) (bytes : List ℕ) (size : ℕ) (ended : Bool) → Sound q → Good q.last_stream_id q.streams (data_on q n bytes size ended)
@@ -276,33 +276,33 @@ unfolding data_on
 g_on q n bytes size ended s =
     g_if q.last_stream_id q.streams (not (is_live n q.streams)) _ _ (λ dead. silent q s) (λ live.
     g_if q.last_stream_id q.streams (is_remote_closed n q.streams) _ _ (λ over. g_reset q n 5 s) (λ over.
-    tells _ (happening.Body n bytes ended) (at_cond (λ (r : State). Sound r) ended (request_ends n q) (replenished n size q) (s_request n q s) (s_given n size q s)) (lift_true (is_live n q.streams) live)))
+    tells _ (happening.Body n bytes ended) (at_cond (λ (r : State). Sound r) ended (request_ends n q) (with_window_update n size q) (s_request n q s) (s_given n size q s)) (lift_true (is_live n q.streams) live)))
 
-g_counted : (P : State → Type 0) (bytes : List ℕ) (ended : Bool) (q : State) → P q → P (record q { empty_data_count = q.empty_data_count + 1 }) → P (record q { settings_count = 0; empty_data_count = 0 }) → P (data_counted bytes ended q)
-unfolding data_counted
+g_counted : (P : State → Type 0) (bytes : List ℕ) (ended : Bool) (q : State) → P q → P (record q { empty_data_count = q.empty_data_count + 1 }) → P (record q { settings_count = 0; empty_data_count = 0 }) → P (with_data_count bytes ended q)
+unfolding with_data_count
 g_counted P bytes ended q x y z =
     at_cond P (length bytes == 0) (cond ended q (record q { empty_data_count = q.empty_data_count + 1 })) (record q { settings_count = 0; empty_data_count = 0 })
     (at_cond P ended q (record q { empty_data_count = q.empty_data_count + 1 }) x y) z
 
-g_back : (q : State) (n : ℕ) (bytes : List ℕ) (size : ℕ) (ended : Bool) → Sound q → Good q.last_stream_id q.streams (data_on (replenished 0 size q) n bytes size ended)
+g_back : (q : State) (n : ℕ) (bytes : List ℕ) (size : ℕ) (ended : Bool) → Sound q → Good q.last_stream_id q.streams (data_on (with_window_update 0 size q) n bytes size ended)
 g_back q n bytes size ended s =
     g_given (λ (r : State). Good q.last_stream_id q.streams (data_on r n bytes size ended)) 0 size q (g_on q n bytes size ended s)
-    (g_on (queued 0 (WindowUpdate size) q) n bytes size ended (s_queued 0 (WindowUpdate size) q s))
+    (g_on (with_control_frame 0 (WindowUpdate size) q) n bytes size ended (s_queued 0 (WindowUpdate size) q s))
 
 g_data : (q : State) (n : ℕ) (bytes : List ℕ) (size : ℕ) (ended : Bool) → Sound q → Good q.last_stream_id q.streams (data_rows q n bytes size ended)
 g_data q n bytes size ended s =
     g_or q.last_stream_id q.streams (is_empty_data bytes ended && has_come 100 q.empty_data_count) _ _ (λ e. fell _ _) (λ e.
     g_or q.last_stream_id q.streams (is_idle q n) _ _ (λ e. fell _ _) (λ e.
-    g_counted (λ (r : State). Good q.last_stream_id q.streams (data_on (replenished 0 size r) n bytes size ended)) bytes ended q (g_back q n bytes size ended s)
+    g_counted (λ (r : State). Good q.last_stream_id q.streams (data_on (with_window_update 0 size r) n bytes size ended)) bytes ended q (g_back q n bytes size ended s)
     (g_back (record q { empty_data_count = q.empty_data_count + 1 }) n bytes size ended s) (g_back (record q { settings_count = 0; empty_data_count = 0 }) n bytes size ended s)))
 
 g_closes : (q : State) (n : ℕ) → Sound q → Good q.last_stream_id q.streams (reset_frame q n)
-unfolding reset_frame closed
+unfolding reset_frame without_live_stream
 g_closes q n s =
     g_if q.last_stream_id q.streams (is_live n q.streams) _ _
-    (λ live. at_cond (λ (r : State). Good q.last_stream_id q.streams (goes (closed n r) (Some (happening.Gone n)))) (is_written n q.outbox) q (record q { rapid_reset_count = q.rapid_reset_count + 1 })
-    (tells (closed n q) (happening.Gone n) (s_closed n q s) (live, gone n q.streams))
-    (tells (closed n (record q { rapid_reset_count = q.rapid_reset_count + 1 })) (happening.Gone n) (s_closed n (record q { rapid_reset_count = q.rapid_reset_count + 1 }) s) (live, gone n q.streams)))
+    (λ live. at_cond (λ (r : State). Good q.last_stream_id q.streams (goes (without_live_stream n r) (Some (happening.Gone n)))) (is_written n q.outbox) q (record q { rapid_reset_count = q.rapid_reset_count + 1 })
+    (tells (without_live_stream n q) (happening.Gone n) (s_closed n q s) (live, gone n q.streams))
+    (tells (without_live_stream n (record q { rapid_reset_count = q.rapid_reset_count + 1 })) (happening.Gone n) (s_closed n (record q { rapid_reset_count = q.rapid_reset_count + 1 }) s) (live, gone n q.streams)))
     (λ live. silent q s)
 
 g_resets : (q : State) (n code : ℕ) → Sound q → Good q.last_stream_id q.streams (reset_rows q n code)
@@ -312,16 +312,16 @@ g_resets q n code s =
 
 -- ---- SETTINGS, PING and windows
 
-s_noted : (value : ℕ) (q : State) → Sound q → Sound (noted value q)
-unfolding noted
-s_noted value q s = at_cond (λ (r : State). Sound r) (nat_lt value 4096 && not (is_shrunk q.outbox)) (record q { outbox = shrunk q.outbox }) q (s_outbox q (shrunk q.outbox) (numbers_shrunk q.outbox) s) s
+s_noted : (value : ℕ) (q : State) → Sound q → Sound (after_table_size value q)
+unfolding after_table_size
+s_noted value q s = at_cond (λ (r : State). Sound r) (nat_lt value 4096 && not (has_size_update q.outbox)) (record q { outbox = with_size_update q.outbox }) q (s_outbox q (with_size_update q.outbox) (numbers_shrunk q.outbox) s) s
 
 g_one : (h : ℕ) (ss : List Stream) (q : State) (p : Setting) → Sound q → Good h ss (set_one q p)
 unfolding set_one
 g_one h ss q p s =
-    g_if h ss (p.id == 1) _ _ (λ e. silent (noted p.value q) (s_noted p.value q s)) (λ e.
+    g_if h ss (p.id == 1) _ _ (λ e. silent (after_table_size p.value q) (s_noted p.value q s)) (λ e.
     g_if h ss (p.id == 2) _ _ (λ e. g_if h ss (nat_lt 1 p.value) _ _ (λ e. fell _ _) (λ e. silent q s)) (λ e.
-    g_if h ss (p.id == 4) _ _ (λ e. g_if h ss (nat_lt 2147483647 p.value) _ _ (λ e. fell _ _) (λ e. g_window h ss q (initialed p.value q.outbox) (fault q cause.Overflow) (numbers_initialed p.value q.outbox) s (fell _ _))) (λ e.
+    g_if h ss (p.id == 4) _ _ (λ e. g_if h ss (nat_lt 2147483647 p.value) _ _ (λ e. fell _ _) (λ e. g_window h ss q (set_initial_window p.value q.outbox) (fault q cause.Overflow) (numbers_initialed p.value q.outbox) s (fell _ _))) (λ e.
     g_if h ss (p.id == 5) _ _ (λ e. g_if h ss (is_frame_size p.value) _ _ (λ e. silent q s) (λ e. fell _ _)) (λ e. silent q s))))
 
 g_after : (h : ℕ) (ss : List Stream) (o : Outcome) (go_on : State → Outcome) → Good h ss o → ((q : State) → Sound q → Good h ss (go_on q)) → Good h ss (after_setting o go_on)
@@ -330,7 +330,7 @@ g_after h ss _ go_on (tells q told s n) k = k q s
 g_after h ss _ go_on (fell control f) k = fell control f
 
 g_all : (h : ℕ) (ss : List Stream) (ps : List Setting) (q : State) → Sound q → Good h ss (set_all ps q)
-g_all h ss [] q s = silent (queued 0 SettingsAck q) (s_queued 0 SettingsAck q s)
+g_all h ss [] q s = silent (with_control_frame 0 SettingsAck q) (s_queued 0 SettingsAck q s)
 g_all h ss (p ∷ ps) q s = g_after h ss (set_one q p) (set_all ps) (g_one h ss q p s) (λ r t. g_all h ss ps r t)
 
 g_settings : (q : State) (n : ℕ) (pairs : List Setting) → Sound q → Good q.last_stream_id q.streams (settings_rows q n pairs)
@@ -341,29 +341,29 @@ g_settings q n pairs s =
 
 g_ping : (q : State) (n : ℕ) (ack : Bool) (word : ℕ) → Sound q → Good q.last_stream_id q.streams (ping_rows q n ack word)
 g_ping q n true word s = silent q s
-g_ping q n false word s = silent (queued 0 (Ping true word) q) (s_queued 0 (Ping true word) q s)
+g_ping q n false word s = silent (with_control_frame 0 (Ping true word) q) (s_queued 0 (Ping true word) q s)
 
 g_windows : (q : State) (n step : ℕ) → Sound q → Good q.last_stream_id q.streams (window_rows q n step)
 g_windows q n step s =
     g_or q.last_stream_id q.streams (n == 0) _ _
-    (λ e. g_if q.last_stream_id q.streams (step == 0) _ _ (λ e. fell _ _) (λ e. g_window q.last_stream_id q.streams q (grown 0 step q.outbox) (fault q cause.Overflow) (numbers_grown 0 step q.outbox) s (fell _ _))) (λ e.
+    (λ e. g_if q.last_stream_id q.streams (step == 0) _ _ (λ e. fell _ _) (λ e. g_window q.last_stream_id q.streams q (with_step 0 step q.outbox) (fault q cause.Overflow) (numbers_grown 0 step q.outbox) s (fell _ _))) (λ e.
     g_or q.last_stream_id q.streams (is_idle q n) _ _ (λ e. fell _ _) (λ e.
     g_if q.last_stream_id q.streams (not (is_live n q.streams)) _ _ (λ e. silent q s) (λ e.
     g_if q.last_stream_id q.streams (step == 0) _ _ (λ e. g_reset q n 1 s) (λ e.
-    g_window q.last_stream_id q.streams q (grown n step q.outbox) (reset_with q n 3) (numbers_grown n step q.outbox) s (g_reset q n 3 s)))))
+    g_window q.last_stream_id q.streams q (with_step n step q.outbox) (stream_error q n 3) (numbers_grown n step q.outbox) s (g_reset q n 3 s)))))
 
 -- ---- header blocks
 
-g_opened : (q : State) (u : OpenBlock) (headers : List Header) → nat_lt q.last_stream_id u.stream ≡ true → Sound q → Good q.last_stream_id q.streams (opened q u headers)
-unfolding opened
+g_opened : (q : State) (u : OpenBlock) (headers : List Header) → nat_lt q.last_stream_id u.stream ≡ true → Sound q → Good q.last_stream_id q.streams (with_new_stream q u headers)
+unfolding with_new_stream
 g_opened q u headers e s =
     let above : q.last_stream_id < u.stream = ltb-true q.last_stream_id u.stream e in
     g_if q.last_stream_id q.streams (nat_lt (length q.streams) 16) _ _
     (λ room. tells _ (happening.Head u.stream headers u.ended) (s_added q u.stream u.ended above s) (e, comes u.stream u.ended false q.streams))
     (λ room. silent _ (s_queued u.stream (Reset 7) (record q { last_stream_id = u.stream }) (s_raised q u.stream above s)))
 
-g_trailed : (q : State) (u : OpenBlock) (headers : List Header) → is_live u.stream q.streams ≡ true → Sound q → Good q.last_stream_id q.streams (trailed q u headers)
-unfolding trailed
+g_trailed : (q : State) (u : OpenBlock) (headers : List Header) → is_live u.stream q.streams ≡ true → Sound q → Good q.last_stream_id q.streams (after_trailers q u headers)
+unfolding after_trailers
 g_trailed q u headers live s =
     g_if q.last_stream_id q.streams (u.ended && are_good_trailers headers) _ _
     (λ e. tells (request_ends u.stream q) (happening.End u.stream) (s_request u.stream q s) live)
@@ -371,27 +371,27 @@ g_trailed q u headers live s =
 
 g_headers : (q : State) (u : OpenBlock) (headers : List Header) → Sound q → Good q.last_stream_id q.streams (headers_rows q u headers)
 g_headers q u headers s =
-    g_or q.last_stream_id q.streams (nat_lt q.last_stream_id u.stream) (opened q u headers) (or_else (closed_in q u headers) (or_else (ended_in q u headers) (trailed q u headers))) (λ e. g_opened q u headers e s) (λ e.
-    g_or q.last_stream_id q.streams (not (is_live u.stream q.streams)) (nothing q) (or_else (ended_in q u headers) (trailed q u headers)) (λ e. silent q s) (λ live.
-    g_or q.last_stream_id q.streams (is_remote_closed u.stream q.streams) (reset_with q u.stream 5) (trailed q u headers) (λ e. g_reset q u.stream 5 s) (λ e.
+    g_or q.last_stream_id q.streams (nat_lt q.last_stream_id u.stream) (with_new_stream q u headers) (or_else (closed_stream_row q u headers) (or_else (ended_stream_row q u headers) (after_trailers q u headers))) (λ e. g_opened q u headers e s) (λ e.
+    g_or q.last_stream_id q.streams (not (is_live u.stream q.streams)) (nothing q) (or_else (ended_stream_row q u headers) (after_trailers q u headers)) (λ e. silent q s) (λ live.
+    g_or q.last_stream_id q.streams (is_remote_closed u.stream q.streams) (stream_error q u.stream 5) (after_trailers q u headers) (λ e. g_reset q u.stream 5 s) (λ e.
     g_trailed q u headers (lift_true (is_live u.stream q.streams) live) s)))
 
-g_decoded : (g : Gathered) (r : Result (List Header) HpackFault) (d : Standing) → Sound g.state → Good g.state.last_stream_id g.state.streams (decoded_rows g r d)
+g_decoded : (g : BlockFragment) (r : Result (List Header) HpackFault) (d : Standing) → Sound g.state → Good g.state.last_stream_id g.state.streams (header_list_rows g r d)
 g_decoded g (Err f) d s = fell _ _
-g_decoded g (Ok headers) d s = g_headers (tabled d g.state) g.block headers s
+g_decoded g (Ok headers) d s = g_headers (with_decoder d g.state) g.block headers s
 
-g_block : (g : Gathered) → g.block.stream < 2 ^ 31 → Sound g.state → Good g.state.last_stream_id g.state.streams (block_rows g)
+g_block : (g : BlockFragment) → g.block.stream < 2 ^ 31 → Sound g.state → Good g.state.last_stream_id g.state.streams (block_rows g)
 g_block g low s =
-    g_or g.state.last_stream_id g.state.streams (nat_lt 16384 (length g.block.bytes)) (fault g.state cause.BlockTooLong) (or_else (grows g) (decoded_rows g (decoding g).0 (decoding g).1)) (λ e. fell _ _) (λ e.
-    g_or g.state.last_stream_id g.state.streams (not g.whole) (nothing (record g.state { open_block = Some g.block })) (decoded_rows g (decoding g).0 (decoding g).1) (λ e. silent _ (s_blocked g.state g.block low s)) (λ e.
+    g_or g.state.last_stream_id g.state.streams (nat_lt 16384 (length g.block.bytes)) (fault g.state cause.BlockTooLong) (or_else (grows g) (header_list_rows g (decoding g).0 (decoding g).1)) (λ e. fell _ _) (λ e.
+    g_or g.state.last_stream_id g.state.streams (not g.whole) (nothing (record g.state { open_block = Some g.block })) (header_list_rows g (decoding g).0 (decoding g).1) (λ e. silent _ (s_blocked g.state g.block low s)) (λ e.
     g_decoded g (decoding g).0 (decoding g).1 s))
 
 g_head : (q : State) (n : ℕ) (bytes : List ℕ) (ended whole : Bool) → n < 2 ^ 31 → Sound q → Good q.last_stream_id q.streams (head_rows q n bytes ended whole)
 g_head q n bytes ended whole low s =
-    g_or q.last_stream_id q.streams (n % 2 == 0) _ (block_rows (started q n bytes ended whole)) (λ e. fell _ _)
-    (λ e. g_block (started q n bytes ended whole) low (s_unblocked q.last_stream_id q.streams (numbers q.outbox) q.open_block s))
+    g_or q.last_stream_id q.streams (n % 2 == 0) _ (block_rows (first_fragment q n bytes ended whole)) (λ e. fell _ _)
+    (λ e. g_block (first_fragment q n bytes ended whole) low (s_unblocked q.last_stream_id q.streams (numbers q.outbox) q.open_block s))
 
-g_gathered : (q : State) (h : Option OpenBlock) (bytes : List ℕ) (whole : Bool) → IsLow h → Sound q → Good q.last_stream_id q.streams (gathered_rows q (continued q h bytes whole))
+g_gathered : (q : State) (h : Option OpenBlock) (bytes : List ℕ) (whole : Bool) → IsLow h → Sound q → Good q.last_stream_id q.streams (fragment_rows q (next_fragment q h bytes whole))
 g_gathered q None bytes whole low s = silent q s
 g_gathered q (Some u) bytes whole low s =
     g_block (record { state = record q { open_block = None }; block = record u { bytes = u.bytes ++ bytes; continuations = u.continuations + 1 }; whole = whole }) low
@@ -399,7 +399,7 @@ g_gathered q (Some u) bytes whole low s =
 
 g_continuation : (q : State) (n : ℕ) (bytes : List ℕ) (whole : Bool) → Sound q → Good q.last_stream_id q.streams (continuation_rows q n bytes whole)
 g_continuation q n bytes whole s =
-    g_or q.last_stream_id q.streams (has_come 64 (continuations_of q.open_block)) _ (gathered_rows q (continued q q.open_block bytes whole)) (λ e. fell _ _)
+    g_or q.last_stream_id q.streams (has_come 64 (continuations_of q.open_block)) _ (fragment_rows q (next_fragment q q.open_block bytes whole)) (λ e. fell _ _)
     (λ e. g_gathered q q.open_block bytes whole s.low s)
 
 -- ---- the table
@@ -418,7 +418,7 @@ g_kind q n (WindowUpdate step) low s = g_windows q n step s
 g_kind q n (Continuation bytes whole) low s = g_continuation q n bytes whole s
 g_kind q n (Unknown kind) low s = silent q s
 
-g_guarded : (h : ℕ) (ss : List Stream) (q : State) (n : ℕ) (body : Body) (rest : Outcome) → Good h ss rest → Good h ss (guarded q n body rest)
+g_guarded : (h : ℕ) (ss : List Stream) (q : State) (n : ℕ) (body : Body) (rest : Outcome) → Good h ss rest → Good h ss (guard_rows q n body rest)
 g_guarded h ss q n body rest g =
     g_or h ss (not (is_settings body) && not q.settings_received) _ _ (λ e. fell _ _) (λ e.
     g_or h ss (interrupts q.open_block n (is_continuation body)) _ _ (λ e. fell _ _) (λ e.

@@ -12,19 +12,19 @@ use Rattle.h2_flow.specs.declared.stream.Stream as flow
 use Rattle.h2_flow.specs.Streams.{Sent}
 use Rattle.h2_flow.specs.Histories.{data_of, data_on}
 use Rattle.h2_flow.specs.Windows.{window_of}
-use Rattle.h2_flow.specs.Outboxes.{Out, Pulled, pulled, numbers, is_number, changed, removed, controlled, new_stream, headed, with_offer, offered, withdrawn, finished_by}
+use Rattle.h2_flow.specs.Outboxes.{Out, PullResult, pull_of, numbers, is_number, update_stream, without_stream, with_control, new_stream, with_head, with_offer, with_message, without_waiting, with_trailers}
 use Rattle.h2_flow.proofs.Numbers.{numbers_pulled}
 use Rattle.h2_flow.proofs.Sums.{Spent, pull_sums}
 use Rattle.h2_conn.specs.declared.happening.Happening.{Happening}
 use Rattle.h2_conn.specs.declared.happening.Happening.TheVariants as happening
 use Rattle.h2_conn.specs.declared.state.State.{State}
 use Rattle.h2_conn.specs.Streams.{is_live, is_remote_closed, with_local_closed}
-use Rattle.h2_conn.specs.Peer.{goes, queued, closed, peer}
-use Rattle.h2_conn.specs.Conns.{takes, headed_on, finished_on, offered_on, withdrawn_on, reset_by, answer_ends, answers_end, moved, after_pull}
+use Rattle.h2_conn.specs.Peer.{goes, with_control_frame, without_live_stream, peer}
+use Rattle.h2_conn.specs.Conns.{takes, with_head_on, with_trailers_on, with_message_on, without_waiting_on, after_reset, answer_ends, answers_end, ends_reset_count, after_pull}
 use Rattle.h2_conn.specs.Counts.{Step, Came, Wrote, Head, Finish, Offer, Withdraw, Refuse, Leads, Reaches}
 use Rattle.h2_conn.specs.Naming.{NamesTold}
 use Rattle.h2_conn.specs.Sound.{Sound}
-use Rattle.h2_conn.specs.Windows.{window_step, step_on, written, written_on, initial_of, last_initial, is_head_of, opens, since_opened, stream_sum, HasWindows, HasLowStream}
+use Rattle.h2_conn.specs.Windows.{window_step, step_on, data_written, data_written_on, initial_of, last_initial, is_head_of, opens, since_opening, stream_sum, HasWindows, HasLowStream}
 use Rattle.h2_conn.proofs.Carries.{Has, h_closed, with_step, on_connection, frame_carries}
 use Rattle.h2_conn.proofs.Sounds.{s_outbox, s_closed, s_answering, s_headed_on, s_finished_on, s_offered_on, s_withdrawn_on, s_reset_by, peer_sound, peer_names}
 
@@ -32,16 +32,16 @@ use Rattle.h2_conn.proofs.Sounds.{s_outbox, s_closed, s_answering, s_headed_on, 
 
 -- all steps on the stream since it was opened, less the bytes of DATA written on it
 abbrev credit_sum : ℕ → List Step → ℤ
-credit_sum n steps = pos (sum_by (step_on n) (since_opened n steps)) -ℤ pos (sum_by (written_on n) (since_opened n steps))
+credit_sum n steps = pos (sum_by (step_on n) (since_opening n steps)) -ℤ pos (sum_by (data_written_on n) (since_opening n steps))
 
-since_next : (n : ℕ) (step : Step) (before : List Step) → opens n step ≡ false → since_opened n (step ∷ before) ≡ step ∷ since_opened n before
+since_next : (n : ℕ) (step : Step) (before : List Step) → opens n step ≡ false → since_opening n (step ∷ before) ≡ step ∷ since_opening n before
 since_next n step before later = take_while-cons (λ step. not (opens n step)) step before ∙ rw later refl
 
-since_first : (n : ℕ) (step : Step) (before : List Step) → opens n step ≡ true → since_opened n (step ∷ before) ≡ []
+since_first : (n : ℕ) (step : Step) (before : List Step) → opens n step ≡ true → since_opening n (step ∷ before) ≡ []
 since_first n step before now = take_while-cons (λ step. not (opens n step)) step before ∙ rw now refl
 
-credit_next : (n : ℕ) (step : Step) (before : List Step) → opens n step ≡ false → credit_sum n (step ∷ before) ≡ (credit_sum n before +ℤ pos (step_on n step)) -ℤ pos (written_on n step)
-credit_next n step before later = rw (since_next n step before later, sum_by-cons (step_on n) step (since_opened n before), sum_by-cons (written_on n) step (since_opened n before)) (omega (arith, ints))
+credit_next : (n : ℕ) (step : Step) (before : List Step) → opens n step ≡ false → credit_sum n (step ∷ before) ≡ (credit_sum n before +ℤ pos (step_on n step)) -ℤ pos (data_written_on n step)
+credit_next n step before later = rw (since_next n step before later, sum_by-cons (step_on n) step (since_opening n before), sum_by-cons (data_written_on n) step (since_opening n before)) (omega (arith, ints))
 
 credit_first : (n : ℕ) (step : Step) (before : List Step) → opens n step ≡ true → pos 0 ≡ credit_sum n (step ∷ before)
 credit_first n step before now = rw (since_first n step before now) (omega (arith, ints))
@@ -53,8 +53,8 @@ Credit steps s = s.credit ≡ credit_sum s.number steps
 record IsStill (step : Step) : Type 0 where
   opens : (n : ℕ) → opens n step ≡ false
   steps : (n : ℕ) → step_on n step ≡ 0
-  none : (n : ℕ) → written_on n step ≡ 0
-  written : written step ≡ 0
+  none : (n : ℕ) → data_written_on n step ≡ 0
+  written : data_written step ≡ 0
   initial : (before : List Step) → last_initial (step ∷ before) ≡ last_initial before
 
 credit_still : (step : Step) (before : List Step) → IsStill step → (n : ℕ) → credit_sum n (step ∷ before) ≡ credit_sum n before
@@ -69,20 +69,20 @@ credits_still step before still (s ∷ ss) h = (h.0 ∙ sym (credit_still step b
 record Holds (steps : List Step) (q : State) : Type 0 where
   sound : Sound q
   initial : q.outbox.flow.initial_window_size ≡ last_initial steps
-  connection : q.outbox.flow.connection_window + sum_by written steps ≡ INITIAL_WINDOW_SIZE + sum_by (step_on 0) steps
+  connection : q.outbox.flow.connection_window + sum_by data_written steps ≡ INITIAL_WINDOW_SIZE + sum_by (step_on 0) steps
   credits : AllByRecursion (Credit steps) q.outbox.streams
 
 holds_still : (step : Step) (before : List Step) (q new : State) → IsStill step → Holds before q → Sound new → Has (Credit before) q.outbox.flow.connection_window q.outbox.flow.initial_window_size new.outbox → Holds (step ∷ before) new
 holds_still step before q new still h sound k = record {
   sound = sound;
   initial = k.2 ∙ (h.initial ∙ sym (still.initial before));
-  connection = rw (k.1, sum_by-cons written step before, sum_by-cons (step_on 0) step before, still.written, still.steps 0) (omega (arith, h.connection));
+  connection = rw (k.1, sum_by-cons data_written step before, sum_by-cons (step_on 0) step before, still.written, still.steps 0) (omega (arith, h.connection));
   credits = credits_still step before still new.outbox.streams k.0;
 }
 
 -- ---- what the server says
 
-credits_changed : (steps : List Step) (n : ℕ) (f : flow.Stream → flow.Stream) → ((s : flow.Stream) → Credit steps s → Credit steps (f s)) → (ss : List flow.Stream) → AllByRecursion (Credit steps) ss → AllByRecursion (Credit steps) (changed n f ss)
+credits_changed : (steps : List Step) (n : ℕ) (f : flow.Stream → flow.Stream) → ((s : flow.Stream) → Credit steps s → Credit steps (f s)) → (ss : List flow.Stream) → AllByRecursion (Credit steps) ss → AllByRecursion (Credit steps) (update_stream n f ss)
 credits_changed steps n f keeps [] h = tt
 credits_changed steps n f keeps (s ∷ ss) h =
     elim (cases_Bool (s.number == n)) [
@@ -97,31 +97,31 @@ at_cond P false x y h k = k
 has_itself : (steps : List Step) (q : State) → Holds steps q → Has (Credit steps) q.outbox.flow.connection_window q.outbox.flow.initial_window_size q.outbox
 has_itself steps q h = (h.credits, refl, refl)
 
-has_headed : (steps : List Step) (n : ℕ) (block : List ℕ) (q : State) → Holds steps q → Has (Credit steps) q.outbox.flow.connection_window q.outbox.flow.initial_window_size (headed_on n block q).outbox
-unfolding headed_on headed
+has_headed : (steps : List Step) (n : ℕ) (block : List ℕ) (q : State) → Holds steps q → Has (Credit steps) q.outbox.flow.connection_window q.outbox.flow.initial_window_size (with_head_on n block q).outbox
+unfolding with_head_on with_head
 has_headed steps n block q h = at_cond (λ (x : State). Has (Credit steps) q.outbox.flow.connection_window q.outbox.flow.initial_window_size x.outbox) (takes n q) _ q (credits_changed steps n (λ s. record s { head = Some block }) (λ s e. e) q.outbox.streams h.credits, refl, refl) (has_itself steps q h)
 
-has_finished : (steps : List Step) (n : ℕ) (block : List ℕ) (q : State) → Holds steps q → Has (Credit steps) q.outbox.flow.connection_window q.outbox.flow.initial_window_size (finished_on n block q).outbox
-unfolding finished_on finished_by
+has_finished : (steps : List Step) (n : ℕ) (block : List ℕ) (q : State) → Holds steps q → Has (Credit steps) q.outbox.flow.connection_window q.outbox.flow.initial_window_size (with_trailers_on n block q).outbox
+unfolding with_trailers_on with_trailers
 has_finished steps n block q h = at_cond (λ (x : State). Has (Credit steps) q.outbox.flow.connection_window q.outbox.flow.initial_window_size x.outbox) (takes n q) _ q (credits_changed steps n (λ s. record s { trailers = Some block; finished = true }) (λ s e. e) q.outbox.streams h.credits, refl, refl) (has_itself steps q h)
 
-has_offered : (steps : List Step) (n : ℕ) (message : List ℕ) (q : State) → Holds steps q → Has (Credit steps) q.outbox.flow.connection_window q.outbox.flow.initial_window_size (offered_on n message q).outbox
-unfolding offered_on offered
+has_offered : (steps : List Step) (n : ℕ) (message : List ℕ) (q : State) → Holds steps q → Has (Credit steps) q.outbox.flow.connection_window q.outbox.flow.initial_window_size (with_message_on n message q).outbox
+unfolding with_message_on with_message
 has_offered steps n message q h = at_cond (λ (x : State). Has (Credit steps) q.outbox.flow.connection_window q.outbox.flow.initial_window_size x.outbox) (takes n q) _ q (credits_changed steps n (with_offer message) (λ s e. e) q.outbox.streams h.credits, refl, refl) (has_itself steps q h)
 
-has_withdrawn : (steps : List Step) (n : ℕ) (q : State) → Holds steps q → Has (Credit steps) q.outbox.flow.connection_window q.outbox.flow.initial_window_size (withdrawn_on n q).outbox
-unfolding withdrawn_on withdrawn
+has_withdrawn : (steps : List Step) (n : ℕ) (q : State) → Holds steps q → Has (Credit steps) q.outbox.flow.connection_window q.outbox.flow.initial_window_size (without_waiting_on n q).outbox
+unfolding without_waiting_on without_waiting
 has_withdrawn steps n q h = at_cond (λ (x : State). Has (Credit steps) q.outbox.flow.connection_window q.outbox.flow.initial_window_size x.outbox) (takes n q) _ q (credits_changed steps n (λ s. record s { waiting = None }) (λ s e. e) q.outbox.streams h.credits, refl, refl) (has_itself steps q h)
 
-has_reset : (steps : List Step) (n code : ℕ) (q : State) → Holds steps q → Has (Credit steps) q.outbox.flow.connection_window q.outbox.flow.initial_window_size (reset_by n code q).outbox
-unfolding reset_by controlled
-has_reset steps n code q h = at_cond (λ (x : State). Has (Credit steps) q.outbox.flow.connection_window q.outbox.flow.initial_window_size x.outbox) (is_live n q.streams) (closed n (queued n (Reset code) q)) q (h_closed (Credit steps) q.outbox.flow.connection_window q.outbox.flow.initial_window_size n (queued n (Reset code) q) (has_itself steps q h)) (has_itself steps q h)
+has_reset : (steps : List Step) (n code : ℕ) (q : State) → Holds steps q → Has (Credit steps) q.outbox.flow.connection_window q.outbox.flow.initial_window_size (after_reset n code q).outbox
+unfolding after_reset with_control
+has_reset steps n code q h = at_cond (λ (x : State). Has (Credit steps) q.outbox.flow.connection_window q.outbox.flow.initial_window_size x.outbox) (is_live n q.streams) (without_live_stream n (with_control_frame n (Reset code) q)) q (h_closed (Credit steps) q.outbox.flow.connection_window q.outbox.flow.initial_window_size n (with_control_frame n (Reset code) q) (has_itself steps q h)) (has_itself steps q h)
 
 -- ---- a flush
 
 has_answer : (P : flow.Stream → Type 0) (c i n : ℕ) (q : State) → Has P c i q.outbox → Has P c i (answer_ends n q).outbox
 unfolding answer_ends
-has_answer P c i n q h = at_cond (λ (x : State). Has P c i x.outbox) (is_remote_closed n q.streams) (closed n q) (record q { streams = with_local_closed n q.streams }) (h_closed P c i n q h) h
+has_answer P c i n q h = at_cond (λ (x : State). Has P c i x.outbox) (is_remote_closed n q.streams) (without_live_stream n q) (record q { streams = with_local_closed n q.streams }) (h_closed P c i n q h) h
 
 has_answers : (P : flow.Stream → Type 0) (c i : ℕ) (ns : List ℕ) (q : State) → Has P c i q.outbox → Has P c i (answers_end ns q).outbox
 has_answers P c i [] q h = h
@@ -129,15 +129,15 @@ has_answers P c i (n ∷ ns) q h = has_answers P c i ns (answer_ends n q) (has_a
 
 sound_answer : (n : ℕ) (q : State) → Sound q → Sound (answer_ends n q)
 unfolding answer_ends
-sound_answer n q s = at_cond (λ (x : State). Sound x) (is_remote_closed n q.streams) (closed n q) (record q { streams = with_local_closed n q.streams }) (s_closed n q s) (s_answering n q s)
+sound_answer n q s = at_cond (λ (x : State). Sound x) (is_remote_closed n q.streams) (without_live_stream n q) (record q { streams = with_local_closed n q.streams }) (s_closed n q s) (s_answering n q s)
 
 sound_answers : (ns : List ℕ) (q : State) → Sound q → Sound (answers_end ns q)
 sound_answers [] q s = s
 sound_answers (n ∷ ns) q s = sound_answers ns (answer_ends n q) (sound_answer n q s)
 
-sound_pull : (q : State) → Sound q → Sound (after_pull q (pulled q.outbox))
+sound_pull : (q : State) → Sound q → Sound (after_pull q (pull_of q.outbox))
 unfolding after_pull
-sound_pull q s = sound_answers (pulled q.outbox).ended (record q { outbox = (pulled q.outbox).left; rapid_reset_count = cond (moved q (pulled q.outbox)) 0 q.rapid_reset_count }) (s_outbox q (pulled q.outbox).left (numbers_pulled q.outbox) s)
+sound_pull q s = sound_answers (pull_of q.outbox).ended (record q { outbox = (pull_of q.outbox).left; rapid_reset_count = cond (ends_reset_count q (pull_of q.outbox)) 0 q.rapid_reset_count }) (s_outbox q (pull_of q.outbox).left (numbers_pulled q.outbox) s)
 
 credits_spent : (sent : List Sent) (ends : Bool) (before : List Step) (ss ts : List flow.Stream) → Spent sent ss ts → AllByRecursion (Credit before) ss → AllByRecursion (Credit (Wrote sent ends ∷ before)) ts
 credits_spent sent ends before [] [] m h = tt
@@ -147,18 +147,18 @@ credits_spent sent ends before (s ∷ ss) (t ∷ ts) m h =
     let now : t.credit ≡ credit_sum s.number (Wrote sent ends ∷ before) = m.1 ∙ (ap (λ (c : ℤ). c -ℤ pos (sum_by (data_on s.number) sent)) h.0 ∙ sym (credit_next s.number (Wrote sent ends) before refl ∙ omega (arith, ints))) in
     (subst (λ (n : ℕ). t.credit ≡ credit_sum n (Wrote sent ends ∷ before)) (sym m.0) now, credits_spent sent ends before ss ts m.2 h.1)
 
-holds_wrote : (ends : Bool) (before : List Step) (q : State) → Holds before q → Holds (Wrote (pulled q.outbox).sent ends ∷ before) (after_pull q (pulled q.outbox))
+holds_wrote : (ends : Bool) (before : List Step) (q : State) → Holds before q → Holds (Wrote (pull_of q.outbox).sent ends ∷ before) (after_pull q (pull_of q.outbox))
 unfolding after_pull
 holds_wrote ends before q h =
-    let x = pulled q.outbox in
+    let x = pull_of q.outbox in
     let spent = pull_sums q.outbox h.sound.rises in
     let step = Wrote x.sent ends in
     let left : Has (Credit (step ∷ before)) x.left.flow.connection_window x.left.flow.initial_window_size x.left = (credits_spent x.sent ends before q.outbox.streams x.left.streams spent.2 h.credits, refl, refl) in
-    let k = has_answers (Credit (step ∷ before)) x.left.flow.connection_window x.left.flow.initial_window_size x.ended (record q { outbox = x.left; rapid_reset_count = cond (moved q x) 0 q.rapid_reset_count }) left in
+    let k = has_answers (Credit (step ∷ before)) x.left.flow.connection_window x.left.flow.initial_window_size x.ended (record q { outbox = x.left; rapid_reset_count = cond (ends_reset_count q x) 0 q.rapid_reset_count }) left in
     record {
       sound = sound_pull q h.sound;
       initial = k.2 ∙ (spent.0 ∙ h.initial);
-      connection = rw (k.1, sum_by-cons written step before, sum_by-cons (step_on 0) step before) (omega (arith, spent.1, h.connection));
+      connection = rw (k.1, sum_by-cons data_written step before, sum_by-cons (step_on 0) step before) (omega (arith, spent.1, h.connection));
       credits = k.0;
     }
 
@@ -227,7 +227,7 @@ holds_came f told early before old new low due h =
     record {
       sound = rw due at (peer_sound old f low h.sound);
       initial = k.2 ∙ ap (initial_of f.body) h.initial;
-      connection = rw (k.1, same_step f.stream (window_step f.body), sum_by-cons written (Came f told early) before, sum_by-cons (step_on 0) (Came f told early) before) (omega (arith, h.connection));
+      connection = rw (k.1, same_step f.stream (window_step f.body), sum_by-cons data_written (Came f told early) before, sum_by-cons (step_on 0) (Came f told early) before) (omega (arith, h.connection));
       credits = all_after last f early before told (above_named old new told named) new.outbox.streams k.0;
     }
 
@@ -236,11 +236,11 @@ holds_came f told early before old new low due h =
 holds_next : (step : Step) (before : List Step) (old new : State) → HasLowStream step → Holds before old → Leads step old new → Holds (step ∷ before) new
 holds_next (Came f told early) before old new low h l = holds_came f told early before old new low l.0 h
 holds_next (Wrote sent ends) before old new low h l = rw (l.0, l.2) (holds_wrote ends before old h)
-holds_next (Head n block) before old new low h l = rw l (holds_still (Head n block) before old (headed_on n block old) (record { opens = λ m. refl; steps = λ m. refl; none = λ m. refl; written = refl; initial = λ b. refl }) h (s_headed_on n block old h.sound) (has_headed before n block old h))
-holds_next (Finish n block) before old new low h l = rw l (holds_still (Finish n block) before old (finished_on n block old) (record { opens = λ m. refl; steps = λ m. refl; none = λ m. refl; written = refl; initial = λ b. refl }) h (s_finished_on n block old h.sound) (has_finished before n block old h))
-holds_next (Offer n message) before old new low h l = rw l (holds_still (Offer n message) before old (offered_on n message old) (record { opens = λ m. refl; steps = λ m. refl; none = λ m. refl; written = refl; initial = λ b. refl }) h (s_offered_on n message old h.sound) (has_offered before n message old h))
-holds_next (Withdraw n) before old new low h l = rw l (holds_still (Withdraw n) before old (withdrawn_on n old) (record { opens = λ m. refl; steps = λ m. refl; none = λ m. refl; written = refl; initial = λ b. refl }) h (s_withdrawn_on n old h.sound) (has_withdrawn before n old h))
-holds_next (Refuse n code) before old new low h l = rw l (holds_still (Refuse n code) before old (reset_by n code old) (record { opens = λ m. refl; steps = λ m. refl; none = λ m. refl; written = refl; initial = λ b. refl }) h (s_reset_by n code old h.sound) (has_reset before n code old h))
+holds_next (Head n block) before old new low h l = rw l (holds_still (Head n block) before old (with_head_on n block old) (record { opens = λ m. refl; steps = λ m. refl; none = λ m. refl; written = refl; initial = λ b. refl }) h (s_headed_on n block old h.sound) (has_headed before n block old h))
+holds_next (Finish n block) before old new low h l = rw l (holds_still (Finish n block) before old (with_trailers_on n block old) (record { opens = λ m. refl; steps = λ m. refl; none = λ m. refl; written = refl; initial = λ b. refl }) h (s_finished_on n block old h.sound) (has_finished before n block old h))
+holds_next (Offer n message) before old new low h l = rw l (holds_still (Offer n message) before old (with_message_on n message old) (record { opens = λ m. refl; steps = λ m. refl; none = λ m. refl; written = refl; initial = λ b. refl }) h (s_offered_on n message old h.sound) (has_offered before n message old h))
+holds_next (Withdraw n) before old new low h l = rw l (holds_still (Withdraw n) before old (without_waiting_on n old) (record { opens = λ m. refl; steps = λ m. refl; none = λ m. refl; written = refl; initial = λ b. refl }) h (s_withdrawn_on n old h.sound) (has_withdrawn before n old h))
+holds_next (Refuse n code) before old new low h l = rw l (holds_still (Refuse n code) before old (after_reset n code old) (record { opens = λ m. refl; steps = λ m. refl; none = λ m. refl; written = refl; initial = λ b. refl }) h (s_reset_by n code old h.sound) (has_reset before n code old h))
 
 holds_reached : (steps : List Step) (q : State) → AllByRecursion HasLowStream steps → Reaches steps q → Holds steps q
 holds_reached [] q low e = rw e (record { sound = record { same = refl; below = tt; low = tt; rises = tt }; initial = refl; connection = refl; credits = tt })

@@ -1,7 +1,7 @@
 -- What came to a connection and what it wrote, and the four flood counts as sums over that.
 use Rattle.std.specs.Prelude.{◌≡◌, ℕ, ◌==◌, Bool, true, false, not, ◌||◌, List, [], ◌∷◌, length, count_by, Option, Some, None}
 use Rattle.std.specs.List.{take_while}
-use Rattle.h2_flow.specs.Outboxes.{pulled}
+use Rattle.h2_flow.specs.Outboxes.{pull_of}
 use Rattle.h2_flow.specs.Streams.{Sent}
 use Rattle.h2_frame.specs.declared.frame.Body.{Body}
 use Rattle.h2_frame.specs.declared.frame.Body.TheVariants.{Bytes, Headers, Reset}
@@ -10,7 +10,7 @@ use Rattle.h2_conn.specs.declared.happening.Happening.{Happening}
 use Rattle.h2_conn.specs.declared.state.State.{State}
 use Rattle.h2_conn.specs.declared.state.OpenBlock.{OpenBlock}
 use Rattle.h2_conn.specs.Peer.{goes, is_settings, is_continuation, is_empty_data, is_rapid, peer}
-use Rattle.h2_conn.specs.Conns.{fresh, headed_on, finished_on, offered_on, withdrawn_on, reset_by, moved, after_pull}
+use Rattle.h2_conn.specs.Conns.{new_state, with_head_on, with_trailers_on, with_message_on, without_waiting_on, after_reset, ends_reset_count, after_pull}
 
 -- ---- histories
 
@@ -33,16 +33,16 @@ is_early q n body = false
 abbrev pub Leads : Step → State → State → Type 0
 Leads (Came f told early) old new = (peer old f ≡ goes new told) × (early ≡ is_early old f.stream f.body)
 Leads (Wrote sent ends) old new =
-    (sent ≡ (pulled old.outbox).sent) × (ends ≡ moved old (pulled old.outbox)) × (new ≡ after_pull old (pulled old.outbox))
-Leads (Head n block) old new = new ≡ headed_on n block old
-Leads (Finish n block) old new = new ≡ finished_on n block old
-Leads (Offer n message) old new = new ≡ offered_on n message old
-Leads (Withdraw n) old new = new ≡ withdrawn_on n old
-Leads (Refuse n code) old new = new ≡ reset_by n code old
+    (sent ≡ (pull_of old.outbox).sent) × (ends ≡ ends_reset_count old (pull_of old.outbox)) × (new ≡ after_pull old (pull_of old.outbox))
+Leads (Head n block) old new = new ≡ with_head_on n block old
+Leads (Finish n block) old new = new ≡ with_trailers_on n block old
+Leads (Offer n message) old new = new ≡ with_message_on n message old
+Leads (Withdraw n) old new = new ≡ without_waiting_on n old
+Leads (Refuse n code) old new = new ≡ after_reset n code old
 
 -- these steps, the last one first, took a new connection to this state
 abbrev pub Reaches : List Step → State → Type 0
-Reaches [] q = q ≡ fresh
+Reaches [] q = q ≡ new_state
 Reaches (step ∷ before) q = (old : State) × Reaches before old × Leads step old q
 
 -- ---- what counts
@@ -60,13 +60,13 @@ is_empty (Bytes bytes size ended) = is_empty_data bytes ended
 is_empty body = false
 
 -- a frame of this sort
-abbrev pub came : (Body → Bool) → Step → Bool
-came sort (Came f told early) = sort f.body
-came sort _ = false
+abbrev pub is_arrival : (Body → Bool) → Step → Bool
+is_arrival sort (Came f told early) = sort f.body
+is_arrival sort _ = false
 
-abbrev pub came_early : Step → Bool
-came_early (Came f told early) = early
-came_early _ = false
+abbrev pub is_early_reset : Step → Bool
+is_early_reset (Came f told early) = early
+is_early_reset _ = false
 
 abbrev pub ends_resets : Step → Bool
 ends_resets (Wrote sent ends) = ends
@@ -89,7 +89,7 @@ ContinuationsAre n (Some u) = u.continuations ≡ n
 
 -- own rule: what the flood rows count
 pub record HasCounts (steps : List Step) (q : State) : Type 0 where
-  pub settings_count : q.settings_count ≡ since restarts (came is_settings) steps
-  pub empty_data_count : q.empty_data_count ≡ since restarts (came is_empty) steps
-  pub rapid_reset_count : q.rapid_reset_count ≡ since ends_resets came_early steps
-  pub continuations : ContinuationsAre (since (came is_head) (came is_continuation) steps) q.open_block
+  pub settings_count : q.settings_count ≡ since restarts (is_arrival is_settings) steps
+  pub empty_data_count : q.empty_data_count ≡ since restarts (is_arrival is_empty) steps
+  pub rapid_reset_count : q.rapid_reset_count ≡ since ends_resets is_early_reset steps
+  pub continuations : ContinuationsAre (since (is_arrival is_head) (is_arrival is_continuation) steps) q.open_block

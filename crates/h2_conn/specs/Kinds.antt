@@ -17,7 +17,7 @@ use Rattle.h2_conn.specs.declared.happening.Happening.{Happening}
 use Rattle.h2_conn.specs.declared.state.State.{State}
 use Rattle.h2_conn.specs.declared.state.OpenBlock.{OpenBlock}
 use Rattle.h2_conn.specs.Faults.{failure}
-use Rattle.h2_conn.specs.Peer.{Outcome, goes, fails, fault, nothing, or_else, first_row, first_frame, block_open, no_block, stream_zero, empty_data_flood, idle_stream, data_rule, reset_flood, reset_rule, settings_flood, settings_rule, no_effect, ping_rule, connection_window_rule, stream_window_rule, continuation_flood, even_stream, Gathered, started, continued, too_long, grows, decoding, tabled, head_in, closed_in, ended_in, trailed}
+use Rattle.h2_conn.specs.Peer.{Outcome, goes, fails, fault, nothing, or_else, first_row, first_frame, block_open, no_block, stream_zero, empty_data_flood, idle_stream, data_rule, reset_flood, reset_rule, settings_flood, settings_rule, no_effect, ping_rule, connection_window_rule, stream_window_rule, continuation_flood, even_stream, BlockFragment, first_fragment, next_fragment, too_long, grows, decoding, with_decoder, new_head_row, closed_stream_row, ended_stream_row, after_trailers}
 
 -- what was answered is what is due, unless memory ran out
 abbrev pub Steps : Outcome → Result (Option Happening) ConnError → State → Type 0
@@ -27,12 +27,12 @@ Steps due (Err refusal.Memory) new = Unit {0}
 
 -- ---- the rows that look at several kinds
 
-abbrev pub guarded : State → ℕ → Body → Outcome → Outcome
-guarded q n body rest = or_else (first_frame q n body) (or_else (block_open q n body) (or_else (no_block q n body) (or_else (stream_zero q n body) rest)))
+abbrev pub guard_rows : State → ℕ → Body → Outcome → Outcome
+guard_rows q n body rest = or_else (first_frame q n body) (or_else (block_open q n body) (or_else (no_block q n body) (or_else (stream_zero q n body) rest)))
 
 abbrev pub Guards : Result (Unit {0}) ConnError → State → ℕ → Body → Type 0
-Guards (Ok x) q n body = (rest : Outcome) → guarded q n body rest ≡ rest
-Guards (Err (refusal.Fault f)) q n body = (rest : Outcome) → guarded q n body rest ≡ fails q.outbox.control f
+Guards (Ok x) q n body = (rest : Outcome) → guard_rows q n body rest ≡ rest
+Guards (Err (refusal.Fault f)) q n body = (rest : Outcome) → guard_rows q n body rest ≡ fails q.outbox.control f
 Guards (Err refusal.Memory) q n body = ⊥
 
 -- ---- each kind's own rows
@@ -54,24 +54,24 @@ window_rows q n step = first_row (connection_window_rule ∷ idle_stream ∷ str
 
 -- a whole block's own rows
 abbrev pub headers_rows : State → OpenBlock → List Header → Outcome
-headers_rows q u headers = or_else (head_in q u headers) (or_else (closed_in q u headers) (or_else (ended_in q u headers) (trailed q u headers)))
+headers_rows q u headers = or_else (new_head_row q u headers) (or_else (closed_stream_row q u headers) (or_else (ended_stream_row q u headers) (after_trailers q u headers)))
 
-abbrev pub decoded_rows : Gathered → Result (List Header) HpackFault → Standing → Outcome
-decoded_rows g (Err f) d = fault g.state (cause.Hpack f)
-decoded_rows g (Ok headers) d = headers_rows (tabled d g.state) g.block headers
+abbrev pub header_list_rows : BlockFragment → Result (List Header) HpackFault → Standing → Outcome
+header_list_rows g (Err f) d = fault g.state (cause.Hpack f)
+header_list_rows g (Ok headers) d = headers_rows (with_decoder d g.state) g.block headers
 
-abbrev pub block_rows : Gathered → Outcome
-block_rows g = or_else (too_long g) (or_else (grows g) (decoded_rows g (decoding g).0 (decoding g).1))
+abbrev pub block_rows : BlockFragment → Outcome
+block_rows g = or_else (too_long g) (or_else (grows g) (header_list_rows g (decoding g).0 (decoding g).1))
 
 abbrev pub head_rows : State → ℕ → List ℕ → Bool → Bool → Outcome
-head_rows q n bytes ended whole = or_else (even_stream q n (Headers bytes ended whole)) (block_rows (started q n bytes ended whole))
+head_rows q n bytes ended whole = or_else (even_stream q n (Headers bytes ended whole)) (block_rows (first_fragment q n bytes ended whole))
 
-abbrev pub gathered_rows : State → Option Gathered → Outcome
-gathered_rows q None = nothing q
-gathered_rows q (Some g) = block_rows g
+abbrev pub fragment_rows : State → Option BlockFragment → Outcome
+fragment_rows q None = nothing q
+fragment_rows q (Some g) = block_rows g
 
 abbrev pub continuation_rows : State → ℕ → List ℕ → Bool → Outcome
-continuation_rows q n bytes whole = or_else (continuation_flood q n (Continuation bytes whole)) (gathered_rows q (continued q q.open_block bytes whole))
+continuation_rows q n bytes whole = or_else (continuation_flood q n (Continuation bytes whole)) (fragment_rows q (next_fragment q q.open_block bytes whole))
 
 abbrev pub kind_rows : State → ℕ → Body → Outcome
 kind_rows q n (Bytes bytes size ended) = data_rows q n bytes size ended

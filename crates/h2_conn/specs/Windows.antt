@@ -27,12 +27,12 @@ step_on n _ = 0
 
 -- the bytes of DATA that a flush wrote, and those on this stream
 abbrev pub written : Step → ℕ
-written (Wrote sent ends) = sum_by data_of sent
-written _ = 0
+data_written (Wrote sent ends) = sum_by data_of sent
+data_written _ = 0
 
-abbrev pub written_on : ℕ → Step → ℕ
-written_on n (Wrote sent ends) = sum_by (data_on n) sent
-written_on n _ = 0
+abbrev pub data_written_on : ℕ → Step → ℕ
+data_written_on n (Wrote sent ends) = sum_by (data_on n) sent
+data_written_on n _ = 0
 
 -- ---- the peer's initial window of streams
 
@@ -61,18 +61,18 @@ abbrev pub opens : ℕ → Step → Bool
 opens n (Came f told early) = is_head_of n told
 opens n _ = false
 
-abbrev pub since_opened : ℕ → List Step → List Step
-since_opened n steps = take_while (λ step. not (opens n step)) steps
+abbrev pub since_opening : ℕ → List Step → List Step
+since_opening n steps = take_while (λ step. not (opens n step)) steps
 
 -- ---- windows as sums
 
 -- RFC 9113, section 6.9: 65,535 and all steps on the connection, less all bytes of DATA written
 abbrev pub connection_sum : List Step → ℤ
-connection_sum steps = pos (INITIAL_WINDOW_SIZE + sum_by (step_on 0) steps) -ℤ pos (sum_by written steps)
+connection_sum steps = pos (INITIAL_WINDOW_SIZE + sum_by (step_on 0) steps) -ℤ pos (sum_by data_written steps)
 
 -- the last initial window and all steps on the stream, less the bytes of DATA written on it
 abbrev pub stream_sum : ℕ → List Step → ℤ
-stream_sum n steps = pos (last_initial steps + sum_by (step_on n) (since_opened n steps)) -ℤ pos (sum_by (written_on n) (since_opened n steps))
+stream_sum n steps = pos (last_initial steps + sum_by (step_on n) (since_opening n steps)) -ℤ pos (sum_by (data_written_on n) (since_opening n steps))
 
 -- the connection's windows are these sums
 pub record HasWindows (steps : List Step) (q : State) : Type 0 where

@@ -4,8 +4,8 @@ ghost use Rattle.std.specs.Prelude.{◌≡◌, ◌≤◌, ◌<◌, length, IfOk,
 ghost use Rattle.h2_wire.specs.declared.limit.TheConstants.{MAX_BLOCK_LEN};
 ghost use Rattle.hpack.specs.declared.limit.TheConstants.{MAX_LIST_SIZE};
 ghost use Rattle.hpack.specs.Tables.{list_size};
-ghost use Rattle.hpack.specs.Writing.{spelled_block};
-ghost use Rattle.h2_conn.specs.Conns.{takes, headed_on, finished_on, offered_on, withdrawn_on, reset_by};
+ghost use Rattle.hpack.specs.Writing.{block_bytes};
+ghost use Rattle.h2_conn.specs.Conns.{takes, with_head_on, with_trailers_on, with_message_on, without_waiting_on, after_reset};
 
 use crate::control::{close, queue_reset};
 use crate::state::State;
@@ -23,15 +23,15 @@ fn takes(state: &State, stream: u32) -> bool
 /// The block of some headers.
 fn block(alloc: Global, headers: &[Header]) -> Result<Octets, Memory>
     requires { list_size headers.now ≤ MAX_LIST_SIZE }
-    ensures { IfOk result (λ block. (block ≡ spelled_block headers.now) × (length block ≤ MAX_BLOCK_LEN)) }
+    ensures { IfOk result (λ block. (block ≡ block_bytes headers.now) × (length block ≤ MAX_BLOCK_LEN)) }
 {
     encode_plain(alloc, headers)
 }
 
-#[tactic(auto, unfolding(crate::specs::Conns::headed_on))]
+#[tactic(auto, unfolding(crate::specs::Conns::with_head_on))]
 pub fn head(state: &mut State, alloc: Global, stream: u32, headers: &[Header]) -> Result<(), Memory>
     requires { list_size headers.now ≤ MAX_LIST_SIZE }
-    ensures { OnOk result (state.new ≡ headed_on stream (spelled_block headers.now) state.old) }
+    ensures { OnOk result (state.new ≡ with_head_on stream (block_bytes headers.now) state.old) }
 {
     if takes(state, stream) {
         let block = block(alloc, headers)?;
@@ -40,7 +40,7 @@ pub fn head(state: &mut State, alloc: Global, stream: u32, headers: &[Header]) -
     Ok(())
 }
 
-#[tactic(auto, unfolding(crate::specs::Conns::finished_on))]
+#[tactic(auto, unfolding(crate::specs::Conns::with_trailers_on))]
 pub fn finish(
     state: &mut State,
     alloc: Global,
@@ -48,7 +48,7 @@ pub fn finish(
     headers: &[Header],
 ) -> Result<(), Memory>
     requires { list_size headers.now ≤ MAX_LIST_SIZE }
-    ensures { OnOk result (state.new ≡ finished_on stream (spelled_block headers.now) state.old) }
+    ensures { OnOk result (state.new ≡ with_trailers_on stream (block_bytes headers.now) state.old) }
 {
     if takes(state, stream) {
         let block = block(alloc, headers)?;
@@ -57,28 +57,28 @@ pub fn finish(
     Ok(())
 }
 
-#[tactic(auto, unfolding(crate::specs::Conns::offered_on))]
+#[tactic(auto, unfolding(crate::specs::Conns::with_message_on))]
 pub fn offer(state: &mut State, stream: u32, message: Octets)
     requires { 0 < length message }
-    ensures { state.new ≡ offered_on stream message state.old }
+    ensures { state.new ≡ with_message_on stream message state.old }
 {
     if takes(state, stream) {
         state.outbox.offer(stream, message);
     }
 }
 
-#[tactic(auto, unfolding(crate::specs::Conns::withdrawn_on))]
+#[tactic(auto, unfolding(crate::specs::Conns::without_waiting_on))]
 pub fn withdraw(state: &mut State, stream: u32)
-    ensures { state.new ≡ withdrawn_on stream state.old }
+    ensures { state.new ≡ without_waiting_on stream state.old }
 {
     if takes(state, stream) {
         state.outbox.withdraw(stream);
     }
 }
 
-#[tactic(auto, unfolding(crate::specs::Conns::reset_by))]
+#[tactic(auto, unfolding(crate::specs::Conns::after_reset))]
 pub fn reset(state: &mut State, stream: u32, code: u32) -> Result<(), Memory>
-    ensures { OnOk result (state.new ≡ reset_by stream code state.old) }
+    ensures { OnOk result (state.new ≡ after_reset stream code state.old) }
 {
     if state.streams.is_live(stream) {
         queue_reset(state, stream, code)?;

@@ -2,9 +2,9 @@
 
 ghost use Rattle.std.specs.Prelude.{◌≡◌, ◌<◌, ◌^◌, true, false, nat_lt};
 ghost use Rattle.h2_headers.specs.Heads.{are_good_trailers};
-ghost use Rattle.hpack.specs.Decoding.{decoded};
-ghost use Rattle.h2_conn.specs.Peer.{opened, trailed};
-ghost use Rattle.h2_conn.specs.Kinds.{Steps, IsRefusal, headers_rows, decoded_rows, block_rows, head_rows, continuation_rows};
+ghost use Rattle.hpack.specs.Decoding.{decode_block};
+ghost use Rattle.h2_conn.specs.Peer.{with_new_stream, after_trailers};
+ghost use Rattle.h2_conn.specs.Kinds.{Steps, IsRefusal, headers_rows, header_list_rows, block_rows, head_rows, continuation_rows};
 ghost use Rattle.h2_conn.specs.Sound.{Sound};
 
 use crate::control::{RowResult, end_request, fault, queue_reset, reset_with};
@@ -39,12 +39,12 @@ fn refusal(state: &State, why: HpackFault) -> ConnError
 }
 
 /// Opens a stream, or refuses it where 16 are live.
-#[tactic(auto, using(crate::proofs::Sounds::has_room, crate::proofs::Sounds::is_above), unfolding(crate::specs::Peer::opened))]
+#[tactic(auto, using(crate::proofs::Sounds::has_room, crate::proofs::Sounds::is_above), unfolding(crate::specs::Peer::with_new_stream))]
 fn open(state: &mut State, block: &OpenBlock, headers: Row<Header>) -> RowResult
     requires new { state.old.last_stream_id < block.now.stream }
     requires low { block.now.stream < 2 ^ 31 }
     requires sound { Sound state.old }
-    ensures { Steps (opened state.old block.now headers) result state.new }
+    ensures { Steps (with_new_stream state.old block.now headers) result state.new }
 {
     let stream = block.stream;
     let ended = block.ended;
@@ -68,9 +68,9 @@ fn open(state: &mut State, block: &OpenBlock, headers: Row<Header>) -> RowResult
 }
 
 /// Takes the second block of a request, its trailers.
-#[tactic(auto, unfolding(crate::specs::Peer::trailed))]
+#[tactic(auto, unfolding(crate::specs::Peer::after_trailers))]
 fn take_trailers(state: &mut State, block: &OpenBlock, headers: &[Header]) -> RowResult
-    ensures { Steps (trailed state.old block.now headers.now) result state.new }
+    ensures { Steps (after_trailers state.old block.now headers.now) result state.new }
 {
     let stream = block.stream;
     if block.ended && judge_trailers(headers) {
@@ -103,7 +103,7 @@ fn header_rows(state: &mut State, block: &OpenBlock, headers: Row<Header>) -> Ro
 fn whole_block(state: &mut State, alloc: Global, block: OpenBlock) -> RowResult
     requires low { block.stream < 2 ^ 31 }
     requires sound { Sound state.old }
-    ensures { Steps (decoded_rows (record { state = state.old; block = block; whole = true }) (decoded state.old.decoder block.bytes).0 (decoded state.old.decoder block.bytes).1) result state.new }
+    ensures { Steps (header_list_rows (record { state = state.old; block = block; whole = true }) (decode_block state.old.decoder block.bytes).0 (decode_block state.old.decoder block.bytes).1) result state.new }
 {
     match state.decoder.block(alloc, block.bytes.as_slice()) {
         Ok(headers) => header_rows(state, &block, headers),

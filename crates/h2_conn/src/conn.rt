@@ -4,13 +4,13 @@ ghost use Rattle.std.specs.Prelude.{◌≡◌, ◌≤◌, ◌<◌, ◌^◌, ◌+
 ghost use Rattle.list_laws.specs.Lists.{GainsFront};
 ghost use Rattle.hpack.specs.declared.limit.TheConstants.{MAX_LIST_SIZE};
 ghost use Rattle.hpack.specs.Tables.{list_size};
-ghost use Rattle.hpack.specs.Writing.{spelled_block};
+ghost use Rattle.hpack.specs.Writing.{block_bytes};
 ghost use Rattle.h2_frame.specs.declared.fault.FrameFault.TheVariants as frames;
 ghost use Rattle.h2_conn.specs.declared.phase.Phase.TheVariants.{Open};
 ghost use Rattle.h2_conn.specs.Faults.{cause_of};
 ghost use Rattle.h2_conn.specs.Kinds.{Fits};
 ghost use Rattle.h2_conn.specs.Naming.{NamesOn};
-ghost use Rattle.h2_conn.specs.Conns.{is_live_on, live_on, is_going, begun_on, fresh, told_list, heard, Refuses, Repeats, Lasts, out_of_memory, frame_fault_on, after_frame_fault, headed_on, finished_on, reset_by, on_open, offers, withdraws, flushed};
+ghost use Rattle.h2_conn.specs.Conns.{is_live_on, live_on, is_going, begun_on, new_state, told_list, frame_result, Refuses, Repeats, Lasts, out_of_memory, frame_fault_on, after_frame_fault, with_head_on, with_trailers_on, after_reset, on_open, offers, withdraws, flush_of};
 
 use crate::answers;
 use crate::control::failure;
@@ -95,7 +95,7 @@ fn tell(told: Option<Happening>, into: &mut Row<Happening>) -> Result<(), Memory
 impl Conn {
     /// A new connection: no frame came, and no stream was opened.
     pub fn start(alloc: Global) -> Result<Conn, Memory>
-        ensures { IfOk result (λ conn. conn ≡ Open fresh) }
+        ensures { IfOk result (λ conn. conn ≡ Open new_state) }
     {
         let state = State {
             settings_received: false,
@@ -118,13 +118,13 @@ impl Conn {
     /// Takes one frame, by the first row of the connection table that applies to it: queues
     /// what it is answered by, and tells in `into` what happened, at most one happening. A
     /// fault is answered where a row gives one, and by each later frame again.
-    #[tactic(auto, using(crate::proofs::Sounds::names_on), unfolding(crate::specs::Conns::heard))]
+    #[tactic(auto, using(crate::proofs::Sounds::names_on), unfolding(crate::specs::Conns::frame_result))]
     pub fn frame(&mut self, frame: Frame, into: &mut Row<Happening>) -> Result<(), ConnError>
         requires { Fits frame }
-        ensures after { OnOk result (self.new ≡ (heard self.old frame).after) }
-        ensures told { OnOk result (into.new ≡ into.old ++ (heard self.old frame).told) }
-        ensures right { OnOk result ((heard self.old frame).fault ≡ None) }
-        ensures refused { IfErr result (λ error. Refuses error (heard self.old frame) self.old self.new) }
+        ensures after { OnOk result (self.new ≡ (frame_result self.old frame).after) }
+        ensures told { OnOk result (into.new ≡ into.old ++ (frame_result self.old frame).told) }
+        ensures right { OnOk result ((frame_result self.old frame).fault ≡ None) }
+        ensures refused { IfErr result (λ error. Refuses error (frame_result self.old frame) self.old self.new) }
         ensures kept { OnErr result (into.new ≡ into.old) }
         ensures again { Repeats self.old result }
         ensures named { NamesOn self.old frame }
@@ -207,7 +207,7 @@ impl Conn {
     #[tactic(auto, using(crate::proofs::Sounds::s_headed_on))]
     pub fn head(&mut self, stream: u32, headers: &[Header]) -> Result<(), Memory>
         requires { list_size headers.now ≤ MAX_LIST_SIZE }
-        ensures after { OnOk result (self.new ≡ on_open (headed_on stream (spelled_block headers.now)) self.old) }
+        ensures after { OnOk result (self.new ≡ on_open (with_head_on stream (block_bytes headers.now)) self.old) }
         ensures err { OnErr result (self.new ≡ out_of_memory self.old) }
         ensures again { Lasts self.old result }
     {
@@ -239,7 +239,7 @@ impl Conn {
     #[tactic(auto, using(crate::proofs::Sounds::s_finished_on))]
     pub fn finish(&mut self, stream: u32, headers: &[Header]) -> Result<(), Memory>
         requires { list_size headers.now ≤ MAX_LIST_SIZE }
-        ensures after { OnOk result (self.new ≡ on_open (finished_on stream (spelled_block headers.now)) self.old) }
+        ensures after { OnOk result (self.new ≡ on_open (with_trailers_on stream (block_bytes headers.now)) self.old) }
         ensures err { OnErr result (self.new ≡ out_of_memory self.old) }
         ensures again { Lasts self.old result }
     {
@@ -293,7 +293,7 @@ impl Conn {
     /// waits for it is dropped. A stream that is not live takes nothing.
     #[tactic(auto, using(crate::proofs::Sounds::s_reset_by))]
     pub fn reset(&mut self, stream: u32, code: u32) -> Result<(), Memory>
-        ensures after { OnOk result (self.new ≡ on_open (reset_by stream code) self.old) }
+        ensures after { OnOk result (self.new ≡ on_open (after_reset stream code) self.old) }
         ensures err { OnErr result (self.new ≡ out_of_memory self.old) }
         ensures again { Lasts self.old result }
     {
@@ -323,11 +323,11 @@ impl Conn {
     /// Writes all that may be written behind what `out` holds: the control frames in the order
     /// in which they were queued, and then rounds of the streams. After a fault it writes what
     /// control frames were still queued and GOAWAY, once, and nothing behind it.
-    #[tactic(auto, unfolding(crate::specs::Conns::flushed))]
+    #[tactic(auto, unfolding(crate::specs::Conns::flush_of))]
     pub fn flush(&mut self, out: &mut Octets) -> Result<(), Memory>
-        ensures after { OnOk result (self.new ≡ (flushed self.old).after) }
-        ensures bytes { OnOk result (out.new ≡ out.old ++ (flushed self.old).bytes) }
-        ensures front { GainsFront (flushed self.old).bytes out.old out.new }
+        ensures after { OnOk result (self.new ≡ (flush_of self.old).after) }
+        ensures bytes { OnOk result (out.new ≡ out.old ++ (flush_of self.old).bytes) }
+        ensures front { GainsFront (flush_of self.old).bytes out.old out.new }
         ensures err { OnErr result (self.new ≡ out_of_memory self.old) }
         ensures again { self.old ≡ out_of_memory self.old → IsErr result }
     {

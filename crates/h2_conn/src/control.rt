@@ -2,12 +2,12 @@
 
 ghost use Rattle.std.specs.Prelude.{◌≡◌, ◌≤◌, true, length, OnOk};
 ghost use Rattle.h2_wire.specs.declared.limit.TheConstants.{MAX_FRAME_SIZE};
-ghost use Rattle.h2_wire.specs.Spelling.{frame_bytes};
-ghost use Rattle.h2_flow.specs.Outboxes.{controlled};
+ghost use Rattle.h2_wire.specs.Encoding.{frame_bytes};
+ghost use Rattle.h2_flow.specs.Outboxes.{with_control};
 ghost use Rattle.h2_frame.specs.declared.frame.Body.TheVariants.{Reset, SettingsAck, Ping};
 ghost use Rattle.h2_conn.specs.declared.fault.ConnError.TheVariants as refusal;
 ghost use Rattle.h2_conn.specs.Faults.{failure};
-ghost use Rattle.h2_conn.specs.Peer.{queued, closed, reset_with, request_ends, replenished, is_idle};
+ghost use Rattle.h2_conn.specs.Peer.{with_control_frame, without_live_stream, stream_error, request_ends, with_window_update, is_idle};
 ghost use Rattle.h2_conn.specs.Kinds.{Steps};
 
 use crate::fault::{ConnCause, ConnError, ConnFault};
@@ -20,10 +20,10 @@ use wl_octets::Memory;
 pub type RowResult = Result<Option<Happening>, ConnError>;
 
 /// Queues a control frame.
-#[tactic(auto, using(crate::proofs::Queues::head_and_payload), unfolding(h2_wire::specs::Spelling::frame_bytes, h2_flow::specs::Outboxes::controlled))]
+#[tactic(auto, using(crate::proofs::Queues::head_and_payload), unfolding(h2_wire::specs::Encoding::frame_bytes, h2_flow::specs::Outboxes::with_control))]
 fn queue(state: &mut State, kind: u8, flags: u8, stream: u32, payload: &[u8]) -> Result<(), Memory>
     requires { length payload.now ≤ MAX_FRAME_SIZE }
-    ensures { OnOk result (state.new ≡ record state.old { outbox = controlled (frame_bytes kind flags stream payload.now) state.old.outbox }) }
+    ensures { OnOk result (state.new ≡ record state.old { outbox = with_control (frame_bytes kind flags stream payload.now) state.old.outbox }) }
 {
     let head = head_of_frame(payload.len() as u32, kind, flags, stream);
     state.outbox.control(&head)?;
@@ -32,9 +32,9 @@ fn queue(state: &mut State, kind: u8, flags: u8, stream: u32, payload: &[u8]) ->
 }
 
 /// Queues RST_STREAM.
-#[tactic(auto, unfolding(h2_frame::specs::Writing::spelling))]
+#[tactic(auto, unfolding(h2_frame::specs::Writing::frame_encoding))]
 pub fn queue_reset(state: &mut State, stream: u32, code: u32) -> Result<(), Memory>
-    ensures { OnOk result (state.new ≡ queued stream (Reset code) state.old) }
+    ensures { OnOk result (state.new ≡ with_control_frame stream (Reset code) state.old) }
 {
     queue(
         state,
@@ -46,25 +46,25 @@ pub fn queue_reset(state: &mut State, stream: u32, code: u32) -> Result<(), Memo
 }
 
 /// Queues the acknowledgement of SETTINGS.
-#[tactic(auto, unfolding(h2_frame::specs::Writing::spelling))]
+#[tactic(auto, unfolding(h2_frame::specs::Writing::frame_encoding))]
 pub fn queue_ack(state: &mut State) -> Result<(), Memory>
-    ensures { OnOk result (state.new ≡ queued 0 SettingsAck state.old) }
+    ensures { OnOk result (state.new ≡ with_control_frame 0 SettingsAck state.old) }
 {
     queue(state, frame_type::SETTINGS, flag::ACK, 0, &[])
 }
 
 /// Queues the answer to PING.
-#[tactic(auto, unfolding(h2_frame::specs::Writing::spelling))]
+#[tactic(auto, unfolding(h2_frame::specs::Writing::frame_encoding))]
 pub fn queue_ping_ack(state: &mut State, word: u64) -> Result<(), Memory>
-    ensures { OnOk result (state.new ≡ queued 0 (Ping true word) state.old) }
+    ensures { OnOk result (state.new ≡ with_control_frame 0 (Ping true word) state.old) }
 {
     queue(state, frame_type::PING, flag::ACK, 0, &word.to_be_bytes())
 }
 
 /// Gives this many bytes of a window back to the peer.
-#[tactic(auto, unfolding(crate::specs::Peer::replenished, h2_frame::specs::Writing::spelling))]
+#[tactic(auto, unfolding(crate::specs::Peer::with_window_update, h2_frame::specs::Writing::frame_encoding))]
 pub fn replenish_window(state: &mut State, stream: u32, size: u32) -> Result<(), Memory>
-    ensures { OnOk result (state.new ≡ replenished stream size state.old) }
+    ensures { OnOk result (state.new ≡ with_window_update stream size state.old) }
 {
     if size == 0 {
         return Ok(());
@@ -79,9 +79,9 @@ pub fn replenish_window(state: &mut State, stream: u32, size: u32) -> Result<(),
 }
 
 /// Ends a stream, with what waits for it.
-#[tactic(auto, unfolding(crate::specs::Peer::closed))]
+#[tactic(auto, unfolding(crate::specs::Peer::without_live_stream))]
 pub fn close(state: &mut State, stream: u32)
-    ensures { state.new ≡ closed stream state.old }
+    ensures { state.new ≡ without_live_stream stream state.old }
 {
     state.streams.remove(stream);
     state.outbox.remove(stream);
@@ -124,9 +124,9 @@ pub fn is_idle(state: &State, stream: u32) -> bool
 }
 
 /// Queues RST_STREAM, and ends the stream if it is live.
-#[tactic(auto, unfolding(crate::specs::Peer::reset_with))]
+#[tactic(auto, unfolding(crate::specs::Peer::stream_error))]
 pub fn reset_with(state: &mut State, stream: u32, code: u32) -> RowResult
-    ensures { Steps (reset_with state.old stream code) result state.new }
+    ensures { Steps (stream_error state.old stream code) result state.new }
 {
     queue_reset(state, stream, code)?;
     if !state.streams.is_live(stream) {

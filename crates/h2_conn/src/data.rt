@@ -2,7 +2,7 @@
 
 ghost use Rattle.std.specs.Prelude.{◌≡◌, ◌≤◌, ◌<◌, ◌&&◌, true, false, length};
 ghost use Rattle.h2_conn.specs.declared.limits.TheConstants.{MAX_EMPTY_DATA, MAX_RAPID_RESETS};
-ghost use Rattle.h2_conn.specs.Peer.{data_counted, data_on, is_empty_data, has_come, is_rapid, reset_frame};
+ghost use Rattle.h2_conn.specs.Peer.{with_data_count, data_on, is_empty_data, has_come, is_rapid, reset_frame};
 ghost use Rattle.h2_conn.specs.Kinds.{Steps, data_rows, reset_rows};
 ghost use Rattle.h2_conn.specs.Sound.{Sound};
 
@@ -15,10 +15,10 @@ use h2_wire::{error_code, frame_type};
 use wl_octets::Octets;
 
 /// Counts DATA as the flood rows do.
-#[tactic(auto, unfolding(crate::specs::Peer::data_counted))]
+#[tactic(auto, unfolding(crate::specs::Peer::with_data_count))]
 fn count_data(state: &mut State, bytes: &Octets, ended: bool)
     requires { is_empty_data bytes.now ended && has_come MAX_EMPTY_DATA state.old.empty_data_count ≡ false }
-    ensures { state.new ≡ data_counted bytes.now ended state.old }
+    ensures { state.new ≡ with_data_count bytes.now ended state.old }
 {
     if bytes.len() == 0 {
         if !ended {

@@ -2,7 +2,7 @@
 
 ghost use Rattle.std.specs.Prelude.{◌≡◌, ℕ, true, false, List, []};
 ghost use Rattle.std.specs.List.{AllByRecursion};
-ghost use Rattle.h2_frame.specs.Reading.{End, resumed};
+ghost use Rattle.h2_frame.specs.Reading.{End, reading_from};
 ghost use Rattle.h2_conn.specs.declared.fault.ConnFault.{ConnFault};
 ghost use Rattle.h2_conn.specs.declared.phase.Phase.{Phase};
 ghost use Rattle.h2_conn.specs.declared.phase.Totals.{Totals};
@@ -11,36 +11,36 @@ ghost use Rattle.h2_conn.specs.declared.state.State.{State};
 ghost use Rattle.h2_conn.specs.Kinds.{Fits};
 ghost use Rattle.h2_conn.specs.Counts.{Step, Reaches, HasCounts};
 ghost use Rattle.h2_conn.specs.Windows.{HasLowStream, HasWindows};
-ghost use Rattle.h2_conn.specs.Conns.{is_live_on, on_open, headed_on, finished_on, offered_on, withdrawn_on, reset_by, flushed};
+ghost use Rattle.h2_conn.specs.Conns.{is_live_on, on_open, with_head_on, with_trailers_on, with_message_on, without_waiting_on, after_reset, flush_of};
 
 /// Two flushes are one: the second writes nothing and changes nothing.
 #[tactic(auto, using(crate::proofs::Results::flushes_once))]
 pub fn flushes_once()
-    ensures { (phase : Phase) → flushed (flushed phase).after ≡ record { bytes = []; after = (flushed phase).after } }
+    ensures { (phase : Phase) → flush_of (flush_of phase).after ≡ record { bytes = []; after = (flush_of phase).after } }
 {}
 
 /// A stream that is not live takes nothing: what is given to it changes nothing.
 #[tactic(auto, using(crate::proofs::Results::dead_head, crate::proofs::Results::dead_last, crate::proofs::Results::dead_message, crate::proofs::Results::dead_withdrawal, crate::proofs::Results::dead_reset))]
 pub fn dead_streams_take_nothing()
-    ensures head { (stream : ℕ) (block : List ℕ) (phase : Phase) → is_live_on phase stream ≡ false → on_open (headed_on stream block) phase ≡ phase }
-    ensures finish { (stream : ℕ) (block : List ℕ) (phase : Phase) → is_live_on phase stream ≡ false → on_open (finished_on stream block) phase ≡ phase }
-    ensures offer { (stream : ℕ) (message : List ℕ) (phase : Phase) → is_live_on phase stream ≡ false → on_open (offered_on stream message) phase ≡ phase }
-    ensures withdraw { (stream : ℕ) (phase : Phase) → is_live_on phase stream ≡ false → on_open (withdrawn_on stream) phase ≡ phase }
-    ensures reset { (stream code : ℕ) (phase : Phase) → is_live_on phase stream ≡ false → on_open (reset_by stream code) phase ≡ phase }
+    ensures head { (stream : ℕ) (block : List ℕ) (phase : Phase) → is_live_on phase stream ≡ false → on_open (with_head_on stream block) phase ≡ phase }
+    ensures finish { (stream : ℕ) (block : List ℕ) (phase : Phase) → is_live_on phase stream ≡ false → on_open (with_trailers_on stream block) phase ≡ phase }
+    ensures offer { (stream : ℕ) (message : List ℕ) (phase : Phase) → is_live_on phase stream ≡ false → on_open (with_message_on stream message) phase ≡ phase }
+    ensures withdraw { (stream : ℕ) (phase : Phase) → is_live_on phase stream ≡ false → on_open (without_waiting_on stream) phase ≡ phase }
+    ensures reset { (stream code : ℕ) (phase : Phase) → is_live_on phase stream ≡ false → on_open (after_reset stream code) phase ≡ phase }
 {}
 
 /// After a fault no stream is live, and once its bytes are written nothing is left.
 #[tactic(auto, using(crate::proofs::Results::fault_flush, crate::proofs::Results::fault_quiet))]
 pub fn faults_end_all()
     ensures dead { (fault : ConnFault) (left : List ℕ) (totals : Totals) (stream : ℕ) → is_live_on (Failed fault left totals) stream ≡ false }
-    ensures once { (fault : ConnFault) (left : List ℕ) (totals : Totals) → flushed (Failed fault left totals) ≡ record { bytes = left; after = Failed fault [] totals } }
-    ensures quiet { (fault : ConnFault) (totals : Totals) → flushed (Failed fault [] totals) ≡ record { bytes = []; after = Failed fault [] totals } }
+    ensures once { (fault : ConnFault) (left : List ℕ) (totals : Totals) → flush_of (Failed fault left totals) ≡ record { bytes = left; after = Failed fault [] totals } }
+    ensures quiet { (fault : ConnFault) (totals : Totals) → flush_of (Failed fault [] totals) ≡ record { bytes = []; after = Failed fault [] totals } }
 {}
 
 /// The frames that are read from bytes have what `Conn::frame` asks of them.
 #[tactic(auto, using(crate::proofs::Fitting::frames_fit))]
 pub fn frames_fit()
-    ensures { (with_remote_closed : End) (bytes : List ℕ) → AllByRecursion Fits (resumed with_remote_closed bytes).frames }
+    ensures { (ending : End) (bytes : List ℕ) → AllByRecursion Fits (reading_from ending bytes).frames }
 {}
 
 /// The four flood counts are sums over what came and was written: whichever steps led to a

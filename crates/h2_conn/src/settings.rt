@@ -1,9 +1,9 @@
 //! The rows of SETTINGS and PING.
 
 ghost use Rattle.std.specs.Prelude.{◌≡◌, ◌≤◌, ◌<◌, ◌^◌};
-ghost use Rattle.h2_flow.specs.Outboxes.{initialed};
+ghost use Rattle.h2_flow.specs.Outboxes.{set_initial_window};
 ghost use Rattle.h2_conn.specs.declared.fault.ConnCause.TheVariants as cause;
-ghost use Rattle.h2_conn.specs.Peer.{fault, noted, set_one, set_all, set_frame, with_window};
+ghost use Rattle.h2_conn.specs.Peer.{fault, after_table_size, set_one, set_all, set_frame, with_window};
 ghost use Rattle.h2_conn.specs.Kinds.{Steps, settings_rows, ping_rows};
 
 use crate::control::{RowResult, fault, queue_ack, queue_ping_ack};
@@ -17,9 +17,9 @@ use h2_wire::limit::{
 use h2_wire::{frame_type, setting};
 
 /// Notes the peer's header table.
-#[tactic(auto, unfolding(crate::specs::Peer::noted))]
+#[tactic(auto, unfolding(crate::specs::Peer::after_table_size))]
 fn note(state: &mut State, value: u32)
-    ensures { state.new ≡ noted value state.old }
+    ensures { state.new ≡ after_table_size value state.old }
 {
     if value < INITIAL_HEADER_TABLE_SIZE && !state.outbox.is_shrunk() {
         state.outbox.shrink();
@@ -29,7 +29,7 @@ fn note(state: &mut State, value: u32)
 /// Sets the initial window.
 fn set_initial(state: &mut State, value: u32) -> RowResult
     requires { value < 2 ^ 31 }
-    ensures { Steps (with_window state.old (initialed value state.old.outbox) (fault state.old cause.Overflow)) result state.new }
+    ensures { Steps (with_window state.old (set_initial_window value state.old.outbox) (fault state.old cause.Overflow)) result state.new }
 {
     match state.outbox.initial(value) {
         Ok(()) => Ok(None),

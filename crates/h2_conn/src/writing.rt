@@ -2,7 +2,7 @@
 
 ghost use Rattle.std.specs.Prelude.{◌≡◌, ◌++◌, ℕ, List, IfOk, OnOk, OnErr};
 ghost use Rattle.list_laws.specs.Lists.{GainsFront};
-ghost use Rattle.h2_flow.specs.Outboxes.{pulled};
+ghost use Rattle.h2_flow.specs.Outboxes.{pull_of};
 ghost use Rattle.h2_conn.specs.Conns.{goaway, answer_ends, answers_end, after_pull};
 ghost use Rattle.h2_conn.specs.Sound.{Sound};
 
@@ -55,9 +55,9 @@ fn end_responses(state: &mut State, ended: &[u32])
 pub fn pull(state: &mut State, alloc: Global, out: &mut Octets) -> Result<(), Memory>
     requires { Sound state.old }
     ensures sound { OnOk result (Sound state.new) }
-    ensures ok { OnOk result (state.new ≡ after_pull state.old (pulled state.old.outbox)) }
-    ensures bytes { OnOk result (out.new ≡ out.old ++ (pulled state.old.outbox).bytes) }
-    ensures front { GainsFront (pulled state.old.outbox).bytes out.old out.new }
+    ensures ok { OnOk result (state.new ≡ after_pull state.old (pull_of state.old.outbox)) }
+    ensures bytes { OnOk result (out.new ≡ out.old ++ (pull_of state.old.outbox).bytes) }
+    ensures front { GainsFront (pull_of state.old.outbox).bytes out.old out.new }
 {
     let begun = state.outbox.begun();
     let mut ended = Row::empty(alloc);

@@ -3,9 +3,9 @@ use Rattle.std.proofs.Common.{◌≡◌, ◌⊎◌, inl, inr, ℕ, zero, suc, �
 use Rattle.h2_flow.specs.declared.flow.Flow.{Flow}
 use Rattle.h2_flow.specs.declared.stream.Stream.{Stream}
 use Rattle.h2_flow.specs.Windows.{allowed_of}
-use Rattle.h2_flow.specs.Streams.{Turn, idle, headers_turn, data_turn, last_turn, next_turn, body_turn, head_turn, turn}
+use Rattle.h2_flow.specs.Streams.{Turn, no_turn, headers_turn, data_turn, last_turn, next_turn, body_turn, head_turn, turn}
 use Rattle.h2_flow.specs.Pulls.{Round, round, rounds, all_rounds, all_work}
-use Rattle.h2_flow.specs.Outboxes.{Out, pulled}
+use Rattle.h2_flow.specs.Outboxes.{Out, pull_of}
 use Rattle.h2_flow.specs.Progress.{left_of, count_begun, count_all_begun}
 
 -- nothing comes to wait
@@ -138,6 +138,6 @@ counts_rounds (suc n) f ss =
     let both = all_both ss r.streams (rounds n r.flow r.streams).streams h.falls k.falls in
     counts_after (length r.sent == 0) f ss r _ h (record { count = omega (arith, h.count, k.count, both.0); falls = both.1 })
 
-pub pull_counts : (o : Out) → (pulled o).left.flow.begun ≡ o.flow.begun + count_all_begun o.streams (pulled o).left.streams
-unfolding pulled all_rounds
+pub pull_counts : (o : Out) → (pull_of o).left.flow.begun ≡ o.flow.begun + count_all_begun o.streams (pull_of o).left.streams
+unfolding pull_of all_rounds
 pull_counts o = (counts_rounds (all_work o.streams + 1) o.flow o.streams).count

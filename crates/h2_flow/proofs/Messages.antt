@@ -7,9 +7,9 @@ use Rattle.std.proofs.lemmas.List.{length-take, length-take-le, take-append-drop
 use Rattle.h2_flow.specs.declared.flow.Flow.{Flow}
 use Rattle.h2_flow.specs.declared.stream.Stream.{Stream}
 use Rattle.h2_flow.specs.Windows.{allowed_of}
-use Rattle.h2_flow.specs.Streams.{Sent, content, Turn, idle, headers_turn, data_turn, last_turn, next_turn, body_turn, head_turn, turn}
+use Rattle.h2_flow.specs.Streams.{Sent, content, Turn, no_turn, headers_turn, data_turn, last_turn, next_turn, body_turn, head_turn, turn}
 use Rattle.h2_flow.specs.Pulls.{Round, round, rounds, all_rounds, all_work}
-use Rattle.h2_flow.specs.Outboxes.{RisesFrom, Out, numbers, pulled}
+use Rattle.h2_flow.specs.Outboxes.{RisesFrom, Out, numbers, pull_of}
 use Rattle.h2_flow.specs.Progress.{data_bytes_on, all_data_on, find_stream, left_of}
 use Rattle.h2_flow.proofs.Orders.{number_of, rises_from}
 use Rattle.h2_flow.proofs.Numbers.{number_turn, numbers_round}
@@ -78,7 +78,7 @@ turn_cond false s x y h k = k refl
 differ : {P : Type 0} (b : Bool) → b ≡ true → b ≡ false → P
 differ b on off = absurd (cc (on, off))
 
-goes_idle : (f : Flow) (s : Stream) → TurnGoes s (idle f s)
+goes_idle : (f : Flow) (s : Stream) → TurnGoes s (no_turn f s)
 goes_idle f s = record { goes = inl (record { waiting = refl; last = refl; left = refl }); others = λ n e. refl }
 
 on_itself : (n : ℕ) (bytes : List ℕ) → all_data_on n (content n bytes ∷ []) ≡ bytes
@@ -216,6 +216,6 @@ goes_rounds n (suc k) f ss rises =
     on_cond n (length r.sent == 0) (find_stream n ss) r _ h
     (rw (flat_map-append (data_bytes_on n) r.sent next.sent) (on_both (all_data_on n r.sent) (all_data_on n next.sent) (find_stream n ss) (find_stream n r.streams) (find_stream n next.streams) h rest))
 
-pub goes_pull : (n : ℕ) (o : Out) → RisesFrom 0 (numbers o) → GoesOn (all_data_on n (pulled o).sent) (find_stream n o.streams) (find_stream n (pulled o).left.streams)
-unfolding pulled all_rounds
+pub goes_pull : (n : ℕ) (o : Out) → RisesFrom 0 (numbers o) → GoesOn (all_data_on n (pull_of o).sent) (find_stream n o.streams) (find_stream n (pull_of o).left.streams)
+unfolding pull_of all_rounds
 goes_pull n o rises = goes_rounds n (all_work o.streams + 1) o.flow o.streams rises

@@ -10,12 +10,12 @@ use Rattle.h2_flow.specs.declared.stream.Stream.{Stream}
 use Rattle.h2_flow.specs.Windows.{window_of, allowed_of}
 use Rattle.h2_flow.specs.Streams.{Sent, Turn, headers_turn, data_turn, last_turn, next_turn, body_turn, head_turn, turn}
 use Rattle.h2_flow.specs.Pulls.{Round, round, rounds, all_work, all_rounds}
-use Rattle.h2_flow.specs.Outboxes.{Out, is_number, changed, new_stream, with_offer, added, removed, controlled, shrunk, headed, offered, withdrawn, finished_by, credit_of, grown_connection, grown_stream, grown, first_over, with_initial, initialed, pulled, numbers}
+use Rattle.h2_flow.specs.Outboxes.{Out, is_number, update_stream, new_stream, with_offer, with_stream, without_stream, with_control, with_size_update, with_head, with_message, without_waiting, with_trailers, credit_of, with_connection_step, with_stream_step, with_step, first_over, with_initial, set_initial_window, pull_of, numbers}
 use Rattle.h2_flow.proofs.Rounds.{SoFar, Left}
 
 -- ---- one stream is changed
 
-pub changed_numbers : (n : ℕ) (f : Stream → Stream) → ((s : Stream) → (f s).number ≡ s.number) → (ss : List Stream) → map (λ s. s.number) (changed n f ss) ≡ map (λ s. s.number) ss
+pub changed_numbers : (n : ℕ) (f : Stream → Stream) → ((s : Stream) → (f s).number ≡ s.number) → (ss : List Stream) → map (λ s. s.number) (update_stream n f ss) ≡ map (λ s. s.number) ss
 changed_numbers n f keeps [] = refl
 changed_numbers n f keeps (s ∷ ss) =
     elim (cases_Bool (s.number == n)) [
@@ -23,8 +23,8 @@ changed_numbers n f keeps (s ∷ ss) =
       | inr here ↦ rw (here, changed_numbers n f keeps ss) refl
     ]
 
-pub numbers_added : (n : ℕ) (o : Out) → numbers (added n o) ≡ numbers o ++ n ∷ []
-unfolding added
+pub numbers_added : (n : ℕ) (o : Out) → numbers (with_stream n o) ≡ numbers o ++ n ∷ []
+unfolding with_stream
 numbers_added n o = map-append (λ s. s.number) o.streams (new_stream n ∷ [])
 
 filter_numbers : (n : ℕ) (ss : List Stream) → map (λ s. s.number) (filter (λ s. not (is_number n s)) ss) ≡ filter (λ m. not (m == n)) (map (λ s. s.number) ss)
@@ -35,32 +35,32 @@ filter_numbers n (s ∷ ss) =
       | inr here ↦ rw (here, filter_numbers n ss) refl
     ]
 
-pub numbers_removed : (n : ℕ) (o : Out) → numbers (removed n o) ≡ filter (λ m. not (m == n)) (numbers o)
-unfolding removed
+pub numbers_removed : (n : ℕ) (o : Out) → numbers (without_stream n o) ≡ filter (λ m. not (m == n)) (numbers o)
+unfolding without_stream
 numbers_removed n o = filter_numbers n o.streams
 
-pub numbers_controlled : (frame : List ℕ) (o : Out) → numbers (controlled frame o) ≡ numbers o
-unfolding controlled
+pub numbers_controlled : (frame : List ℕ) (o : Out) → numbers (with_control frame o) ≡ numbers o
+unfolding with_control
 numbers_controlled frame o = refl
 
-pub numbers_shrunk : (o : Out) → numbers (shrunk o) ≡ numbers o
-unfolding shrunk
+pub numbers_shrunk : (o : Out) → numbers (with_size_update o) ≡ numbers o
+unfolding with_size_update
 numbers_shrunk o = refl
 
-pub numbers_headed : (n : ℕ) (block : List ℕ) (o : Out) → numbers (headed n block o) ≡ numbers o
-unfolding headed
+pub numbers_headed : (n : ℕ) (block : List ℕ) (o : Out) → numbers (with_head n block o) ≡ numbers o
+unfolding with_head
 numbers_headed n block o = changed_numbers n (λ s. record s { head = Some block }) (λ s. refl) o.streams
 
-pub numbers_offered : (n : ℕ) (message : List ℕ) (o : Out) → numbers (offered n message o) ≡ numbers o
-unfolding offered
+pub numbers_offered : (n : ℕ) (message : List ℕ) (o : Out) → numbers (with_message n message o) ≡ numbers o
+unfolding with_message
 numbers_offered n message o = changed_numbers n (with_offer message) (λ s. refl) o.streams
 
-pub numbers_withdrawn : (n : ℕ) (o : Out) → numbers (withdrawn n o) ≡ numbers o
-unfolding withdrawn
+pub numbers_withdrawn : (n : ℕ) (o : Out) → numbers (without_waiting n o) ≡ numbers o
+unfolding without_waiting
 numbers_withdrawn n o = changed_numbers n (λ s. record s { waiting = None }) (λ s. refl) o.streams
 
-pub numbers_closed : (n : ℕ) (block : List ℕ) (o : Out) → numbers (finished_by n block o) ≡ numbers o
-unfolding finished_by
+pub numbers_closed : (n : ℕ) (block : List ℕ) (o : Out) → numbers (with_trailers n block o) ≡ numbers o
+unfolding with_trailers
 numbers_closed n block o = changed_numbers n (λ s. record s { trailers = Some block; finished = true }) (λ s. refl) o.streams
 
 -- ---- windows
@@ -73,24 +73,24 @@ keeps_cond : (b : Bool) (x y : Result Out Overflow) (o : Out) → KeepsNumbers x
 keeps_cond true x y o h k = h
 keeps_cond false x y o h k = k
 
-keeps_room : (step : ℕ) (o : Out) → KeepsNumbers (grown_connection step o) o
-unfolding grown_connection
+keeps_room : (step : ℕ) (o : Out) → KeepsNumbers (with_connection_step step o) o
+unfolding with_connection_step
 keeps_room step o = keeps_cond (nat_lt MAX_WINDOW_SIZE (o.flow.connection_window + step)) _ _ o tt refl
 
-keeps_stream : (n step : ℕ) (o : Out) → KeepsNumbers (grown_stream n step o) o
-unfolding grown_stream
+keeps_stream : (n step : ℕ) (o : Out) → KeepsNumbers (with_stream_step n step o) o
+unfolding with_stream_step
 keeps_stream n step o = keeps_cond (int_lt (pos MAX_WINDOW_SIZE) (window_of o.flow.initial_window_size (credit_of n o.streams) +ℤ pos step)) _ _ o tt (changed_numbers n (λ s. record s { credit = s.credit +ℤ pos step }) (λ s. refl) o.streams)
 
-pub numbers_grown : (n step : ℕ) (o : Out) → KeepsNumbers (grown n step o) o
-unfolding grown
-numbers_grown n step o = keeps_cond (n == 0) (grown_connection step o) (grown_stream n step o) o (keeps_room step o) (keeps_stream n step o)
+pub numbers_grown : (n step : ℕ) (o : Out) → KeepsNumbers (with_step n step o) o
+unfolding with_step
+numbers_grown n step o = keeps_cond (n == 0) (with_connection_step step o) (with_stream_step n step o) o (keeps_room step o) (keeps_stream n step o)
 
 keeps_initial : (value : ℕ) (o : Out) (first : Option ℕ) → KeepsNumbers (with_initial value o first) o
 keeps_initial value o None = refl
 keeps_initial value o (Some n) = tt
 
-pub numbers_initialed : (value : ℕ) (o : Out) → KeepsNumbers (initialed value o) o
-unfolding initialed
+pub numbers_initialed : (value : ℕ) (o : Out) → KeepsNumbers (set_initial_window value o) o
+unfolding set_initial_window
 numbers_initialed value o = keeps_initial value o (first_over value o.streams)
 
 -- ---- a pull
@@ -161,6 +161,6 @@ so_far_numbers f ss done xs i g d new same so =
 pub left_numbers : (f : Flow) (ss : List Stream) (done : List Sent) (g : Flow) (left new : List Stream) → Left f ss done g left → map (λ s. s.number) new ≡ map (λ s. s.number) (round g left).streams → map (λ s. s.number) new ≡ map (λ s. s.number) (all_rounds f ss).streams
 left_numbers f ss done g left new so same = same ∙ numbers_round g left ∙ sym (rw so.whole (numbers_all g left))
 
-pub numbers_pulled : (o : Out) → numbers (pulled o).left ≡ numbers o
-unfolding pulled all_rounds
+pub numbers_pulled : (o : Out) → numbers (pull_of o).left ≡ numbers o
+unfolding pull_of all_rounds
 numbers_pulled o = numbers_rounds (all_work o.streams + 1) o.flow o.streams

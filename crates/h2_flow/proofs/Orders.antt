@@ -8,7 +8,7 @@ use Rattle.std.proofs.Math.Seq.{take-append_seam}
 use Rattle.h2_wire.specs.declared.limit.TheConstants.{MAX_WINDOW_SIZE}
 use Rattle.h2_flow.specs.declared.stream.Stream.{Stream}
 use Rattle.h2_flow.specs.Windows.{window_of}
-use Rattle.h2_flow.specs.Outboxes.{IsAbove, new_stream, RisesFrom, changed, first_over, IsLowestOver}
+use Rattle.h2_flow.specs.Outboxes.{IsAbove, new_stream, RisesFrom, update_stream, first_over, IsLowestOver}
 use Rattle.h2_flow.proofs.Numbers.{changed_numbers}
 
 abbrev pub number_of : Stream → ℕ
@@ -42,7 +42,7 @@ rises_lent n m items old new len value same h =
     let whole : take m (new ++ drop (length new) items) ≡ new = rw (← many) (take-append_seam new (drop (length new) items)) in
     rw (whole, same, value) h
 
-pub rises_changed : (n m at : ℕ) (f : Stream → Stream) (items old new : List Stream) → length old ≡ m → old ≡ items → new ≡ changed at f old → ((s : Stream) → (f s).number ≡ s.number) → RisesFrom n (map number_of items) → RisesFrom n (map number_of (take m (new ++ drop (length new) items)))
+pub rises_changed : (n m at : ℕ) (f : Stream → Stream) (items old new : List Stream) → length old ≡ m → old ≡ items → new ≡ update_stream at f old → ((s : Stream) → (f s).number ≡ s.number) → RisesFrom n (map number_of items) → RisesFrom n (map number_of (take m (new ++ drop (length new) items)))
 rises_changed n m at f items old new len value due keeps h = rises_lent n m items old new len value (ap (map number_of) due ∙ changed_numbers at f keeps old) h
 
 -- ---- the first stream whose window is too large is the lowest

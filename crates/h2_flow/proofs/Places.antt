@@ -5,13 +5,13 @@ use Rattle.std.proofs.lemmas.Bool.{cases_lt, cases_Bool}
 use Rattle.std.proofs.lemmas.List.{drop_more, take_more, drop_all}
 use Rattle.h2_wire.specs.declared.limit.TheConstants.{MAX_WINDOW_SIZE}
 use Rattle.h2_flow.specs.declared.stream.Stream.{Stream}
-use Rattle.h2_flow.specs.Outboxes.{is_number, changed, credit_of, first_over}
+use Rattle.h2_flow.specs.Outboxes.{is_number, update_stream, credit_of, first_over}
 use Rattle.h2_flow.specs.Windows.{window_of}
 
 -- a place that isn't behind the stream
 pub record IsBefore (n : ℕ) (xs : List Stream) (at : ℕ) : Type 0 where
   pub there : list_any (is_number n) (drop at xs) ≡ true
-  pub changes : (f : Stream → Stream) → changed n f xs ≡ take at xs ++ changed n f (drop at xs)
+  pub changes : (f : Stream → Stream) → update_stream n f xs ≡ take at xs ++ update_stream n f (drop at xs)
   pub credit : credit_of n xs ≡ credit_of n (drop at xs)
 
 pub before_first : (n : ℕ) (xs : List Stream) → list_any (is_number n) xs ≡ true → IsBefore n xs 0
@@ -45,7 +45,7 @@ set_parts (x ∷ xs) zero new d lt = refl
 set_parts (x ∷ xs) (suc at) new d lt = let next : suc at + 1 ≡ suc (at + 1) = omega arith in rw next (ap (λ ys. x ∷ ys) (set_parts xs at new d (omega arith)))
 
 -- the stream stands there
-pub before_changed : (n : ℕ) (xs : List Stream) (at : ℕ) (f : Stream → Stream) (d : Stream) → (get_or xs at d).number ≡ n → IsBefore n xs at → changed n f xs ≡ set xs at (f (get_or xs at d))
+pub before_changed : (n : ℕ) (xs : List Stream) (at : ℕ) (f : Stream → Stream) (d : Stream) → (get_or xs at d).number ≡ n → IsBefore n xs at → update_stream n f xs ≡ set xs at (f (get_or xs at d))
 before_changed n xs at f d same h =
     let lt : at < length xs = is_within n xs at h.there in
     let next : drop at xs ≡ get_or xs at d ∷ drop (at + 1) xs = drop_more xs at d lt in

@@ -7,16 +7,16 @@ use Rattle.list_laws.specs.Lists.{BeginsWith}
 use Rattle.h2_flow.specs.declared.overflow.Overflow.{Overflow}
 use Rattle.h2_flow.specs.declared.stream.Stream.{Stream}
 use Rattle.h2_flow.specs.Streams.{Sent}
-use Rattle.h2_flow.specs.Outboxes.{Out, fresh, is_number, IsAbove, new_stream, RisesFrom, numbers, changed, added, removed, controlled, shrunk, headed, with_offer, offered, withdrawn, finished_by, credit_of, grown_connection, grown_stream, grown, first_over, with_initial, initialed, pulled}
+use Rattle.h2_flow.specs.Outboxes.{Out, new_outbox, is_number, IsAbove, new_stream, RisesFrom, numbers, update_stream, with_stream, without_stream, with_control, with_size_update, with_head, with_offer, with_message, without_waiting, with_trailers, credit_of, with_connection_step, with_stream_step, with_step, first_over, with_initial, set_initial_window, pull_of}
 use Rattle.h2_flow.specs.Histories.{Step, Add, Remove, Initial, Grow, Control, Shrink, Give, Offer, Withdraw, Finish, Pull, Leads, Reaches}
-use Rattle.h2_flow.specs.Progress.{all_data_on, Progress, no_progress, last_of, joined, begin_with, IsMore, after_writing, after_offer, after_step, progress_on, IsOffer, WasOffered, find_stream, left_of, Matches, WritesWhatBegan, Finishes}
+use Rattle.h2_flow.specs.Progress.{all_data_on, Progress, no_progress, last_of, all_messages, begin_with, IsMore, after_writing, after_offer, after_step, progress_on, IsOffer, WasOffered, find_stream, left_of, Matches, WritesWhatBegan, Finishes}
 use Rattle.h2_flow.proofs.Messages.{Stays, Begins, GoesOn, goes_pull}
 use Rattle.h2_flow.proofs.Sums.{reached_rises}
 
 -- ---- a pull
 
 pub record Keeps (p : Progress) (a : Option Stream) : Type 0 where
-  pub front : p.written ++ p.left ≡ joined p.begun
+  pub front : p.written ++ p.left ≡ all_messages p.begun
   pub there : Matches p a
 
 not_more : (l d r : List ℕ) → d ++ r ≡ l → nat_lt (length l) (length d) ≡ false
@@ -86,7 +86,7 @@ keeps_withdraw p (Some s) k = record { front = k.front; there = (k.there.0, refl
 abbrev KeepsNumber : (Stream → Stream) → Type 0
 KeepsNumber f = (s : Stream) → (f s).number ≡ s.number
 
-changed_here : (n : ℕ) (f : Stream → Stream) → KeepsNumber f → (ss : List Stream) → find_stream n (changed n f ss) ≡ option_map f (find_stream n ss)
+changed_here : (n : ℕ) (f : Stream → Stream) → KeepsNumber f → (ss : List Stream) → find_stream n (update_stream n f ss) ≡ option_map f (find_stream n ss)
 changed_here n f number [] = refl
 changed_here n f number (s ∷ ss) =
     elim (cases_Bool (s.number == n)) [
@@ -94,7 +94,7 @@ changed_here n f number (s ∷ ss) =
       | inr there ↦ rw there (rw there (changed_here n f number ss))
     ]
 
-changed_other : (n k : ℕ) (f : Stream → Stream) → (k == n) ≡ false → KeepsNumber f → (ss : List Stream) → find_stream n (changed k f ss) ≡ find_stream n ss
+changed_other : (n k : ℕ) (f : Stream → Stream) → (k == n) ≡ false → KeepsNumber f → (ss : List Stream) → find_stream n (update_stream k f ss) ≡ find_stream n ss
 changed_other n k f other number [] = refl
 changed_other n k f other number (s ∷ ss) =
     elim (cases_Bool (s.number == k)) [
@@ -105,7 +105,7 @@ changed_other n k f other number (s ∷ ss) =
     ]
 
 -- a call on one stream: what it makes of that one, and nothing of the others
-keeps_changed : (n k : ℕ) (f : Stream → Stream) (p q : Progress) (ss : List Stream) → KeepsNumber f → (Keeps p (find_stream n ss) → Keeps q (option_map f (find_stream n ss))) → Keeps p (find_stream n ss) → Keeps (cond (k == n) q p) (find_stream n (changed k f ss))
+keeps_changed : (n k : ℕ) (f : Stream → Stream) (p q : Progress) (ss : List Stream) → KeepsNumber f → (Keeps p (find_stream n ss) → Keeps q (option_map f (find_stream n ss))) → Keeps p (find_stream n ss) → Keeps (cond (k == n) q p) (find_stream n (update_stream k f ss))
 keeps_changed n k f p q ss number go h =
     elim (cases_Bool (k == n)) [
       | inl here ↦ rw here (rw (eqb-true k n here, changed_here n f number ss) (go h))
@@ -116,7 +116,7 @@ same_cond : (b : Bool) (p : Progress) (a : Option Stream) → Keeps (cond b p p)
 same_cond true p a k = k
 same_cond false p a k = k
 
-keeps_untouched : (n k : ℕ) (f : Stream → Stream) (p : Progress) (ss : List Stream) → KeepsNumber f → IsStill f → Keeps p (find_stream n ss) → Keeps p (find_stream n (changed k f ss))
+keeps_untouched : (n k : ℕ) (f : Stream → Stream) (p : Progress) (ss : List Stream) → KeepsNumber f → IsStill f → Keeps p (find_stream n ss) → Keeps p (find_stream n (update_stream k f ss))
 keeps_untouched n k f p ss number still h = same_cond (k == n) p _ (keeps_changed n k f p p ss number (λ i. keeps_still f p (find_stream n ss) still i) h)
 
 found_last : (n : ℕ) (ss : List Stream) (s : Stream) → find_stream n ss ≡ None → find_stream n (ss ++ s ∷ []) ≡ cond (s.number == n) (Some s) None
@@ -176,17 +176,17 @@ granted : (b : Bool) (e : Overflow) (x new : Out) → cond b (Err e) (Ok x) ≡ 
 granted true e x new due = absurd (cc due)
 granted false e x new due = cc
 
-keeps_connection : (n step : ℕ) (p : Progress) (o new : Out) → grown_connection step o ≡ Ok new → Keeps p (find_stream n o.streams) → Keeps p (find_stream n new.streams)
-unfolding grown_connection
+keeps_connection : (n step : ℕ) (p : Progress) (o new : Out) → with_connection_step step o ≡ Ok new → Keeps p (find_stream n o.streams) → Keeps p (find_stream n new.streams)
+unfolding with_connection_step
 keeps_connection n step p o new due h = rw (granted _ _ _ new due) h
 
-keeps_grown_stream : (n k step : ℕ) (p : Progress) (o new : Out) → grown_stream k step o ≡ Ok new → Keeps p (find_stream n o.streams) → Keeps p (find_stream n new.streams)
-unfolding grown_stream
+keeps_grown_stream : (n k step : ℕ) (p : Progress) (o new : Out) → with_stream_step k step o ≡ Ok new → Keeps p (find_stream n o.streams) → Keeps p (find_stream n new.streams)
+unfolding with_stream_step
 keeps_grown_stream n k step p o new due h =
     rw (granted _ _ _ new due) (keeps_untouched n k (λ s. record s { credit = s.credit +ℤ pos step }) p o.streams (λ s. refl) (λ s. (refl, refl, refl)) h)
 
-keeps_grown : (n k step : ℕ) (p : Progress) (o new : Out) → grown k step o ≡ Ok new → Keeps p (find_stream n o.streams) → Keeps p (find_stream n new.streams)
-unfolding grown
+keeps_grown : (n k step : ℕ) (p : Progress) (o new : Out) → with_step k step o ≡ Ok new → Keeps p (find_stream n o.streams) → Keeps p (find_stream n new.streams)
+unfolding with_step
 keeps_grown n k step p o new due h =
     elim (cases_Bool (k == 0)) [
       | inl here ↦ keeps_connection n step p o new (rw here at due) h
@@ -202,7 +202,7 @@ keeps_initial n value p o new None due h =
 -- ---- all calls
 
 keeps_next : (n : ℕ) (step : Step) (p : Progress) (old new : Out) → RisesFrom 0 (numbers old) → Leads step old new → Keeps p (find_stream n old.streams) → Keeps (after_step n step p) (find_stream n new.streams)
-unfolding added removed controlled shrunk headed offered withdrawn finished_by initialed
+unfolding with_stream without_stream with_control with_size_update with_head with_message without_waiting with_trailers set_initial_window
 keeps_next n (Add k) p old new rises e h = rw e.2 (keeps_added n k p old.streams e.1 h)
 keeps_next n (Remove k) p old new rises e h = rw e (keeps_removed n k p old.streams h)
 keeps_next n (Initial value) p old new rises e h = keeps_initial n value p old new (first_over value old.streams) e h
@@ -213,7 +213,7 @@ keeps_next n (Give k block) p old new rises e h = rw e (keeps_untouched n k (λ 
 keeps_next n (Offer k m) p old new rises e h = rw e (keeps_changed n k (with_offer m) p (after_offer m p) old.streams (λ s. refl) (keeps_offer m p (find_stream n old.streams)) h)
 keeps_next n (Withdraw k) p old new rises e h = rw e (keeps_changed n k (λ s. record s { waiting = None }) p (record p { waiting = None }) old.streams (λ s. refl) (keeps_withdraw p (find_stream n old.streams)) h)
 keeps_next n (Finish k block) p old new rises e h = rw e (keeps_untouched n k (λ s. record s { trailers = Some block; finished = true }) p old.streams (λ s. refl) (λ s. (refl, refl, refl)) h)
-keeps_next n (Pull sent) p old new rises e h = rw (e.0, e.1) (keeps_pull (all_data_on n (pulled old).sent) p (find_stream n old.streams) (find_stream n (pulled old).left.streams) (goes_pull n old rises) h)
+keeps_next n (Pull sent) p old new rises e h = rw (e.0, e.1) (keeps_pull (all_data_on n (pull_of old).sent) p (find_stream n old.streams) (find_stream n (pull_of old).left.streams) (goes_pull n old rises) h)
 
 keeps_reached : (n : ℕ) (steps : List Step) (o : Out) → Reaches steps o → Keeps (progress_on n steps) (find_stream n o.streams)
 keeps_reached n [] o e = rw e (record { front = refl; there = tt })
@@ -253,8 +253,8 @@ waits_cond P false m h = h
 known_writing : (n : ℕ) (step : Step) (before : List Step) (bytes : List ℕ) (p : Progress) (w : Option (List ℕ)) → p.waiting ≡ w → Known n (step ∷ before) p → Known n (step ∷ before) (begin_with bytes p w)
 known_writing n step before bytes p None e h = record { begun = h.begun; waiting = h.waiting }
 known_writing n step before bytes p (Some m) e h =
-    let offered : IfWaits (WasOffered n (step ∷ before)) (Some m) = rw e at h.waiting in
-    record { begun = (offered, h.begun); waiting = tt }
+    let with_message : IfWaits (WasOffered n (step ∷ before)) (Some m) = rw e at h.waiting in
+    record { begun = (with_message, h.begun); waiting = tt }
 
 known_pull : (n : ℕ) (step : Step) (before : List Step) (bytes : List ℕ) (p : Progress) → Known n (step ∷ before) p → Known n (step ∷ before) (after_writing bytes p)
 unfolding after_writing
@@ -290,10 +290,10 @@ known n (step ∷ before) = known_next n step before (progress_on n before) (kno
 pub reached_progress : (n : ℕ) (steps : List Step) (o : Out) → Reaches steps o → WritesWhatBegan n steps o
 reached_progress n steps o e =
     let k = keeps_reached n steps o e in
-    record { front = k.front; offered = (known n steps).begun; there = k.there }
+    record { front = k.front; with_message = (known n steps).begun; there = k.there }
 
 -- the bare prefix
-pub reached_prefix : (n : ℕ) (steps : List Step) (o : Out) → Reaches steps o → BeginsWith (joined (progress_on n steps).begun) (progress_on n steps).written
+pub reached_prefix : (n : ℕ) (steps : List Step) (o : Out) → Reaches steps o → BeginsWith (all_messages (progress_on n steps).begun) (progress_on n steps).written
 reached_prefix n steps o e = ((progress_on n steps).left, sym (keeps_reached n steps o e).front)
 
 -- ---- a message begins after the whole of the one before
@@ -311,5 +311,5 @@ finish_on d p (Some s) (Some t) (inr h) k is = (h.message, h.bytes, k.there.1 �
 pub pull_finishes : (n : ℕ) (sent : List Sent) (before : List Step) (o : Out) → Reaches (Pull sent ∷ before) o → IsMore (all_data_on n sent) (progress_on n before) → Finishes (all_data_on n sent) (progress_on n before)
 pull_finishes n sent before o e is =
     let old = e.0 in
-    let goes : GoesOn (all_data_on n sent) (find_stream n old.streams) (find_stream n (pulled old).left.streams) = rw e.2.0 (goes_pull n old (reached_rises before old e.1)) in
-    finish_on (all_data_on n sent) (progress_on n before) (find_stream n old.streams) (find_stream n (pulled old).left.streams) goes (keeps_reached n before old e.1) is
+    let goes : GoesOn (all_data_on n sent) (find_stream n old.streams) (find_stream n (pull_of old).left.streams) = rw e.2.0 (goes_pull n old (reached_rises before old e.1)) in
+    finish_on (all_data_on n sent) (progress_on n before) (find_stream n old.streams) (find_stream n (pull_of old).left.streams) goes (keeps_reached n before old e.1) is

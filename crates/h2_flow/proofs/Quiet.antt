@@ -3,9 +3,9 @@ use Rattle.std.proofs.Common.{◌≡◌, inl, inr, ℕ, zero, suc, ◌<◌, Bool
 use Rattle.std.proofs.lemmas.Bool.{cases_Bool}
 use Rattle.h2_flow.specs.declared.flow.Flow.{Flow}
 use Rattle.h2_flow.specs.declared.stream.Stream.{Stream}
-use Rattle.h2_flow.specs.Streams.{Sent, idle, turn}
+use Rattle.h2_flow.specs.Streams.{Sent, no_turn, turn}
 use Rattle.h2_flow.specs.Pulls.{Round, round, all_work, all_rounds}
-use Rattle.h2_flow.specs.Outboxes.{Out, is_number, removed, pulled, IsQuiet}
+use Rattle.h2_flow.specs.Outboxes.{Out, is_number, without_stream, pull_of, IsQuiet}
 use Rattle.h2_flow.proofs.Turns.{turn_works}
 use Rattle.h2_flow.proofs.Rounds.{still, round_works, rounds_step, some_sent, after_some}
 
@@ -39,24 +39,24 @@ rounds_done : (f : Flow) (ss : List Stream) → Done (all_rounds f ss)
 rounds_done f ss = done_in (suc (all_work ss)) f ss (omega arith)
 
 quiet_from : (o : Out) → o.control ≡ [] → all_rounds o.flow o.streams ≡ still o.flow o.streams → IsQuiet o
-unfolding pulled
+unfolding pull_of
 quiet_from o empty rounds = rw (rounds, empty) refl
 
-pub pulls_once : (o : Out) → IsQuiet (pulled o).left
-unfolding pulled
+pub pulls_once : (o : Out) → IsQuiet (pull_of o).left
+unfolding pull_of
 pulls_once o = quiet_from (record o { flow = (all_rounds o.flow o.streams).flow; control = []; streams = (all_rounds o.flow o.streams).streams }) refl (rounds_done o.flow o.streams)
 
 -- ---- streams that write nothing, one by one
 
 AllIdle : Flow → List Stream → Type 0
 AllIdle f [] = Unit {0}
-AllIdle f (s ∷ ss) = (turn f s ≡ idle f s) × AllIdle f ss
+AllIdle f (s ∷ ss) = (turn f s ≡ no_turn f s) × AllIdle f ss
 
 front_none : (xs ys : List Sent) → xs ++ ys ≡ [] → xs ≡ []
 front_none [] ys e = refl
 front_none (x ∷ xs) ys e = absurd (cc e)
 
-idle_turn : (f : Flow) (s : Stream) → (turn f s).sent ≡ [] → turn f s ≡ idle f s
+idle_turn : (f : Flow) (s : Stream) → (turn f s).sent ≡ [] → turn f s ≡ no_turn f s
 idle_turn f s none =
     elim (turn_works f s) [
       | inl e ↦ e
@@ -67,7 +67,7 @@ all_idle : (f : Flow) (ss : List Stream) → (round f ss).sent ≡ [] → AllIdl
 unfolding round AllIdle
 all_idle f [] none = tt
 all_idle f (s ∷ ss) none =
-    let here : turn f s ≡ idle f s = idle_turn f s (front_none (turn f s).sent (round (turn f s).flow ss).sent none) in
+    let here : turn f s ≡ no_turn f s = idle_turn f s (front_none (turn f s).sent (round (turn f s).flow ss).sent none) in
     (here, all_idle f ss (rw here at none))
 
 idle_round : (f : Flow) (ss : List Stream) → AllIdle f ss → round f ss ≡ still f ss
@@ -85,11 +85,11 @@ idle_filter f test (s ∷ ss) h =
     ]
 
 quiet_rounds : (o : Out) → IsQuiet o → (all_rounds o.flow o.streams).sent ≡ []
-unfolding pulled
+unfolding pull_of
 quiet_rounds o h = ap (λ p. p.sent) h
 
 quiet_control : (o : Out) → IsQuiet o → o.control ≡ []
-unfolding pulled
+unfolding pull_of
 quiet_control o h = sym (ap (λ p. p.left.control) h)
 
 -- rounds that write nothing begin with a round that does
@@ -102,9 +102,9 @@ first_none f ss none =
           front_none (round f ss).sent (all_rounds (round f ss).flow (round f ss).streams).sent (rw step at none)
     ]
 
-pub removes_quietly : (n : ℕ) (o : Out) → IsQuiet o → IsQuiet (removed n o)
-unfolding removed
+pub removes_quietly : (n : ℕ) (o : Out) → IsQuiet o → IsQuiet (without_stream n o)
+unfolding without_stream
 removes_quietly n o h =
-    let idle = all_idle o.flow o.streams (first_none o.flow o.streams (quiet_rounds o h)) in
+    let no_turn = all_idle o.flow o.streams (first_none o.flow o.streams (quiet_rounds o h)) in
     let test : Stream → Bool = λ s. not (is_number n s) in
-    quiet_from (record o { streams = filter test o.streams }) (quiet_control o h) (still_rounds o.flow (filter test o.streams) (idle_round o.flow (filter test o.streams) (idle_filter o.flow test o.streams idle)))
+    quiet_from (record o { streams = filter test o.streams }) (quiet_control o h) (still_rounds o.flow (filter test o.streams) (idle_round o.flow (filter test o.streams) (idle_filter o.flow test o.streams no_turn)))

@@ -9,12 +9,12 @@ use Rattle.h2_wire.specs.declared.limit.TheConstants.{INITIAL_WINDOW_SIZE, MAX_F
 use Rattle.h2_flow.specs.declared.flow.Flow.{Flow}
 use Rattle.h2_flow.specs.declared.stream.Stream.{Stream}
 use Rattle.h2_flow.specs.Windows.{room_of, window_of, allowed_of}
-use Rattle.h2_flow.specs.Streams.{Sent, content, Turn, idle, headers_turn, data_turn, last_turn, next_turn, body_turn, head_turn, turn}
+use Rattle.h2_flow.specs.Streams.{Sent, content, Turn, no_turn, headers_turn, data_turn, last_turn, next_turn, body_turn, head_turn, turn}
 use Rattle.h2_flow.specs.Pulls.{Round, round, rounds, all_work, all_rounds}
 use Rattle.h2_flow.specs.declared.overflow.Overflow.{Overflow}
-use Rattle.h2_flow.specs.Outboxes.{Out, fresh, is_number, IsAbove, new_stream, RisesFrom, numbers, changed, added, removed, controlled, shrunk, headed, offered, withdrawn, finished_by, credit_of, grown_connection, grown_stream, grown, first_over, with_initial, initialed, pulled}
+use Rattle.h2_flow.specs.Outboxes.{Out, new_outbox, is_number, IsAbove, new_stream, RisesFrom, numbers, update_stream, with_stream, without_stream, with_control, with_size_update, with_head, with_message, without_waiting, with_trailers, credit_of, with_connection_step, with_stream_step, with_step, first_over, with_initial, set_initial_window, pull_of}
 use Rattle.h2_flow.proofs.Orders.{number_of, rises_from, rises_added, rises_filter}
-use Rattle.h2_flow.specs.Histories.{Step, Add, Remove, Initial, Grow, Control, Shrink, Give, Offer, Withdraw, Finish, Pull, Leads, Reaches, HasSums, data_of, data_on, step_on, written, written_on, last_initial, is_added, since, stream_sum}
+use Rattle.h2_flow.specs.Histories.{Step, Add, Remove, Initial, Grow, Control, Shrink, Give, Offer, Withdraw, Finish, Pull, Leads, Reaches, HasSums, data_of, data_on, step_on, data_written, data_written_on, last_initial, is_added, since, stream_sum}
 
 -- ---- a turn
 
@@ -51,7 +51,7 @@ sums_cond : (b : Bool) (x y : Turn) (f : Flow) (s : Stream) → TurnSums f s x �
 sums_cond true x y f s h k = h
 sums_cond false x y f s h k = k
 
-sums_idle : (f : Flow) (s : Stream) → TurnSums f s (idle f s)
+sums_idle : (f : Flow) (s : Stream) → TurnSums f s (no_turn f s)
 sums_idle f s = record { initial_window_size = refl; connection_window = omega arith; number = refl; credit = omega (arith, ints); within = zero-add _; others = λ n e. refl }
 
 sums_headers : (f : Flow) (s : Stream) (block : List ℕ) (ended : Bool) → TurnSums f s (headers_turn f s block ended)
@@ -238,22 +238,22 @@ all_within initial sent [] ts m h = tt
 all_within initial sent (s ∷ ss) [] m h = absurd m
 all_within initial sent (s ∷ ss) (t ∷ ts) m h = (omega (arith, h.0), all_within initial sent ss ts m.2 h.1)
 
-pub pull_within_streams : (o : Out) → RisesFrom 0 (numbers o) → AllByRecursion (λ (s : Stream). sum_by (data_on s.number) (pulled o).sent ≤ room_of (window_of o.flow.initial_window_size s.credit)) o.streams
-unfolding pulled all_rounds
+pub pull_within_streams : (o : Out) → RisesFrom 0 (numbers o) → AllByRecursion (λ (s : Stream). sum_by (data_on s.number) (pull_of o).sent ≤ room_of (window_of o.flow.initial_window_size s.credit)) o.streams
+unfolding pull_of all_rounds
 pull_within_streams o rises =
     let r = all_rounds o.flow o.streams in
     let k : RoundSums o.flow o.streams r = sums_rounds (all_work o.streams + 1) o.flow o.streams rises in
     all_within o.flow.initial_window_size r.sent o.streams r.streams k.spent k.within
 
-pub pull_within_connection : (o : Out) → RisesFrom 0 (numbers o) → sum_by data_of (pulled o).sent ≤ o.flow.connection_window
-unfolding pulled all_rounds
+pub pull_within_connection : (o : Out) → RisesFrom 0 (numbers o) → sum_by data_of (pull_of o).sent ≤ o.flow.connection_window
+unfolding pull_of all_rounds
 pull_within_connection o rises =
     let r = all_rounds o.flow o.streams in
     let k : RoundSums o.flow o.streams r = sums_rounds (all_work o.streams + 1) o.flow o.streams rises in
     omega (arith, k.connection_window)
 
-pub pull_sums : (o : Out) → RisesFrom 0 (numbers o) → ((pulled o).left.flow.initial_window_size ≡ o.flow.initial_window_size) × ((pulled o).left.flow.connection_window + sum_by data_of (pulled o).sent ≡ o.flow.connection_window) × Spent (pulled o).sent o.streams (pulled o).left.streams
-unfolding pulled all_rounds
+pub pull_sums : (o : Out) → RisesFrom 0 (numbers o) → ((pull_of o).left.flow.initial_window_size ≡ o.flow.initial_window_size) × ((pull_of o).left.flow.connection_window + sum_by data_of (pull_of o).sent ≡ o.flow.connection_window) × Spent (pull_of o).sent o.streams (pull_of o).left.streams
+unfolding pull_of all_rounds
 pull_sums o rises =
     let k : RoundSums o.flow o.streams (all_rounds o.flow o.streams) = sums_rounds (all_work o.streams + 1) o.flow o.streams rises in
     (k.initial_window_size, k.connection_window, k.spent)
@@ -265,21 +265,21 @@ abbrev pub Moved : Step → List Stream → List Stream → Type 0
 Moved step [] [] = Unit {0}
 Moved step [] (t ∷ ts) = ⊥
 Moved step (s ∷ ss) [] = ⊥
-Moved step (s ∷ ss) (t ∷ ts) = (t.number ≡ s.number) × (t.credit ≡ (s.credit +ℤ pos (step_on s.number step)) -ℤ pos (written_on s.number step)) × Moved step ss ts
+Moved step (s ∷ ss) (t ∷ ts) = (t.number ≡ s.number) × (t.credit ≡ (s.credit +ℤ pos (step_on s.number step)) -ℤ pos (data_written_on s.number step)) × Moved step ss ts
 
 -- a call that moves no window
 pub record IsStill (step : Step) : Type 0 where
   pub steps : (n : ℕ) → step_on n step ≡ 0
-  pub none : (n : ℕ) → written_on n step ≡ 0
+  pub none : (n : ℕ) → data_written_on n step ≡ 0
 
-moved_still : (step : Step) (s t : Stream) → IsStill step → t.credit ≡ s.credit → t.credit ≡ (s.credit +ℤ pos (step_on s.number step)) -ℤ pos (written_on s.number step)
+moved_still : (step : Step) (s t : Stream) → IsStill step → t.credit ≡ s.credit → t.credit ≡ (s.credit +ℤ pos (step_on s.number step)) -ℤ pos (data_written_on s.number step)
 moved_still step s t still same = same ∙ rw (still.steps s.number, still.none s.number) (omega (arith, ints))
 
 moved_none : (step : Step) (ss : List Stream) → IsStill step → Moved step ss ss
 moved_none step [] still = tt
 moved_none step (s ∷ ss) still = (refl, moved_still step s s still refl, moved_none step ss still)
 
-moved_changed : (step : Step) (n : ℕ) (f : Stream → Stream) → IsStill step → ((s : Stream) → (f s).number ≡ s.number) → ((s : Stream) → (f s).credit ≡ s.credit) → (ss : List Stream) → Moved step ss (changed n f ss)
+moved_changed : (step : Step) (n : ℕ) (f : Stream → Stream) → IsStill step → ((s : Stream) → (f s).number ≡ s.number) → ((s : Stream) → (f s).credit ≡ s.credit) → (ss : List Stream) → Moved step ss (update_stream n f ss)
 moved_changed step n f still number credit [] = tt
 moved_changed step n f still number credit (s ∷ ss) =
     elim (cases_Bool (s.number == n)) [
@@ -294,7 +294,7 @@ moved_past n step (s ∷ ss) rises =
     let other : (s.number == n) ≡ false = ne_eqb s.number n (λ e. absurd (omega arith)) in
     (refl, rw other (omega (arith, ints)), moved_past n step ss (rises_from n s.number (map number_of ss) (omega arith) rises.1))
 
-moved_grown : (m n step : ℕ) (ss : List Stream) → RisesFrom m (map number_of ss) → Moved (Grow n step) ss (changed n (λ s. record s { credit = s.credit +ℤ pos step }) ss)
+moved_grown : (m n step : ℕ) (ss : List Stream) → RisesFrom m (map number_of ss) → Moved (Grow n step) ss (update_stream n (λ s. record s { credit = s.credit +ℤ pos step }) ss)
 moved_grown m n step [] rises = tt
 moved_grown m n step (s ∷ ss) rises =
     elim (cases_Bool (s.number == n)) [
@@ -322,10 +322,10 @@ since_added n step before now = take_while-cons (λ step. not (is_added n step))
 
 -- all steps on the stream since it came, less the bytes of DATA written on it
 abbrev credit_sum : ℕ → List Step → ℤ
-credit_sum n steps = pos (sum_by (step_on n) (since n steps)) -ℤ pos (sum_by (written_on n) (since n steps))
+credit_sum n steps = pos (sum_by (step_on n) (since n steps)) -ℤ pos (sum_by (data_written_on n) (since n steps))
 
-credit_next : (n : ℕ) (step : Step) (before : List Step) → is_added n step ≡ false → credit_sum n (step ∷ before) ≡ (credit_sum n before +ℤ pos (step_on n step)) -ℤ pos (written_on n step)
-credit_next n step before later = rw (since_next n step before later, sum_by-cons (step_on n) step (since n before), sum_by-cons (written_on n) step (since n before)) (omega (arith, ints))
+credit_next : (n : ℕ) (step : Step) (before : List Step) → is_added n step ≡ false → credit_sum n (step ∷ before) ≡ (credit_sum n before +ℤ pos (step_on n step)) -ℤ pos (data_written_on n step)
+credit_next n step before later = rw (since_next n step before later, sum_by-cons (step_on n) step (since n before), sum_by-cons (data_written_on n) step (since n before)) (omega (arith, ints))
 
 credit_added : (n : ℕ) (step : Step) (before : List Step) → is_added n step ≡ true → pos 0 ≡ credit_sum n (step ∷ before)
 credit_added n step before now = rw (since_added n step before now) (omega (arith, ints))
@@ -339,7 +339,7 @@ credits_moved step before [] (t ∷ ts) later moved h = absurd moved
 credits_moved step before (s ∷ ss) [] later moved h = absurd moved
 credits_moved step before (s ∷ ss) (t ∷ ts) later moved h =
     let due : s.credit ≡ credit_sum s.number before = h.0 in
-    let now : t.credit ≡ credit_sum s.number (step ∷ before) = moved.1 ∙ ap (λ (c : ℤ). (c +ℤ pos (step_on s.number step)) -ℤ pos (written_on s.number step)) due ∙ sym (credit_next s.number step before (later s.number)) in
+    let now : t.credit ≡ credit_sum s.number (step ∷ before) = moved.1 ∙ ap (λ (c : ℤ). (c +ℤ pos (step_on s.number step)) -ℤ pos (data_written_on s.number step)) due ∙ sym (credit_next s.number step before (later s.number)) in
     (subst (λ (n : ℕ). t.credit ≡ credit_sum n (step ∷ before)) (sym moved.0) now, credits_moved step before ss ts later moved.2 h.1)
 
 numbers_moved : (step : Step) (ss ts : List Stream) → Moved step ss ts → map number_of ts ≡ map number_of ss
@@ -351,18 +351,18 @@ numbers_moved step (s ∷ ss) (t ∷ ts) h = rw (h.0, numbers_moved step ss ts h
 -- the sums, apart from the initial window, and the order of the streams, on which they rest
 pub record Holds (steps : List Step) (o : Out) : Type 0 where
   pub initial_window_size : o.flow.initial_window_size ≡ last_initial steps
-  pub connection_window : o.flow.connection_window + sum_by written steps ≡ INITIAL_WINDOW_SIZE + sum_by (step_on 0) steps
+  pub connection_window : o.flow.connection_window + sum_by data_written steps ≡ INITIAL_WINDOW_SIZE + sum_by (step_on 0) steps
   pub credits : Credits steps o.streams
   pub rises : RisesFrom 0 (numbers o)
 
-holds_fresh : Holds [] fresh
+holds_fresh : Holds [] new_outbox
 holds_fresh = record { initial_window_size = refl; connection_window = refl; credits = tt; rises = tt }
 
 -- a call that adds and drops no stream
-holds_moved : (step : Step) (before : List Step) (o new : Out) → ((n : ℕ) → is_added n step ≡ false) → new.flow.initial_window_size ≡ last_initial (step ∷ before) → new.flow.connection_window + written step ≡ o.flow.connection_window + step_on 0 step → Moved step o.streams new.streams → Holds before o → Holds (step ∷ before) new
+holds_moved : (step : Step) (before : List Step) (o new : Out) → ((n : ℕ) → is_added n step ≡ false) → new.flow.initial_window_size ≡ last_initial (step ∷ before) → new.flow.connection_window + data_written step ≡ o.flow.connection_window + step_on 0 step → Moved step o.streams new.streams → Holds before o → Holds (step ∷ before) new
 holds_moved step before o new later initial room moved h = record {
   initial_window_size = initial;
-  connection_window = rw (sum_by-cons written step before, sum_by-cons (step_on 0) step before) (omega (arith, room, h.connection_window));
+  connection_window = rw (sum_by-cons data_written step before, sum_by-cons (step_on 0) step before) (omega (arith, room, h.connection_window));
   credits = credits_moved step before o.streams new.streams later moved h.credits;
   rises = rw (numbers_moved step o.streams new.streams moved) h.rises;
 }
@@ -375,8 +375,8 @@ credits_added n before (s ∷ ss) above h =
     let later : is_added s.number (Add n) ≡ false = ne_eqb s.number n (λ e. absurd (omega (arith, above.0, e))) in
     (h.0 ∙ sym (credit_next s.number (Add n) before later ∙ omega (arith, ints)), credits_added n before ss above.1 h.1)
 
-holds_added : (n : ℕ) (before : List Step) (o : Out) → 0 < n → IsAbove n o.streams → Holds before o → Holds (Add n ∷ before) (added n o)
-unfolding added
+holds_added : (n : ℕ) (before : List Step) (o : Out) → 0 < n → IsAbove n o.streams → Holds before o → Holds (Add n ∷ before) (with_stream n o)
+unfolding with_stream
 holds_added n before o lt above h = record {
   initial_window_size = h.initial_window_size;
   connection_window = h.connection_window;
@@ -394,8 +394,8 @@ all_filter P p (s ∷ ss) h =
       | inr goes ↦ rw goes (all_filter P p ss h.1)
     ]
 
-holds_removed : (n : ℕ) (before : List Step) (o : Out) → Holds before o → Holds (Remove n ∷ before) (removed n o)
-unfolding removed
+holds_removed : (n : ℕ) (before : List Step) (o : Out) → Holds before o → Holds (Remove n ∷ before) (without_stream n o)
+unfolding without_stream
 holds_removed n before o h =
     let still : IsStill (Remove n) = record { steps = λ m. refl; none = λ m. refl } in
     let all : Holds (Remove n ∷ before) o = holds_moved (Remove n) before o o (λ m. refl) h.initial_window_size (omega arith) (moved_none (Remove n) o.streams still) h in
@@ -413,24 +413,24 @@ granted : (b : Bool) (e : Overflow) (x new : Out) → cond b (Err e) (Ok x) ≡ 
 granted true e x new due = absurd (cc due)
 granted false e x new due = cc
 
-holds_room : (step : ℕ) (before : List Step) (o new : Out) → grown_connection step o ≡ Ok new → Holds before o → Holds (Grow 0 step ∷ before) new
-unfolding grown_connection
+holds_room : (step : ℕ) (before : List Step) (o new : Out) → with_connection_step step o ≡ Ok new → Holds before o → Holds (Grow 0 step ∷ before) new
+unfolding with_connection_step
 holds_room step before o new due h =
     rw (granted (nat_lt MAX_WINDOW_SIZE (o.flow.connection_window + step)) _ _ new due)
     (holds_moved (Grow 0 step) before o (record o { flow = record o.flow { connection_window = o.flow.connection_window + step } }) (λ m. refl) h.initial_window_size (omega arith) (moved_past 0 step o.streams h.rises) h)
 
-holds_stream : (n step : ℕ) (before : List Step) (o new : Out) → (n == 0) ≡ false → grown_stream n step o ≡ Ok new → Holds before o → Holds (Grow n step ∷ before) new
-unfolding grown_stream
+holds_stream : (n step : ℕ) (before : List Step) (o new : Out) → (n == 0) ≡ false → with_stream_step n step o ≡ Ok new → Holds before o → Holds (Grow n step ∷ before) new
+unfolding with_stream_step
 holds_stream n step before o new some due h =
     let none : (0 == n) ≡ false = ne_eqb 0 n (λ e. absurd (differ some (eq-eqb n 0 (sym e)))) in
     rw (granted (int_lt (pos MAX_WINDOW_SIZE) (window_of o.flow.initial_window_size (credit_of n o.streams) +ℤ pos step)) _ _ new due)
-    (holds_moved (Grow n step) before o (record o { streams = changed n (λ s. record s { credit = s.credit +ℤ pos step }) o.streams }) (λ m. refl) h.initial_window_size (rw none (omega arith)) (moved_grown 0 n step o.streams h.rises) h)
+    (holds_moved (Grow n step) before o (record o { streams = update_stream n (λ s. record s { credit = s.credit +ℤ pos step }) o.streams }) (λ m. refl) h.initial_window_size (rw none (omega arith)) (moved_grown 0 n step o.streams h.rises) h)
   where
     differ : {b : Bool} → b ≡ false → b ≡ true → ⊥
     differ off on = absurd (cc (off, on))
 
-holds_grown : (n step : ℕ) (before : List Step) (o new : Out) → grown n step o ≡ Ok new → Holds before o → Holds (Grow n step ∷ before) new
-unfolding grown
+holds_grown : (n step : ℕ) (before : List Step) (o new : Out) → with_step n step o ≡ Ok new → Holds before o → Holds (Grow n step ∷ before) new
+unfolding with_step
 holds_grown n step before o new due h =
     elim (cases_Bool (n == 0)) [
       | inl here ↦ rw (eqb-true n 0 here) (holds_room step before o new (rw here at due) h)
@@ -446,21 +446,21 @@ holds_initial value before o new None due h =
 
 -- ---- a pull
 
-holds_pulled : (before : List Step) (o : Out) → Holds before o → Holds (Pull (pulled o).sent ∷ before) (pulled o).left
-unfolding pulled all_rounds
+holds_pulled : (before : List Step) (o : Out) → Holds before o → Holds (Pull (pull_of o).sent ∷ before) (pull_of o).left
+unfolding pull_of all_rounds
 holds_pulled before o h =
     let r = all_rounds o.flow o.streams in
     let k : RoundSums o.flow o.streams r = sums_rounds (all_work o.streams + 1) o.flow o.streams h.rises in
-    holds_moved (Pull r.sent) before o (pulled o).left (λ m. refl) (k.initial_window_size ∙ h.initial_window_size) (k.connection_window ∙ omega arith) (moved_spent r.sent o.streams r.streams k.spent) h
+    holds_moved (Pull r.sent) before o (pull_of o).left (λ m. refl) (k.initial_window_size ∙ h.initial_window_size) (k.connection_window ∙ omega arith) (moved_spent r.sent o.streams r.streams k.spent) h
 
 -- ---- all calls
 
-holds_changed : (step : Step) (n : ℕ) (f : Stream → Stream) (before : List Step) (o : Out) → ((n : ℕ) → is_added n step ≡ false) → o.flow.initial_window_size ≡ last_initial (step ∷ before) → IsStill step → written step ≡ 0 → ((s : Stream) → (f s).number ≡ s.number) → ((s : Stream) → (f s).credit ≡ s.credit) → Holds before o → Holds (step ∷ before) (record o { streams = changed n f o.streams })
+holds_changed : (step : Step) (n : ℕ) (f : Stream → Stream) (before : List Step) (o : Out) → ((n : ℕ) → is_added n step ≡ false) → o.flow.initial_window_size ≡ last_initial (step ∷ before) → IsStill step → data_written step ≡ 0 → ((s : Stream) → (f s).number ≡ s.number) → ((s : Stream) → (f s).credit ≡ s.credit) → Holds before o → Holds (step ∷ before) (record o { streams = update_stream n f o.streams })
 holds_changed step n f before o later initial still none number credit h =
     holds_moved step before o _ later initial (rw (none, still.steps 0) refl) (moved_changed step n f still number credit o.streams) h
 
 holds_next : (step : Step) (before : List Step) (old new : Out) → Holds before old → Leads step old new → Holds (step ∷ before) new
-unfolding controlled shrunk headed offered withdrawn finished_by initialed
+unfolding with_control with_size_update with_head with_message without_waiting with_trailers set_initial_window
 holds_next (Add n) before old new h e = rw e.2 (holds_added n before old e.0 e.1 h)
 holds_next (Remove n) before old new h e = rw e (holds_removed n before old h)
 holds_next (Initial value) before old new h e = holds_initial value before old new (first_over value old.streams) e h

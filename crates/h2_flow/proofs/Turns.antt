@@ -5,7 +5,7 @@ use Rattle.std.proofs.lemmas.List.{length-drop}
 use Rattle.h2_flow.specs.declared.flow.Flow.{Flow}
 use Rattle.h2_flow.specs.declared.stream.Stream.{Stream}
 use Rattle.h2_flow.specs.Windows.{allowed_of}
-use Rattle.h2_flow.specs.Streams.{Turn, idle, headers_turn, data_turn, last_turn, next_turn, body_turn, head_turn, turn}
+use Rattle.h2_flow.specs.Streams.{Turn, no_turn, headers_turn, data_turn, last_turn, next_turn, body_turn, head_turn, turn}
 use Rattle.h2_flow.specs.Pulls.{work_of}
 
 -- it wrote a frame, and less is left than this
@@ -14,14 +14,14 @@ pub record Wrote (work : ℕ) (t : Turn) : Type 0 where
   pub less : work_of t.stream < work
 
 abbrev pub Works : Flow → Stream → Turn → Type 0
-Works f s t = (t ≡ idle f s) ⊎ Wrote (work_of s) t
+Works f s t = (t ≡ no_turn f s) ⊎ Wrote (work_of s) t
 
 -- a block was taken out of the stream
 headers_wrote : (f : Flow) (s : Stream) (block : List ℕ) (ended : Bool) (work : ℕ) → work_of s < work → Wrote work (headers_turn f s block ended)
 unfolding headers_turn
 headers_wrote f s block ended work less = record { frame = refl; less = less }
 
-data_idle : (f : Flow) (s : Stream) → allowed_of f s.credit (length (drop s.sent s.last)) ≡ 0 → data_turn f s ≡ idle f s
+data_idle : (f : Flow) (s : Stream) → allowed_of f s.credit (length (drop s.sent s.last)) ≡ 0 → data_turn f s ≡ no_turn f s
 unfolding data_turn
 data_idle f s none = rw none refl
 

@@ -5,7 +5,7 @@ use Rattle.h2_wire.specs.declared.limit.TheConstants.{INITIAL_WINDOW_SIZE}
 use Rattle.h2_flow.specs.declared.stream.Stream.{Stream}
 use Rattle.h2_flow.specs.Windows.{window_of}
 use Rattle.h2_flow.specs.Streams.{Sent, headers, content}
-use Rattle.h2_flow.specs.Outboxes.{Out, fresh, IsAbove, added, removed, controlled, shrunk, headed, offered, withdrawn, finished_by, grown, initialed, pulled}
+use Rattle.h2_flow.specs.Outboxes.{Out, new_outbox, IsAbove, with_stream, without_stream, with_control, with_size_update, with_head, with_message, without_waiting, with_trailers, with_step, set_initial_window, pull_of}
 
 -- ---- histories
 
@@ -25,21 +25,21 @@ pub data Step : Type 0 where
 
 -- the call took the one outbox to the other
 abbrev pub Leads : Step → Out → Out → Type 0
-Leads (Add n) old new = (0 < n) × IsAbove n old.streams × (new ≡ added n old)
-Leads (Remove n) old new = new ≡ removed n old
-Leads (Initial value) old new = initialed value old ≡ Ok new
-Leads (Grow n step) old new = grown n step old ≡ Ok new
-Leads (Control frame) old new = new ≡ controlled frame old
-Leads Shrink old new = new ≡ shrunk old
-Leads (Give n block) old new = new ≡ headed n block old
-Leads (Offer n message) old new = new ≡ offered n message old
-Leads (Withdraw n) old new = new ≡ withdrawn n old
-Leads (Finish n block) old new = new ≡ finished_by n block old
-Leads (Pull sent) old new = (sent ≡ (pulled old).sent) × (new ≡ (pulled old).left)
+Leads (Add n) old new = (0 < n) × IsAbove n old.streams × (new ≡ with_stream n old)
+Leads (Remove n) old new = new ≡ without_stream n old
+Leads (Initial value) old new = set_initial_window value old ≡ Ok new
+Leads (Grow n step) old new = with_step n step old ≡ Ok new
+Leads (Control frame) old new = new ≡ with_control frame old
+Leads Shrink old new = new ≡ with_size_update old
+Leads (Give n block) old new = new ≡ with_head n block old
+Leads (Offer n message) old new = new ≡ with_message n message old
+Leads (Withdraw n) old new = new ≡ without_waiting n old
+Leads (Finish n block) old new = new ≡ with_trailers n block old
+Leads (Pull sent) old new = (sent ≡ (pull_of old).sent) × (new ≡ (pull_of old).left)
 
 -- these calls, the last one first, took a fresh outbox to this one
 abbrev pub Reaches : List Step → Out → Type 0
-Reaches [] o = o ≡ fresh
+Reaches [] o = o ≡ new_outbox
 Reaches (step ∷ before) o = (old : Out) × Reaches before old × Leads step old o
 
 -- ---- what counts for a window, in bytes
@@ -59,13 +59,13 @@ data_on n (content stream bytes) = if n == stream then length bytes else 0
 
 -- the bytes of DATA that a call wrote
 abbrev pub written : Step → ℕ
-written (Pull sent) = sum_by data_of sent
-written _ = 0
+data_written (Pull sent) = sum_by data_of sent
+data_written _ = 0
 
 -- those on this stream
-abbrev pub written_on : ℕ → Step → ℕ
-written_on n (Pull sent) = sum_by (data_on n) sent
-written_on n _ = 0
+abbrev pub data_written_on : ℕ → Step → ℕ
+data_written_on n (Pull sent) = sum_by (data_on n) sent
+data_written_on n _ = 0
 
 -- ---- windows as sums
 
@@ -85,11 +85,11 @@ since n steps = take_while (λ step. not (is_added n step)) steps
 
 -- RFC 9113, section 6.9: 65,535 and all steps on the connection, less all bytes of DATA written
 abbrev pub connection_sum : List Step → ℤ
-connection_sum steps = pos (INITIAL_WINDOW_SIZE + sum_by (step_on 0) steps) -ℤ pos (sum_by written steps)
+connection_sum steps = pos (INITIAL_WINDOW_SIZE + sum_by (step_on 0) steps) -ℤ pos (sum_by data_written steps)
 
 -- RFC 9113, section 6.9: the last initial window and all steps on the stream, less the bytes of DATA written on it
 abbrev pub stream_sum : ℕ → List Step → ℤ
-stream_sum n steps = pos (last_initial steps + sum_by (step_on n) (since n steps)) -ℤ pos (sum_by (written_on n) (since n steps))
+stream_sum n steps = pos (last_initial steps + sum_by (step_on n) (since n steps)) -ℤ pos (sum_by (data_written_on n) (since n steps))
 
 -- the outbox's windows are these sums
 pub record HasSums (steps : List Step) (o : Out) : Type 0 where

@@ -19,11 +19,11 @@ pub record Out : Type 0 where
   pub failed : Bool
 
 -- RFC 9113, section 6.9.2: both windows begin with 65,535
-abbrev pub fresh : Out
-fresh = record { flow = record { connection_window = INITIAL_WINDOW_SIZE; initial_window_size = INITIAL_WINDOW_SIZE; update = Unasked; begun = 0 }; control = []; streams = []; failed = false }
+abbrev pub new_outbox : Out
+new_outbox = record { flow = record { connection_window = INITIAL_WINDOW_SIZE; initial_window_size = INITIAL_WINDOW_SIZE; update = Unasked; begun = 0 }; control = []; streams = []; failed = false }
 
-abbrev pub failing : Out → Out
-failing o = record o { failed = true }
+abbrev pub with_failure : Out → Out
+with_failure o = record o { failed = true }
 
 -- ---- the streams
 
@@ -31,8 +31,8 @@ abbrev pub is_number : ℕ → Stream → Bool
 is_number n s = s.number == n
 
 -- the stream is there
-abbrev pub has : ℕ → Out → Bool
-has n o = list_any (is_number n) o.streams
+abbrev pub has_stream : ℕ → Out → Bool
+has_stream n o = list_any (is_number n) o.streams
 
 -- it is there, and its last block was not given
 abbrev pub is_open : ℕ → Out → Bool
@@ -48,8 +48,8 @@ is_asked Unasked = false
 is_asked Due = true
 is_asked Written = true
 
-abbrev pub is_shrunk : Out → Bool
-is_shrunk o = is_asked o.flow.update
+abbrev pub has_size_update : Out → Bool
+has_size_update o = is_asked o.flow.update
 
 -- the numbers of the streams that are there
 abbrev pub numbers : Out → List ℕ
@@ -65,45 +65,45 @@ RisesFrom n [] = Unit {0}
 RisesFrom n (m ∷ ms) = (n < m) × RisesFrom m ms
 
 -- the stream of this number is changed so
-abbrev pub changed : ℕ → (Stream → Stream) → List Stream → List Stream
-changed n f [] = []
-changed n f (s ∷ ss) = if s.number == n then f s ∷ ss else s ∷ changed n f ss
+abbrev pub update_stream : ℕ → (Stream → Stream) → List Stream → List Stream
+update_stream n f [] = []
+update_stream n f (s ∷ ss) = if s.number == n then f s ∷ ss else s ∷ update_stream n f ss
 
 -- a stream on which nothing was given or written
 abbrev pub new_stream : ℕ → Stream
 new_stream n = record { number = n; credit = pos 0; head = None; last = []; sent = 0; waiting = None; trailers = None; finished = false; written = false }
 
-unfoldable pub added : ℕ → Out → Out
-added n o = record o { streams = o.streams ++ new_stream n ∷ [] }
+unfoldable pub with_stream : ℕ → Out → Out
+with_stream n o = record o { streams = o.streams ++ new_stream n ∷ [] }
 
-unfoldable pub removed : ℕ → Out → Out
-removed n o = record o { streams = filter (λ s. not (is_number n s)) o.streams }
+unfoldable pub without_stream : ℕ → Out → Out
+without_stream n o = record o { streams = filter (λ s. not (is_number n s)) o.streams }
 
 -- ---- what is to be written
 
-unfoldable pub controlled : List ℕ → Out → Out
-controlled frame o = record o { control = o.control ++ frame }
+unfoldable pub with_control : List ℕ → Out → Out
+with_control frame o = record o { control = o.control ++ frame }
 
 -- the next block begins with a size update
-unfoldable pub shrunk : Out → Out
-shrunk o = record o { flow = record o.flow { update = Due } }
+unfoldable pub with_size_update : Out → Out
+with_size_update o = record o { flow = record o.flow { update = Due } }
 
-unfoldable pub headed : ℕ → List ℕ → Out → Out
-headed n block o = record o { streams = changed n (λ s. record s { head = Some block }) o.streams }
+unfoldable pub with_head : ℕ → List ℕ → Out → Out
+with_head n block o = record o { streams = update_stream n (λ s. record s { head = Some block }) o.streams }
 
 -- own rule: a message equal to the one that began last is not written again, and withdraws an older one; any other takes
 -- the place of one that waits
 abbrev pub with_offer : List ℕ → Stream → Stream
 with_offer message s = record s { waiting = if bytes_eq message s.last then None else Some message }
 
-unfoldable pub offered : ℕ → List ℕ → Out → Out
-offered n message o = record o { streams = changed n (with_offer message) o.streams }
+unfoldable pub with_message : ℕ → List ℕ → Out → Out
+with_message n message o = record o { streams = update_stream n (with_offer message) o.streams }
 
-unfoldable pub withdrawn : ℕ → Out → Out
-withdrawn n o = record o { streams = changed n (λ s. record s { waiting = None }) o.streams }
+unfoldable pub without_waiting : ℕ → Out → Out
+without_waiting n o = record o { streams = update_stream n (λ s. record s { waiting = None }) o.streams }
 
-unfoldable pub finished_by : ℕ → List ℕ → Out → Out
-finished_by n block o = record o { streams = changed n (λ s. record s { trailers = Some block; finished = true }) o.streams }
+unfoldable pub with_trailers : ℕ → List ℕ → Out → Out
+with_trailers n block o = record o { streams = update_stream n (λ s. record s { trailers = Some block; finished = true }) o.streams }
 
 -- ---- windows
 
@@ -112,19 +112,19 @@ abbrev pub credit_of : ℕ → List Stream → ℤ
 credit_of n [] = pos 0
 credit_of n (s ∷ ss) = if s.number == n then s.credit else credit_of n ss
 
-unfoldable pub grown_connection : ℕ → Out → Result Out Overflow
-grown_connection step o =
+unfoldable pub with_connection_step : ℕ → Out → Result Out Overflow
+with_connection_step step o =
     if nat_lt MAX_WINDOW_SIZE (o.flow.connection_window + step) then Err (record { stream = 0 })
     else Ok (record o { flow = record o.flow { connection_window = o.flow.connection_window + step } })
 
-unfoldable pub grown_stream : ℕ → ℕ → Out → Result Out Overflow
-grown_stream n step o =
+unfoldable pub with_stream_step : ℕ → ℕ → Out → Result Out Overflow
+with_stream_step n step o =
     if int_lt (pos MAX_WINDOW_SIZE) (window_of o.flow.initial_window_size (credit_of n o.streams) +ℤ pos step) then Err (record { stream = n })
-    else Ok (record o { streams = changed n (λ s. record s { credit = s.credit +ℤ pos step }) o.streams })
+    else Ok (record o { streams = update_stream n (λ s. record s { credit = s.credit +ℤ pos step }) o.streams })
 
 -- a step of WINDOW_UPDATE, on stream 0 that of the connection
-unfoldable pub grown : ℕ → ℕ → Out → Result Out Overflow
-grown n step o = if n == 0 then grown_connection step o else grown_stream n step o
+unfoldable pub with_step : ℕ → ℕ → Out → Result Out Overflow
+with_step n step o = if n == 0 then with_connection_step step o else with_stream_step n step o
 
 -- the first stream whose window would pass the largest with this initial window
 unfoldable pub first_over : ℕ → List Stream → Option ℕ
@@ -136,8 +136,8 @@ abbrev pub with_initial : ℕ → Out → Option ℕ → Result Out Overflow
 with_initial value o (Some n) = Err (record { stream = n })
 with_initial value o None = Ok (record o { flow = record o.flow { initial_window_size = value } })
 
-unfoldable pub initialed : ℕ → Out → Result Out Overflow
-initialed value o = with_initial value o (first_over value o.streams)
+unfoldable pub set_initial_window : ℕ → Out → Result Out Overflow
+set_initial_window value o = with_initial value o (first_over value o.streams)
 
 -- such a stream, and no lower one
 abbrev pub IsLowestOver : ℕ → ℕ → List Stream → Type 0
@@ -148,20 +148,20 @@ IsLowestOver value n streams =
 -- ---- a pull
 
 -- the frames behind the control frames, as bytes with them, the streams that they end, and what is left
-pub record Pulled : Type 0 where
+pub record PullResult : Type 0 where
   pub sent : List Sent
   pub bytes : List ℕ
   pub ended : List ℕ
   pub left : Out
 
-unfoldable pub pulled : Out → Pulled
-pulled o =
+unfoldable pub pull_of : Out → PullResult
+pull_of o =
     let r = all_rounds o.flow o.streams in
     record { sent = r.sent; bytes = o.control ++ bytes_of r.sent; ended = ended_of r.sent; left = record o { flow = r.flow; control = []; streams = r.streams } }
 
 -- a pull would write nothing and change nothing
 abbrev pub IsQuiet : Out → Type 0
-IsQuiet o = pulled o ≡ record { sent = []; bytes = []; ended = []; left = o }
+IsQuiet o = pull_of o ≡ record { sent = []; bytes = []; ended = []; left = o }
 
 -- ---- what the code gives
 

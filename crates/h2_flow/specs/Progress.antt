@@ -33,9 +33,9 @@ last_of [] = []
 last_of (m ∷ ms) = m
 
 -- messages as one text, in the order in which they began
-abbrev pub joined : List (List ℕ) → List ℕ
-joined [] = []
-joined (m ∷ ms) = joined ms ++ m
+abbrev pub all_messages : List (List ℕ) → List ℕ
+all_messages [] = []
+all_messages (m ∷ ms) = all_messages ms ++ m
 
 -- more bytes were written than were left: the waiting message began
 abbrev pub begin_with : List ℕ → Progress → Option (List ℕ) → Progress
@@ -115,7 +115,7 @@ Matches p (Some s) = (p.left ≡ left_of s) × (p.waiting ≡ s.waiting) × (las
 -- What was written on the stream is a prefix of the messages that began on it, in their order: with what is left of the last
 -- one it is all of them. Each was offered to it, and the outbox goes on from there.
 pub record WritesWhatBegan (n : ℕ) (steps : List Step) (o : Out) : Type 0 where
-  pub front : (progress_on n steps).written ++ (progress_on n steps).left ≡ joined (progress_on n steps).begun
+  pub front : (progress_on n steps).written ++ (progress_on n steps).left ≡ all_messages (progress_on n steps).begun
   pub offered : AllByRecursion (WasOffered n steps) (progress_on n steps).begun
   pub there : Matches (progress_on n steps) (find_stream n o.streams)
 

@@ -2,7 +2,7 @@
 use Rattle.std.specs.Prelude.{ℕ, ◌+◌, ◌-◌, ◌==◌, nat_lt, pos, ◌-ℤ◌, Bool, true, false, if◌then◌else◌, List, [], ◌∷◌, ◌++◌, length, take, drop, Option, Some, None}
 use Rattle.h2_wire.specs.declared.flag.TheConstants as flag
 use Rattle.h2_wire.specs.declared.frame_type.TheConstants.{DATA, HEADERS}
-use Rattle.h2_wire.specs.Spelling.{frame_bytes}
+use Rattle.h2_wire.specs.Encoding.{frame_bytes}
 use Rattle.h2_flow.specs.declared.flow.Flow.{Flow}
 use Rattle.h2_flow.specs.declared.flow.TableSizeUpdate.{TableSizeUpdate}
 use Rattle.h2_flow.specs.declared.flow.TableSizeUpdate.TheVariants.{Unasked, Due, Written}
@@ -34,8 +34,8 @@ pub record Turn : Type 0 where
   pub flow : Flow
   pub stream : Stream
 
-abbrev pub idle : Flow → Stream → Turn
-idle f s = record { sent = []; flow = f; stream = s }
+abbrev pub no_turn : Flow → Stream → Turn
+no_turn f s = record { sent = []; flow = f; stream = s }
 
 -- RFC 7541, sections 4.2 and 6.3: a size update to 0 is the byte 0x20, and it stands at the beginning of a block
 abbrev pub size_update_bytes : TableSizeUpdate → List ℕ
@@ -60,7 +60,7 @@ unfoldable pub data_turn : Flow → Stream → Turn
 data_turn f s =
     let left = drop s.sent s.last in
     let n = allowed_of f s.credit (length left) in
-    if n == 0 then idle f s
+    if n == 0 then no_turn f s
     else record {
       sent = content s.number (take n left) ∷ [];
       flow = record f { connection_window = f.connection_window - n };
@@ -69,14 +69,14 @@ data_turn f s =
 
 -- no message is left
 unfoldable pub last_turn : Flow → Stream → Option (List ℕ) → Turn
-last_turn f s None = idle f s
+last_turn f s None = no_turn f s
 last_turn f s (Some block) = headers_turn f (record s { trailers = None }) block true
 
 -- the begun message is written; one that waits begins with its first byte, not before
 unfoldable pub next_turn : Flow → Stream → Option (List ℕ) → Turn
 next_turn f s None = last_turn f s s.trailers
 next_turn f s (Some message) =
-    if allowed_of f s.credit (length message) == 0 then idle f s
+    if allowed_of f s.credit (length message) == 0 then no_turn f s
     else data_turn (record f { begun = f.begun + 1 }) (record s { last = message; sent = 0; waiting = None })
 
 unfoldable pub body_turn : Flow → Stream → Turn

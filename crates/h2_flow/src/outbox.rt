@@ -5,7 +5,7 @@ ghost use Rattle.h2_wire.specs.declared.limit.TheConstants.{MAX_BLOCK_LEN, MAX_L
 ghost use Rattle.h2_flow.specs.Windows.{window_of};
 ghost use Rattle.std.specs.List.{list_any, AllByRecursion};
 ghost use Rattle.list_laws.specs.Lists.{GainsFront};
-ghost use Rattle.h2_flow.specs.Outboxes.{Out, fresh, failing, has, is_open, is_written, is_shrunk, RisesFrom, IsLowestOver, IsAbove, added, removed, controlled, shrunk, headed, offered, withdrawn, finished_by, grown, grown_connection, grown_stream, first_over, is_number, initialed, pulled, Changes};
+ghost use Rattle.h2_flow.specs.Outboxes.{Out, new_outbox, with_failure, has_stream, is_open, is_written, has_size_update, RisesFrom, IsLowestOver, IsAbove, with_stream, without_stream, with_control, with_size_update, with_head, with_message, without_waiting, with_trailers, with_step, with_connection_step, with_stream_step, first_over, is_number, set_initial_window, pull_of, Changes};
 
 use crate::block::Block;
 use crate::flow::{Flow, TableSizeUpdate};
@@ -43,7 +43,7 @@ impl Model for Outbox {
 impl Outbox {
     /// An outbox without streams, with both windows at 65,535 bytes.
     pub fn start(alloc: Global) -> Result<Outbox, Memory>
-        ensures { IfOk result (λ o. o ≡ fresh) }
+        ensures { IfOk result (λ o. o ≡ new_outbox) }
     {
         let streams = Vec::with_capacity(alloc, MAX_LIVE_STREAMS)?;
         let flow = Flow {
@@ -62,22 +62,22 @@ impl Outbox {
     }
 
     /// Adds a stream, whose number is above all that are there. It takes no memory.
-    #[tactic(auto, unfolding(crate::specs::Outboxes::added))]
+    #[tactic(auto, unfolding(crate::specs::Outboxes::with_stream))]
     pub fn add(&mut self, stream: u32)
         requires room { length self.old.streams < MAX_LIVE_STREAMS }
         requires positive { 0 < stream }
         requires low { stream < 2 ^ 31 }
         requires above { IsAbove stream self.old.streams }
-        ensures { self.new ≡ added stream self.old }
+        ensures { self.new ≡ with_stream stream self.old }
     {
         let new = Stream::new(self.alloc, stream);
         let _ = self.streams.push(new);
     }
 
     /// Drops a stream with all that waits on it, if it is there.
-    #[tactic(auto, unfolding(crate::specs::Outboxes::removed))]
+    #[tactic(auto, unfolding(crate::specs::Outboxes::without_stream))]
     pub fn remove(&mut self, stream: u32)
-        ensures { self.new ≡ removed stream self.old }
+        ensures { self.new ≡ without_stream stream self.old }
     {
         take_out(&mut self.streams, stream);
     }
@@ -85,10 +85,10 @@ impl Outbox {
     /// Sets the peer's initial window of streams, in bytes; the windows of the streams that
     /// are there move with it, below zero too (RFC 9113, section 6.9.2). Nothing changes
     /// where one would pass 2,147,483,647; the answer then names the lowest such stream.
-    #[tactic(auto, unfolding(crate::specs::Outboxes::initialed))]
+    #[tactic(auto, unfolding(crate::specs::Outboxes::set_initial_window))]
     pub fn initial(&mut self, value: u32) -> Result<(), Overflow>
         requires { value < 2 ^ 31 }
-        ensures changes { Changes result (initialed value self.old) self.old self.new }
+        ensures changes { Changes result (set_initial_window value self.old) self.old self.new }
         ensures lowest { IfErr result (λ over. IsLowestOver value over.stream self.old.streams) }
         ensures fits { OnOk result (AllByRecursion (λ s. window_of value s.credit ≤ℤ pos MAX_WINDOW_SIZE) self.old.streams) }
     {
@@ -103,11 +103,11 @@ impl Outbox {
 
     /// Takes a step of WINDOW_UPDATE, in bytes, on a stream that is there, or on stream 0, the
     /// connection. Nothing changes where that window would pass 2,147,483,647.
-    #[tactic(auto, unfolding(crate::specs::Outboxes::grown))]
+    #[tactic(auto, unfolding(crate::specs::Outboxes::with_step))]
     pub fn grow(&mut self, stream: u32, step: u32) -> Result<(), Overflow>
         requires step { step < 2 ^ 31 }
-        requires there { (stream == 0 || has stream self.old) ≡ true }
-        ensures { Changes result (grown stream step self.old) self.old self.new }
+        requires there { (stream == 0 || has_stream stream self.old) ≡ true }
+        ensures { Changes result (with_step stream step self.old) self.old self.new }
     {
         if stream == 0 {
             self.grow_connection(step)
@@ -116,10 +116,10 @@ impl Outbox {
         }
     }
 
-    #[tactic(auto, unfolding(crate::specs::Outboxes::grown_connection))]
+    #[tactic(auto, unfolding(crate::specs::Outboxes::with_connection_step))]
     fn grow_connection(&mut self, step: u32) -> Result<(), Overflow>
         requires { step < 2 ^ 31 }
-        ensures { Changes result (grown_connection step self.old) self.old self.new }
+        ensures { Changes result (with_connection_step step self.old) self.old self.new }
     {
         if MAX_WINDOW_SIZE - step < self.flow.connection_window {
             return Err(Overflow { stream: 0 });
@@ -128,11 +128,11 @@ impl Outbox {
         Ok(())
     }
 
-    #[tactic(auto, unfolding(crate::specs::Outboxes::grown_stream))]
+    #[tactic(auto, unfolding(crate::specs::Outboxes::with_stream_step))]
     fn grow_stream(&mut self, stream: u32, step: u32) -> Result<(), Overflow>
         requires step { step < 2 ^ 31 }
-        requires there { has stream self.old ≡ true }
-        ensures { Changes result (grown_stream stream step self.old) self.old self.new }
+        requires there { has_stream stream self.old ≡ true }
+        ensures { Changes result (with_stream_step stream step self.old) self.old self.new }
     {
         let credit = credit(self.streams.as_slice(), stream);
         if passes_by(self.flow.initial_window_size, credit, step) {
@@ -143,10 +143,10 @@ impl Outbox {
     }
 
     /// Queues a control frame, which the next pull writes first.
-    #[tactic(auto, unfolding(crate::specs::Outboxes::controlled))]
+    #[tactic(auto, unfolding(crate::specs::Outboxes::with_control))]
     pub fn control(&mut self, frame: &[u8]) -> Result<(), Memory>
-        ensures ok { OnOk result (self.new ≡ controlled frame.now self.old) }
-        ensures err { OnErr result (self.new ≡ failing self.old) }
+        ensures ok { OnOk result (self.new ≡ with_control frame.now self.old) }
+        ensures err { OnErr result (self.new ≡ with_failure self.old) }
         ensures again { self.old.failed ≡ true → IsErr result }
     {
         if self.failed {
@@ -170,17 +170,17 @@ impl Outbox {
 
     /// Has the next block that a pull writes, on whichever stream, begin with a size update to
     /// 0 (RFC 7541, section 4.2). It is called once at most.
-    #[tactic(auto, unfolding(crate::specs::Outboxes::shrunk))]
+    #[tactic(auto, unfolding(crate::specs::Outboxes::with_size_update))]
     pub fn shrink(&mut self)
-        requires { is_shrunk self.old ≡ false }
-        ensures { self.new ≡ shrunk self.old }
+        requires { has_size_update self.old ≡ false }
+        ensures { self.new ≡ with_size_update self.old }
     {
         self.flow.update = TableSizeUpdate::Due;
     }
 
     /// Whether `shrink` was called. It takes no memory.
     pub fn is_shrunk(&self) -> bool
-        ensures { result ≡ is_shrunk self.now }
+        ensures { result ≡ has_size_update self.now }
     {
         match self.flow.update {
             TableSizeUpdate::Unasked => false,
@@ -189,50 +189,50 @@ impl Outbox {
     }
 
     /// Gives a stream the block of its response head, of at most 16,383 bytes.
-    #[tactic(auto, using(crate::proofs::Places::open_there), unfolding(crate::specs::Outboxes::headed))]
+    #[tactic(auto, using(crate::proofs::Places::open_there), unfolding(crate::specs::Outboxes::with_head))]
     pub fn head(&mut self, stream: u32, block: Octets)
         requires open { is_open stream self.old ≡ true }
         requires small { length block ≤ MAX_BLOCK_LEN }
-        ensures { self.new ≡ headed stream block self.old }
+        ensures { self.new ≡ with_head stream block self.old }
     {
         streams::head(self.streams.as_mut_slice(), stream, Block::new(block));
     }
 
     /// Offers a stream a message, which isn't empty. Where it equals the message that began
     /// last there, one that waits is withdrawn; else it takes that one's place.
-    #[tactic(auto, using(crate::proofs::Places::open_there), unfolding(crate::specs::Outboxes::offered))]
+    #[tactic(auto, using(crate::proofs::Places::open_there), unfolding(crate::specs::Outboxes::with_message))]
     pub fn offer(&mut self, stream: u32, message: Octets)
         requires open { is_open stream self.old ≡ true }
         requires some { 0 < length message }
-        ensures { self.new ≡ offered stream message self.old }
+        ensures { self.new ≡ with_message stream message self.old }
     {
         streams::offer(self.streams.as_mut_slice(), stream, message);
     }
 
     /// Withdraws a stream's waiting message, if it has one. A message whose first byte was
     /// written is finished.
-    #[tactic(auto, using(crate::proofs::Places::open_there), unfolding(crate::specs::Outboxes::withdrawn))]
+    #[tactic(auto, using(crate::proofs::Places::open_there), unfolding(crate::specs::Outboxes::without_waiting))]
     pub fn withdraw(&mut self, stream: u32)
         requires { is_open stream self.old ≡ true }
-        ensures { self.new ≡ withdrawn stream self.old }
+        ensures { self.new ≡ without_waiting stream self.old }
     {
         streams::withdraw(self.streams.as_mut_slice(), stream);
     }
 
     /// Gives a stream its last block, of at most 16,383 bytes, which is written with
     /// END_STREAM once no message is left. It withdraws nothing.
-    #[tactic(auto, using(crate::proofs::Places::open_there), unfolding(crate::specs::Outboxes::finished_by))]
+    #[tactic(auto, using(crate::proofs::Places::open_there), unfolding(crate::specs::Outboxes::with_trailers))]
     pub fn finish(&mut self, stream: u32, block: Octets)
         requires open { is_open stream self.old ≡ true }
         requires small { length block ≤ MAX_BLOCK_LEN }
-        ensures { self.new ≡ finished_by stream block self.old }
+        ensures { self.new ≡ with_trailers stream block self.old }
     {
         streams::finish(self.streams.as_mut_slice(), stream, Block::new(block));
     }
 
     /// Whether a stream is there. It takes no memory.
     pub fn has(&self, stream: u32) -> bool
-        ensures { result ≡ has stream self.now }
+        ensures { result ≡ has_stream stream self.now }
     {
         has_in(self.streams.as_slice(), stream)
     }
@@ -246,7 +246,7 @@ impl Outbox {
 
     /// Whether a frame was written on a stream that is there. It takes no memory.
     pub fn is_written(&self, stream: u32) -> bool
-        requires { has stream self.now ≡ true }
+        requires { has_stream stream self.now ≡ true }
         ensures { result ≡ is_written stream self.now }
     {
         written_in(self.streams.as_slice(), stream)
@@ -263,13 +263,13 @@ impl Outbox {
     /// rounds of the streams until one writes nothing. Tells in `ended` the streams whose
     /// END_STREAM it wrote. Where memory runs out the windows, the counts and the control
     /// frames stay as they were, and no later call writes anything.
-    #[tactic(auto, unfolding(crate::specs::Outboxes::pulled))]
+    #[tactic(auto, unfolding(crate::specs::Outboxes::pull_of))]
     pub fn pull(&mut self, out: &mut Octets, ended: &mut Row<u32>) -> Result<(), Memory>
-        ensures left { OnOk result (self.new ≡ (pulled self.old).left) }
-        ensures bytes { OnOk result (out.new ≡ out.old ++ (pulled self.old).bytes) }
-        ensures ended { OnOk result (ended.new ≡ ended.old ++ (pulled self.old).ended) }
-        ensures front { GainsFront (pulled self.old).bytes out.old out.new }
-        ensures ended_front { GainsFront (pulled self.old).ended ended.old ended.new }
+        ensures left { OnOk result (self.new ≡ (pull_of self.old).left) }
+        ensures bytes { OnOk result (out.new ≡ out.old ++ (pull_of self.old).bytes) }
+        ensures ended { OnOk result (ended.new ≡ ended.old ++ (pull_of self.old).ended) }
+        ensures front { GainsFront (pull_of self.old).bytes out.old out.new }
+        ensures ended_front { GainsFront (pull_of self.old).ended ended.old ended.new }
         ensures fails { OnErr result (self.new.failed ≡ true) }
         ensures again { self.old.failed ≡ true → IsErr result }
         ensures still { self.old.failed ≡ true → (out.new ≡ out.old) × (ended.new ≡ ended.old) × (self.new ≡ self.old) }

@@ -2,7 +2,7 @@
 
 ghost use Rattle.std.specs.Prelude.{◌≡◌, ◌≤◌, ◌+◌, ◌-ℤ◌, ℕ, true, false, None, Some, pos, if◌then◌else◌, List, ◌++◌, length};
 ghost use Rattle.h2_wire.specs.declared.limit.TheConstants.{MAX_FRAME_SIZE};
-ghost use Rattle.h2_wire.specs.Spelling.{frame_bytes};
+ghost use Rattle.h2_wire.specs.Encoding.{frame_bytes};
 ghost use Rattle.h2_flow.specs.Windows.{room_of, window_of};
 ghost use Rattle.h2_flow.specs.Streams.{size_update_bytes, after_block, headers_turn, data_turn, next_turn, last_turn, body_turn, turn};
 ghost use Rattle.h2_flow.specs.Pulls.{round, all_rounds, Puts, Takes, Makes};
@@ -35,7 +35,7 @@ fn after_block(update: TableSizeUpdate) -> TableSizeUpdate
 }
 
 /// Writes one frame, whose payload comes in two parts.
-#[tactic(auto, using(list_laws::proofs::Fronts::gains_before, list_laws::proofs::Fronts::gains_after), unfolding(h2_wire::specs::Spelling::frame_bytes))]
+#[tactic(auto, using(list_laws::proofs::Fronts::gains_before, list_laws::proofs::Fronts::gains_after), unfolding(h2_wire::specs::Encoding::frame_bytes))]
 fn put(
     out: &mut Octets,
     kind: u8,

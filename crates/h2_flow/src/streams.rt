@@ -3,7 +3,7 @@
 ghost use Rattle.std.specs.Prelude.{◌≡◌, ◌<◌, ◌&&◌, true, not, pos, ◌+ℤ◌, ◌≤ℤ◌, Some, None, length, filter, vec_capacity, slice_set, slice_index_or};
 ghost use Rattle.std.specs.List.{list_any};
 ghost use Rattle.h2_wire.specs.declared.limit.TheConstants.{MAX_WINDOW_SIZE};
-ghost use Rattle.h2_flow.specs.Outboxes.{is_number, changed, credit_of, with_offer};
+ghost use Rattle.h2_flow.specs.Outboxes.{is_number, update_stream, credit_of, with_offer};
 ghost use Rattle.h2_flow.specs.declared.stream.Stream.{Stream};
 
 use crate::block::Block;
@@ -15,7 +15,7 @@ use wl_octets::Octets;
 fn place(streams: &[Stream], number: u32) -> usize
     requires { list_any (is_number number) streams.now ≡ true }
     ensures within { result < length streams.now }
-    ensures changes { (f : Stream → Stream) (d : Stream) → changed number f streams.now ≡ slice_set streams.now result (f (slice_index_or streams.now result d)) }
+    ensures changes { (f : Stream → Stream) (d : Stream) → update_stream number f streams.now ≡ slice_set streams.now result (f (slice_index_or streams.now result d)) }
     ensures credit { (d : Stream) → credit_of number streams.now ≡ (slice_index_or streams.now result d).credit }
 {
     let mut at = 0;
@@ -37,7 +37,7 @@ pub(crate) fn credit(streams: &[Stream], number: u32) -> i64
 pub(crate) fn raise(streams: &mut [Stream], number: u32, step: u32)
     requires there { list_any (is_number number) streams.old ≡ true }
     requires small { (credit_of number streams.old +ℤ pos step) ≤ℤ pos MAX_WINDOW_SIZE }
-    ensures { streams.new ≡ changed number (λ s. record s { credit = s.credit +ℤ pos step }) streams.old }
+    ensures { streams.new ≡ update_stream number (λ s. record s { credit = s.credit +ℤ pos step }) streams.old }
 {
     let at = place(streams, number);
     streams[at].raise(step);
@@ -46,7 +46,7 @@ pub(crate) fn raise(streams: &mut [Stream], number: u32, step: u32)
 /// Makes a head block due on a stream that is there.
 pub(crate) fn head(streams: &mut [Stream], number: u32, block: Block)
     requires { list_any (is_number number) streams.old ≡ true }
-    ensures { streams.new ≡ changed number (λ s. record s { head = Some block }) streams.old }
+    ensures { streams.new ≡ update_stream number (λ s. record s { head = Some block }) streams.old }
 {
     let at = place(streams, number);
     streams[at].head = Some(block);
@@ -55,7 +55,7 @@ pub(crate) fn head(streams: &mut [Stream], number: u32, block: Block)
 /// Has a message wait on a stream that is there, or none where it is the last one again.
 pub(crate) fn offer(streams: &mut [Stream], number: u32, message: Octets)
     requires { list_any (is_number number) streams.old ≡ true }
-    ensures { streams.new ≡ changed number (with_offer message) streams.old }
+    ensures { streams.new ≡ update_stream number (with_offer message) streams.old }
 {
     let at = place(streams, number);
     streams[at].offer(message);
@@ -64,7 +64,7 @@ pub(crate) fn offer(streams: &mut [Stream], number: u32, message: Octets)
 /// Withdraws the waiting message of a stream that is there.
 pub(crate) fn withdraw(streams: &mut [Stream], number: u32)
     requires { list_any (is_number number) streams.old ≡ true }
-    ensures { streams.new ≡ changed number (λ s. record s { waiting = None }) streams.old }
+    ensures { streams.new ≡ update_stream number (λ s. record s { waiting = None }) streams.old }
 {
     let at = place(streams, number);
     streams[at].waiting = None;
@@ -73,7 +73,7 @@ pub(crate) fn withdraw(streams: &mut [Stream], number: u32)
 /// Makes the last block due on a stream that is there.
 pub(crate) fn finish(streams: &mut [Stream], number: u32, block: Block)
     requires { list_any (is_number number) streams.old ≡ true }
-    ensures { streams.new ≡ changed number (λ s. record s { trailers = Some block; finished = true }) streams.old }
+    ensures { streams.new ≡ update_stream number (λ s. record s { trailers = Some block; finished = true }) streams.old }
 {
     let at = place(streams, number);
     streams[at].finish(block);

@@ -89,7 +89,7 @@ fn grows(rt: &impl Abort, outbox: &mut Outbox, stream: u32, step: u32) -> Result
 }
 
 /// An outbox with stream 1.
-#[tactic(auto, unfolding(crate::specs::Outboxes::added))]
+#[tactic(auto, unfolding(crate::specs::Outboxes::with_stream))]
 fn one(alloc: Global) -> Result<Outbox, Fail> {
     let mut outbox = Outbox::start(alloc)?;
     outbox.add(1);
@@ -97,7 +97,7 @@ fn one(alloc: Global) -> Result<Outbox, Fail> {
 }
 
 #[test]
-#[tactic(auto, unfolding(crate::specs::Outboxes::added, crate::specs::Outboxes::controlled))]
+#[tactic(auto, unfolding(crate::specs::Outboxes::with_stream, crate::specs::Outboxes::with_control))]
 fn outbox_shrink(rt: HostRuntime) -> Result<(), Fail> {
     let alloc = rt.alloc();
     let mut outbox = Outbox::start(alloc)?;
@@ -250,7 +250,7 @@ fn removed_while_it_writes(rt: HostRuntime) -> Result<(), Fail> {
 }
 
 #[test]
-#[tactic(auto, unfolding(crate::specs::Outboxes::added))]
+#[tactic(auto, unfolding(crate::specs::Outboxes::with_stream))]
 fn streams_in_turn(rt: HostRuntime) -> Result<(), Fail> {
     let alloc = rt.alloc();
     let mut outbox = Outbox::start(alloc)?;
@@ -306,7 +306,7 @@ fn overflows(rt: HostRuntime) -> Result<(), Fail> {
 }
 
 #[test]
-#[tactic(auto, unfolding(crate::specs::Outboxes::added))]
+#[tactic(auto, unfolding(crate::specs::Outboxes::with_stream))]
 fn lowest_overflow(rt: HostRuntime) -> Result<(), Fail> {
     let alloc = rt.alloc();
     let mut outbox = Outbox::start(alloc)?;

@@ -5,7 +5,7 @@ use Rattle.std.proofs.lemmas.List.{drop-drop}
 use Rattle.h2_frame.specs.declared.fault.FrameFault.{FrameFault}
 use Rattle.h2_frame.specs.declared.fault.FrameFault.TheVariants as faults
 use Rattle.h2_frame.specs.declared.frame.Frame.{Frame}
-use Rattle.h2_frame.specs.Reading.{Step, partial, whole, wrong, first_frame, End, Opening, Rest, Fault, Reading, after_step, frames_in, frames_of, opened, resumed, read_on, Refuses}
+use Rattle.h2_frame.specs.Reading.{Step, partial, whole, wrong, first_frame, End, Opening, Rest, Fault, Reading, after_step, frames_in, frames_of, after_preface, reading_from, read_on, Refuses}
 use Rattle.list_laws.proofs.Gains.{GainsUpTo, gains_more}
 use Rattle.h2_frame.proofs.Fronts.{IsShorter, first_shorter, with_more, first_more}
 
@@ -37,7 +37,7 @@ frames_step (x ∷ b) = after_same (length (x ∷ b)) (first_frame (x ∷ b)) (x
 -- ---- more bytes
 
 on_step : (n : ℕ) (s : Step) (b more : List ℕ) → IsShorter n s → (s ≡ partial) ⊎ (first_frame (b ++ more) ≡ with_more s more) → first_frame b ≡ s → ((rest : List ℕ) → length rest < n → frames_of (rest ++ more) ≡ read_on (frames_of rest) more) → frames_of (b ++ more) ≡ read_on (after_step s b frames_of) more
-unfolding resumed
+unfolding reading_from
 on_step n partial b more short c e ih = refl
 on_step n (whole frame rest) b more short (inl c) e ih = absurd (cc c)
 on_step n (whole frame rest) b more short (inr c) e ih = rw (frames_step (b ++ more), c, ih rest short) refl
@@ -51,8 +51,8 @@ below (suc n) b more lt = rw (frames_step b) (on_step (length b) (first_frame b)
 frames_on : (b more : List ℕ) → frames_of (b ++ more) ≡ read_on (frames_of b) more
 frames_on b more = below (suc (length b)) b more (omega arith)
 
-opened_on : (left b more : List ℕ) → opened left (b ++ more) ≡ read_on (opened left b) more
-unfolding opened resumed
+opened_on : (left b more : List ℕ) → after_preface left (b ++ more) ≡ read_on (after_preface left b) more
+unfolding after_preface reading_from
 opened_on [] b more = frames_on b more
 opened_on (p ∷ left) [] more = refl
 opened_on (p ∷ left) (x ∷ b) more =
@@ -62,8 +62,8 @@ opened_on (p ∷ left) (x ∷ b) more =
     ]
 
 -- reading on from any end
-pub reads_on : (ending : End) (b more : List ℕ) → resumed ending (b ++ more) ≡ read_on (resumed ending b) more
-unfolding resumed
+pub reads_on : (ending : End) (b more : List ℕ) → reading_from ending (b ++ more) ≡ read_on (reading_from ending b) more
+unfolding reading_from
 reads_on (Opening left) b more = opened_on left b more
 reads_on (Rest rest) b more = rw (← append_assoc rest b more) (frames_on (rest ++ b) more)
 reads_on (Fault fault) b more = refl

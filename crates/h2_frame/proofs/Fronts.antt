@@ -7,7 +7,7 @@ use Rattle.h2_frame.specs.declared.frame.Body.{Body}
 use Rattle.h2_frame.specs.declared.head.Head.{Head}
 use Rattle.h2_frame.specs.Heads.{head_of, is_wrong_length}
 use Rattle.h2_frame.specs.Payloads.{body_of}
-use Rattle.h2_frame.specs.Reading.{Step, partial, whole, wrong, framed, judged, first_frame}
+use Rattle.h2_frame.specs.Reading.{Step, partial, whole, wrong, step_of_body, step_after_head, first_frame}
 
 -- ---- a frame takes bytes
 
@@ -17,12 +17,12 @@ IsShorter n partial = Unit {0}
 IsShorter n (whole frame rest) = length rest < n
 IsShorter n (wrong fault) = Unit {0}
 
-framed_shorter : (n : ℕ) (h : Head) (r : Result Body FrameFault) (rest : List ℕ) → length rest < n → IsShorter n (framed h r rest)
+framed_shorter : (n : ℕ) (h : Head) (r : Result Body FrameFault) (rest : List ℕ) → length rest < n → IsShorter n (step_of_body h r rest)
 framed_shorter n h (Ok body) rest lt = lt
 framed_shorter n h (Err fault) rest lt = tt
 
-judged_shorter : (n : ℕ) (h : Head) (after : List ℕ) → length after < n → IsShorter n (judged h after)
-unfolding judged
+judged_shorter : (n : ℕ) (h : Head) (after : List ℕ) → length after < n → IsShorter n (step_after_head h after)
+unfolding step_after_head
 judged_shorter n h after lt =
     elim (cases_Bool (nat_lt 16384 h.length)) [
       | inl large ↦ rw large tt
@@ -53,12 +53,12 @@ with_more partial more = partial
 with_more (whole frame rest) more = whole frame (rest ++ more)
 with_more (wrong fault) more = wrong fault
 
-framed_more : (h : Head) (r : Result Body FrameFault) (rest more : List ℕ) → framed h r (rest ++ more) ≡ with_more (framed h r rest) more
+framed_more : (h : Head) (r : Result Body FrameFault) (rest more : List ℕ) → step_of_body h r (rest ++ more) ≡ with_more (step_of_body h r rest) more
 framed_more h (Ok body) rest more = refl
 framed_more h (Err fault) rest more = refl
 
-judged_more : (h : Head) (after more : List ℕ) → (judged h after ≡ partial) ⊎ (judged h (after ++ more) ≡ with_more (judged h after) more)
-unfolding judged
+judged_more : (h : Head) (after more : List ℕ) → (step_after_head h after ≡ partial) ⊎ (step_after_head h (after ++ more) ≡ with_more (step_after_head h after) more)
+unfolding step_after_head
 judged_more h after more =
     elim (cases_Bool (nat_lt 16384 h.length)) [
       | inl large ↦ inr (rw large refl)
@@ -94,6 +94,6 @@ first_more b more =
 -- ---- a whole frame
 
 pub first_whole : (b after : List ℕ) (h : Head) (body : Body) → 9 ≤ length b → h ≡ head_of b → after ≡ drop 9 b → h.length ≤ 16384 → is_wrong_length h ≡ false → h.length ≤ length after → body_of h (take h.length after) ≡ Ok body → first_frame b ≡ whole (record { stream = h.stream; body = body }) (drop (9 + h.length) b)
-unfolding first_frame judged
+unfolding first_frame step_after_head
 first_whole b after h body long head behind small right fits says =
     rw (le-ltb (length b) 9 long, ← head, ← behind, le-ltb 16384 h.length small, right, le-ltb (length after) h.length fits, says, ← drop-drop h.length 9 b, behind) refl

@@ -5,7 +5,7 @@ use Rattle.std.proofs.Math.Seq.{take-append_seam, drop-append_seam, take-length}
 use Rattle.std.proofs.lemmas.List.{length-append, drop-drop}
 use Rattle.std.proofs.lemmas.Nat.{from_be_bytes-to_be_bytes_4, from_be_bytes-to_be_bytes_8}
 use Rattle.std.specs.Int.{w32, w64, from_be_bytes, to_be_bytes}
-use Rattle.h2_wire.specs.Spelling.{head_bytes, frame_bytes}
+use Rattle.h2_wire.specs.Encoding.{head_bytes, frame_bytes}
 use Rattle.h2_frame.specs.declared.frame.Body.{Body}
 use Rattle.h2_frame.specs.declared.frame.Body.TheVariants.{Bytes, Headers, Priority, Reset, Settings, SettingsAck, PushPromise, Ping, GoAway, WindowUpdate, Continuation, Unknown}
 use Rattle.h2_frame.specs.declared.frame.Frame.{Frame}
@@ -14,7 +14,7 @@ use Rattle.h2_frame.specs.declared.head.Head.{Head}
 use Rattle.h2_frame.specs.Heads.{head_of, front_of, is_wrong_length}
 use Rattle.h2_frame.specs.Payloads.{content_of, body_of}
 use Rattle.h2_frame.specs.Reading.{whole, first_frame}
-use Rattle.h2_frame.specs.Writing.{kind_of, flags_of, setting_bytes, payload_of, spelling, FitsSetting, IsWritable}
+use Rattle.h2_frame.specs.Writing.{kind_of, flags_of, setting_bytes, payload_of, frame_encoding, FitsSetting, IsWritable}
 use Rattle.h2_frame.proofs.Fronts.{first_whole}
 use Rattle.h2_frame.proofs.Settings.{settings_length, settings_again}
 
@@ -136,6 +136,6 @@ body_again stream (WindowUpdate step) rest small right low = spelled 8 0 stream 
 body_again stream (Continuation block full) rest small right low = continuation_again stream block rest full small low
 body_again stream (Unknown kind) rest small right low = unknown_again stream kind rest low right
 
-pub read_again : (frame : Frame) (rest : List ℕ) → length (payload_of frame.body) ≤ 16384 → IsWritable frame.body → frame.stream < 2 ^ 31 → first_frame (spelling frame ++ rest) ≡ whole frame rest
-unfolding spelling
+pub read_again : (frame : Frame) (rest : List ℕ) → length (payload_of frame.body) ≤ 16384 → IsWritable frame.body → frame.stream < 2 ^ 31 → first_frame (frame_encoding frame ++ rest) ≡ whole frame rest
+unfolding frame_encoding
 read_again frame rest small right low = body_again frame.stream frame.body rest small right low

@@ -15,12 +15,12 @@ head_of b = record {
 }
 
 -- some bit of the mask is set
-abbrev pub has : ℕ → ℕ → Bool
-has flags mask = not (bit_and flags mask == 0)
+abbrev pub has_flag : ℕ → ℕ → Bool
+has_flag flags mask = not (bit_and flags mask == 0)
 
 -- sections 6.1 and 6.2: PADDED puts one byte before the content of DATA and HEADERS, PRIORITY five before that of HEADERS
 unfoldable pub front_of : Head → ℕ
-front_of h = (if has h.flags flag.PADDED then 1 else 0) + (if h.kind == frame_type.HEADERS && has h.flags flag.PRIORITY then 5 else 0)
+front_of h = (if has_flag h.flags flag.PADDED then 1 else 0) + (if h.kind == frame_type.HEADERS && has_flag h.flags flag.PRIORITY then 5 else 0)
 
 -- RFC 9113, section 6: the length that a type of frame can't have. Own rule: a wrong length is a fault of the connection for each
 -- type, as RFC 9113, section 5.4.1, allows.
@@ -30,7 +30,7 @@ is_wrong_length h =
     else if h.kind == frame_type.HEADERS then nat_lt h.length (front_of h)
     else if h.kind == frame_type.PRIORITY then not (h.length == 5)
     else if h.kind == frame_type.RST_STREAM then not (h.length == 4)
-    else if h.kind == frame_type.SETTINGS then not (if has h.flags flag.ACK then h.length == 0 else h.length % 6 == 0)
+    else if h.kind == frame_type.SETTINGS then not (if has_flag h.flags flag.ACK then h.length == 0 else h.length % 6 == 0)
     else if h.kind == frame_type.PING then not (h.length == 8)
     else if h.kind == frame_type.GOAWAY then nat_lt h.length 8
     else if h.kind == frame_type.WINDOW_UPDATE then not (h.length == 4)

@@ -17,20 +17,20 @@ pub data Step : Type 0 where
   whole : Frame → List ℕ → Step
   wrong : FrameFault → Step
 
-abbrev pub framed : Head → Result Body FrameFault → List ℕ → Step
-framed h (Ok body) rest = whole (record { stream = h.stream; body = body }) rest
-framed h (Err fault) rest = wrong fault
+abbrev pub step_of_body : Head → Result Body FrameFault → List ℕ → Step
+step_of_body h (Ok body) rest = whole (record { stream = h.stream; body = body }) rest
+step_of_body h (Err fault) rest = wrong fault
 
 -- behind the head: its faults come as soon as it is whole (RFC 9113, section 4.2), those of the payload once that is whole
-unfoldable pub judged : Head → List ℕ → Step
-judged h after =
+unfoldable pub step_after_head : Head → List ℕ → Step
+step_after_head h after =
     if nat_lt MAX_FRAME_SIZE h.length then wrong (faults.TooLarge h.length)
     else if is_wrong_length h then wrong (faults.WrongLength h.kind h.length)
     else if nat_lt (length after) h.length then partial
-    else framed h (body_of h (take h.length after)) (drop h.length after)
+    else step_of_body h (body_of h (take h.length after)) (drop h.length after)
 
 unfoldable pub first_frame : List ℕ → Step
-first_frame b = if nat_lt (length b) HEAD_LEN then partial else judged (head_of b) (drop HEAD_LEN b)
+first_frame b = if nat_lt (length b) HEAD_LEN then partial else step_after_head (head_of b) (drop HEAD_LEN b)
 
 -- ---- the whole stream
 
@@ -64,20 +64,20 @@ abbrev pub preface : List ℕ
 preface = 80 ∷ 82 ∷ 73 ∷ 32 ∷ 42 ∷ 32 ∷ 72 ∷ 84 ∷ 84 ∷ 80 ∷ 47 ∷ 50 ∷ 46 ∷ 48 ∷ 13 ∷ 10 ∷ 13 ∷ 10 ∷ 83 ∷ 77 ∷ 13 ∷ 10 ∷ 13 ∷ 10 ∷ []
 
 -- the preface's bytes that are left, and then frames; the place of a wrong byte counts from the start of the preface
-unfoldable pub opened : List ℕ → List ℕ → Reading
-opened [] b = frames_of b
-opened (p ∷ left) [] = record { frames = []; ending = Opening (p ∷ left) }
-opened (p ∷ left) (x ∷ b) = if p == x then opened left b else record { frames = []; ending = Fault (faults.BadPreface (23 - length left)) }
+unfoldable pub after_preface : List ℕ → List ℕ → Reading
+after_preface [] b = frames_of b
+after_preface (p ∷ left) [] = record { frames = []; ending = Opening (p ∷ left) }
+after_preface (p ∷ left) (x ∷ b) = if p == x then after_preface left b else record { frames = []; ending = Fault (faults.BadPreface (23 - length left)) }
 
 -- Reading on from an end. From `Opening preface` it reads a whole stream, and from `Rest []` one without a preface.
-unfoldable pub resumed : End → List ℕ → Reading
-resumed (Opening left) b = opened left b
-resumed (Rest rest) b = frames_of (rest ++ b)
-resumed (Fault fault) b = record { frames = []; ending = Fault fault }
+unfoldable pub reading_from : End → List ℕ → Reading
+reading_from (Opening left) b = after_preface left b
+reading_from (Rest rest) b = frames_of (rest ++ b)
+reading_from (Fault fault) b = record { frames = []; ending = Fault fault }
 
 -- what a reading is with more bytes
 abbrev pub read_on : Reading → List ℕ → Reading
-read_on r more = record { frames = r.frames ++ (resumed r.ending more).frames; ending = (resumed r.ending more).ending }
+read_on r more = record { frames = r.frames ++ (reading_from r.ending more).frames; ending = (reading_from r.ending more).ending }
 
 -- ---- what the code gives
 
@@ -112,6 +112,6 @@ Feeds (Err fault) due old new ending = (ending ≡ Fault fault) × Refuses fault
 -- A parser that began with the first end and now has the other stands for these bytes: it ends as they do, or memory ran
 -- out on the way.
 abbrev pub StandsFor : End → End → List ℕ → Type 0
-StandsFor first (Fault fault) h = Refuses fault ((resumed first h).ending ≡ Fault fault)
-StandsFor first (Opening left) h = (resumed first h).ending ≡ Opening left
-StandsFor first (Rest rest) h = (resumed first h).ending ≡ Rest rest
+StandsFor first (Fault fault) h = Refuses fault ((reading_from first h).ending ≡ Fault fault)
+StandsFor first (Opening left) h = (reading_from first h).ending ≡ Opening left
+StandsFor first (Rest rest) h = (reading_from first h).ending ≡ Rest rest

@@ -4,7 +4,7 @@ use Rattle.std.specs.Int.{w16, w32, w64, to_be_bytes}
 use Rattle.std.specs.List.{AllByRecursion}
 use Rattle.h2_wire.specs.declared.flag.TheConstants as flag
 use Rattle.h2_wire.specs.declared.frame_type.TheConstants as frame_type
-use Rattle.h2_wire.specs.Spelling.{frame_bytes}
+use Rattle.h2_wire.specs.Encoding.{frame_bytes}
 use Rattle.h2_frame.specs.declared.frame.Body.{Body}
 use Rattle.h2_frame.specs.declared.frame.Body.TheVariants.{Bytes, Headers, Priority, Reset, Settings, SettingsAck, PushPromise, Ping, GoAway, WindowUpdate, Continuation, Unknown}
 use Rattle.h2_frame.specs.declared.frame.Frame.{Frame}
@@ -59,8 +59,8 @@ payload_of (WindowUpdate step) = to_be_bytes w32 step
 payload_of (Continuation block whole) = block
 payload_of (Unknown kind) = []
 
-unfoldable pub spelling : Frame → List ℕ
-spelling f = frame_bytes (kind_of f.body) (flags_of f.body) f.stream (payload_of f.body)
+unfoldable pub frame_encoding : Frame → List ℕ
+frame_encoding f = frame_bytes (kind_of f.body) (flags_of f.body) f.stream (payload_of f.body)
 
 abbrev pub FitsSetting : Setting → Type 0
 FitsSetting s = (s.id < 2 ^ 16) × (s.value < 2 ^ 32)

@@ -1,7 +1,7 @@
 //! The connection preface (RFC 9113, section 3.4).
 
 ghost use Rattle.std.specs.Prelude.{◌≡◌, ◌≢◌, ◌<◌, ◌≤◌, length, drop, slice_index};
-ghost use Rattle.h2_frame.specs.Reading.{preface, opened};
+ghost use Rattle.h2_frame.specs.Reading.{preface, after_preface};
 ghost use Rattle.h2_frame.specs.Parsing.{Greets};
 
 /// What each client sends first.
@@ -21,7 +21,7 @@ pub enum Greeting {
 fn common(left: &[u8], piece: &[u8]) -> usize
     ensures left { result ≤ length left.now }
     ensures piece { result ≤ length piece.now }
-    ensures same { opened left.now piece.now ≡ opened (drop result left.now) (drop result piece.now) }
+    ensures same { after_preface left.now piece.now ≡ after_preface (drop result left.now) (drop result piece.now) }
     ensures ends { result < length left.now → result < length piece.now → slice_index left.now result ≢ slice_index piece.now result }
 {
     let mut count = 0;
@@ -34,7 +34,7 @@ fn common(left: &[u8], piece: &[u8]) -> usize
 /// Goes on with a preface of which so many bytes have come.
 pub(crate) fn greet(matched: usize, piece: &[u8]) -> Greeting
     requires { matched ≤ 24 }
-    ensures { Greets result (opened (drop matched preface) piece.now) piece.now }
+    ensures { Greets result (after_preface (drop matched preface) piece.now) piece.now }
 {
     let (_, left) = PREFACE.split_at(matched);
     let count = common(left, piece);

@@ -3,7 +3,7 @@
 ghost use Rattle.std.specs.Prelude.{◌≡◌, ℕ, List, [], ◌++◌, OnOk, IfErr, Err};
 ghost use Rattle.h2_frame.specs.declared.fault.FrameFault.{FrameFault};
 ghost use Rattle.h2_frame.specs.declared.stage.Stage.TheVariants.{Frames};
-ghost use Rattle.h2_frame.specs.Reading.{End, Opening, Rest, Fault, preface, frames_of, resumed, Refuses, Feeds, StandsFor};
+ghost use Rattle.h2_frame.specs.Reading.{End, Opening, Rest, Fault, preface, frames_of, reading_from, Refuses, Feeds, StandsFor};
 ghost use Rattle.h2_frame.specs.Parsing.{ending_of, IsWithin};
 ghost use Rattle.list_laws.specs.Lists.{GainsFront};
 
@@ -71,8 +71,8 @@ impl Parser {
         piece: &[u8],
         into: &mut Row<Frame>,
     ) -> Result<(), FrameFault>
-        ensures fed { Feeds result (resumed self.old piece.now) into.old into.new self.new }
-        ensures front { GainsFront (resumed self.old piece.now).frames into.old into.new }
+        ensures fed { Feeds result (reading_from self.old piece.now) into.old into.new self.new }
+        ensures front { GainsFront (reading_from self.old piece.now).frames into.old into.new }
         ensures again { (fault : FrameFault) → self.old ≡ Fault fault → result ≡ Err fault }
         ensures stands { (first : End) (fed : List ℕ) → StandsFor first self.old fed → StandsFor first self.new (fed ++ piece.now) }
     {
@@ -87,8 +87,8 @@ impl Parser {
         piece: &[u8],
         into: &mut Row<Frame>,
     ) -> Result<(), FrameFault>
-        ensures fed { Feeds result (resumed self.old piece.now) into.old into.new self.new }
-        ensures front { GainsFront (resumed self.old piece.now).frames into.old into.new }
+        ensures fed { Feeds result (reading_from self.old piece.now) into.old into.new self.new }
+        ensures front { GainsFront (reading_from self.old piece.now).frames into.old into.new }
         ensures again { (fault : FrameFault) → self.old ≡ Fault fault → result ≡ Err fault }
     {
         let (head, rest) = piece.split_at(self.lacking().min(piece.len()));
@@ -105,8 +105,8 @@ impl Parser {
         piece: &[u8],
         into: &mut Row<Frame>,
     ) -> Result<(), FrameFault>
-        ensures fed { Feeds result (resumed self.old piece.now) into.old into.new self.new }
-        ensures front { GainsFront (resumed self.old piece.now).frames into.old into.new }
+        ensures fed { Feeds result (reading_from self.old piece.now) into.old into.new self.new }
+        ensures front { GainsFront (reading_from self.old piece.now).frames into.old into.new }
         ensures again { (fault : FrameFault) → self.old ≡ Fault fault → result ≡ Err fault }
     {
         let (payload, rest) = piece.split_at(self.lacking().min(piece.len()));
@@ -125,15 +125,15 @@ impl Parser {
         }
     }
 
-    #[tactic(auto, unfolding(crate::specs::Reading::resumed))]
+    #[tactic(auto, unfolding(crate::specs::Reading::reading_from))]
     fn advance(
         &mut self,
         alloc: Global,
         piece: &[u8],
         into: &mut Row<Frame>,
     ) -> Result<(), FrameFault>
-        ensures fed { Feeds result (resumed self.old piece.now) into.old into.new self.new }
-        ensures front { GainsFront (resumed self.old piece.now).frames into.old into.new }
+        ensures fed { Feeds result (reading_from self.old piece.now) into.old into.new self.new }
+        ensures front { GainsFront (reading_from self.old piece.now).frames into.old into.new }
         ensures again { (fault : FrameFault) → self.old ≡ Fault fault → result ≡ Err fault }
     {
         match self.stage {
@@ -171,7 +171,7 @@ fn lacking_of(pending: &[u8]) -> usize {
 }
 
 /// Reads frames, and keeps the fault.
-#[tactic(auto, unfolding(crate::specs::Reading::resumed))]
+#[tactic(auto, unfolding(crate::specs::Reading::reading_from))]
 fn read(
     alloc: Global,
     stage: &mut Stage,
@@ -180,9 +180,9 @@ fn read(
     into: &mut Row<Frame>,
 ) -> Result<(), FrameFault>
     requires { stage.old ≡ Frames }
-    ensures fed { Feeds result (resumed (Rest pending.old.items) piece.now) into.old into.new (ending_of stage.new pending.new.items) }
+    ensures fed { Feeds result (reading_from (Rest pending.old.items) piece.now) into.old into.new (ending_of stage.new pending.new.items) }
     ensures within { IsWithin stage.new }
-    ensures front { GainsFront (resumed (Rest pending.old.items) piece.now).frames into.old into.new }
+    ensures front { GainsFront (reading_from (Rest pending.old.items) piece.now).frames into.old into.new }
 {
     match take_in(alloc, pending, piece, into) {
         Ok(()) => Ok(()),

@@ -14,7 +14,7 @@ use std::alloc::Global;
 use wl_octets::Row;
 
 /// The first frame and how many bytes it takes, if it is whole.
-#[tactic(auto, unfolding(crate::specs::Reading::first_frame, crate::specs::Reading::judged))]
+#[tactic(auto, unfolding(crate::specs::Reading::first_frame, crate::specs::Reading::step_after_head))]
 fn first(alloc: Global, bytes: &[u8]) -> Result<Option<(Frame, usize)>, FrameFault>
     ensures { Steps result bytes.now }
 {

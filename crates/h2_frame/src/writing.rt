@@ -3,7 +3,7 @@
 ghost use Rattle.std.specs.Prelude.{◌≡◌, ◌≤◌, ◌<◌, ◌^◌, ℕ, if◌then◌else◌, List, flat_map, length, OnOk, nat_le, ◌++◌};
 ghost use Rattle.h2_wire.specs.declared.limit.TheConstants.{MAX_FRAME_SIZE};
 ghost use Rattle.h2_frame.specs.Reading.{first_frame, whole};
-ghost use Rattle.h2_frame.specs.Writing.{spelling, payload_of, kind_of, flags_of, setting_bytes, IsWritable};
+ghost use Rattle.h2_frame.specs.Writing.{frame_encoding, payload_of, kind_of, flags_of, setting_bytes, IsWritable};
 ghost use Rattle.list_laws.specs.Lists.{GainsFront};
 
 use crate::frame::{Body, Frame, Setting};
@@ -15,12 +15,12 @@ use wl_octets::{Memory, Octets};
 /// of PUSH_PROMISE or of an unknown type gets an empty payload, and PRIORITY five zeros.
 ///
 /// Its payload has at most 16,384 bytes, which any peer takes (RFC 9113, section 4.2).
-#[tactic(auto, using(crate::proofs::Spelled::read_again), unfolding(crate::specs::Writing::spelling, h2_wire::specs::Spelling::frame_bytes))]
+#[tactic(auto, using(crate::proofs::Spelled::read_again), unfolding(crate::specs::Writing::frame_encoding, h2_wire::specs::Encoding::frame_bytes))]
 pub fn put_frame(out: &mut Octets, frame: &Frame) -> Result<(), Memory>
     requires { length (payload_of frame.now.body) ≤ MAX_FRAME_SIZE }
-    ensures ok { OnOk result (out.new ≡ out.old ++ spelling frame.now) }
-    ensures front { GainsFront (spelling frame.now) out.old out.new }
-    ensures read_again { IsWritable frame.now.body → frame.now.stream < 2 ^ 31 → (rest : List ℕ) → first_frame (spelling frame.now ++ rest) ≡ whole frame.now rest }
+    ensures ok { OnOk result (out.new ≡ out.old ++ frame_encoding frame.now) }
+    ensures front { GainsFront (frame_encoding frame.now) out.old out.new }
+    ensures read_again { IsWritable frame.now.body → frame.now.stream < 2 ^ 31 → (rest : List ℕ) → first_frame (frame_encoding frame.now ++ rest) ≡ whole frame.now rest }
 {
     let body = &frame.body;
     let head = head_of_frame(payload_len(body), kind(body), flags(body), frame.stream);

@@ -1,8 +1,8 @@
 -- The tree is that of the code: computed tests over all its nodes and all symbols.
 use Rattle.std.proofs.Common.{◌≡◌, ℕ, ◌+◌, ◌*◌, Bool, true, false, List, [], ◌∷◌, map, get_or, replicate, refl}
 use Rattle.std.specs.List.{range_with_len}
-use Rattle.hpack.specs.Huffman.{bits, word, length_of, number_of, covered}
-use Rattle.hpack.specs.Tree.{Branch, Node, Symbol, End, branch_at, read}
+use Rattle.hpack.specs.Huffman.{bits, word, length_of, number_of, code_offset}
+use Rattle.hpack.specs.Tree.{Branch, Node, Symbol, End, branch_at, walk}
 
 -- how deep each node lies, and the number whose bits lead to it
 abbrev pub places : List (ℕ × ℕ)
@@ -55,21 +55,21 @@ place_of End = (length_of 256, number_of 256)
 -- ---- the tests
 
 pub zeros : map (λ node. place_of (branch_at node false)) (range_with_len 0 256) ≡ map (λ node. ((place node).0 + 1, 2 * (place node).1)) (range_with_len 0 256)
-unfolding branch_at number_of covered
+unfolding branch_at number_of code_offset
 zeros = refl
 
 pub ones : map (λ node. place_of (branch_at node true)) (range_with_len 0 256) ≡ map (λ node. ((place node).0 + 1, 2 * (place node).1 + 1)) (range_with_len 0 256)
-unfolding branch_at number_of covered
+unfolding branch_at number_of code_offset
 ones = refl
 
-pub walks : map (λ symbol. read 0 (word symbol)) (range_with_len 0 256) ≡ map (λ symbol. (symbol ∷ [], Node 0)) (range_with_len 0 256)
-unfolding read branch_at word bits number_of covered
+pub walks : map (λ symbol. walk 0 (word symbol)) (range_with_len 0 256) ≡ map (λ symbol. (symbol ∷ [], Node 0)) (range_with_len 0 256)
+unfolding walk branch_at word bits number_of code_offset
 walks = refl
 
 pub padding_paths : map path (range_with_len 0 8) ≡ map (λ node. replicate node true) (range_with_len 0 8)
 unfolding path bits
 padding_paths = refl
 
-pub padding_walks : map (λ count. read 0 (replicate count true)) (range_with_len 0 8) ≡ map (λ count. ([], Node count)) (range_with_len 0 8)
-unfolding read branch_at
+pub padding_walks : map (λ count. walk 0 (replicate count true)) (range_with_len 0 8) ≡ map (λ count. ([], Node count)) (range_with_len 0 8)
+unfolding walk branch_at
 padding_walks = refl

@@ -4,7 +4,7 @@ use Rattle.std.proofs.lemmas.Bool.{cases_lt, lt-ltb, le-ltb, le-leb, lt-leb}
 use Rattle.wl_octets.specs.declared.header.Header.{Header}
 use Rattle.hpack.specs.declared.fault.HpackFault.{HpackFault}
 use Rattle.hpack.specs.declared.fault.HpackFault.TheVariants as faults
-use Rattle.hpack.specs.Tables.{Table, entry_at, with_item, resized}
+use Rattle.hpack.specs.Tables.{Table, entry_at, with_item, with_maximum}
 use Rattle.list_laws.specs.Results.{◌>>=◌}
 use Rattle.list_laws.proofs.Results.{bind_ok}
 use Rattle.hpack.specs.Reading.{integer_at, literal_at, representation_at}
@@ -77,9 +77,9 @@ not_indexing_takes table begun bytes due high e =
     })
 
 abbrev updated_read : Table → Bool → ℕ × List ℕ → Result Read HpackFault
-updated_read table begun most = if begun || nat_lt 4096 most.0 then Err faults.SizeUpdate else Ok (None, resized table most.0, most.1)
+updated_read table begun most = if begun || nat_lt 4096 most.0 then Err faults.SizeUpdate else Ok (None, with_maximum table most.0, most.1)
 
-update_fits : (table : Table) (begun : Bool) (most : ℕ × List ℕ) (due : Read) → updated_read table begun most ≡ Ok due → (begun ≡ false) × (most.0 ≤ 4096) × (◌≡◌ {A = Result Read HpackFault} (Ok (None, resized table most.0, most.1)) (Ok due))
+update_fits : (table : Table) (begun : Bool) (most : ℕ × List ℕ) (due : Read) → updated_read table begun most ≡ Ok due → (begun ≡ false) × (most.0 ≤ 4096) × (◌≡◌ {A = Result Read HpackFault} (Ok (None, with_maximum table most.0, most.1)) (Ok due))
 update_fits table true most due e = absurd (cc)
 update_fits table false most due e =
     elim (cases_lt 4096 most.0) [
@@ -93,7 +93,7 @@ update_takes table begun bytes due low high e =
     let fits = update_fits table begun one.0 due one.2 in
     let front = integer_takes 31 bytes one.0.0 one.0.1 one.1 in
     let there = first_there bytes front.text one.0.1 front.parts (integer_some 31 front.text one.0.0 front.is) in
-    finish table begun bytes (None, resized table one.0.0, one.0.1) due fits.2 (record {
+    finish table begun bytes (None, with_maximum table one.0.0, one.0.1) due fits.2 (record {
       text = front.text;
       parts = front.parts;
       is = size_update one.0.0 fits.0 (rw (← there) low) (rw (← there) high) front.is fits.1;

@@ -11,7 +11,7 @@ use Rattle.wl_octets.specs.declared.header.Header.{Header}
 use Rattle.hpack.specs.Tables.{Table, size_of, list_size, static_table, no_field, entry_at}
 use Rattle.hpack.specs.Reading.{is_coded, block_of}
 use Rattle.hpack.specs.Grammar.{Continues, groups, IsInteger, IsString, IsName, indexed_name, new_name, Represents, indexed, not_indexing, Names, ended, named, IsBlock}
-use Rattle.hpack.specs.Writing.{more_in, more_bytes, integer_bytes, plain_string, same_field, same_name, NoNameBelow, spelled_name, spelled_field, spelled, spelled_block}
+use Rattle.hpack.specs.Writing.{more_in, more_bytes, integer_bytes, plain_string, same_field, same_name, NoNameBelow, name_bytes, field_bytes_at, field_bytes, block_bytes}
 use Rattle.hpack.proofs.Eviction.{list_size-cons}
 use Rattle.hpack.proofs.Headers.{block_only}
 use Rattle.hpack.proofs.Numbers.{continues-cons, long_integer}
@@ -63,8 +63,8 @@ pub no_field_at_all : (header : Header) → NoNameBelow header 61 → position (
 no_field_at_all header none = sym (position_none (same_field header) static_table 61 no_field (omega (arith, static_count)) (no_field_below header 61 none))
 
 -- a literal with a new name, as it is written
-pub literal_written : (header : Header) (old one two new : List ℕ) → NoNameBelow header 61 → None ≡ position (same_name header) static_table → one ≡ old ++ 0 ∷ [] → two ≡ one ++ plain_string header.name → new ≡ two ++ plain_string header.value → new ≡ old ++ spelled header
-unfolding spelled
+pub literal_written : (header : Header) (old one two new : List ℕ) → NoNameBelow header 61 → None ≡ position (same_name header) static_table → one ≡ old ++ 0 ∷ [] → two ≡ one ++ plain_string header.name → new ≡ two ++ plain_string header.value → new ≡ old ++ field_bytes header
+unfolding field_bytes
 literal_written header old one two new none absent first second third =
     let no_name : position (same_name header) static_table ≡ None = sym absent in
     rw (no_field_at_all header none, no_name, third, second, first) (simp append_assoc)
@@ -157,7 +157,7 @@ field_named table begun header place found =
     let at : entry_at table.items (place + 1) ≡ Ok header = entry-placed table.items place (omega (arith, there.0, static_count)) ∙ ap Ok same in
     indexed (place + 1) header (first_byte 128 127 (place + 1)).0 (integer_spelled 128 127 (place + 1) (λ n le. omega arith) (omega (arith, there.0, static_count))) at
 
-name_spelled : (items : List Header) (header : Header) (place : Option ℕ) → position (same_name header) static_table ≡ place → length header.name < 2 ^ 32 → IsName items 15 (spelled_name header place) header.name
+name_spelled : (items : List Header) (header : Header) (place : Option ℕ) → position (same_name header) static_table ≡ place → length header.name < 2 ^ 32 → IsName items 15 (name_bytes header place) header.name
 name_spelled items header (Some place) found fits =
     let there = position-Some (same_name header) static_table place no_field found in
     let entry = get_or static_table place no_field in
@@ -166,16 +166,16 @@ name_spelled items header (Some place) found fits =
     (indexed_name (integer_bytes 0 15 (place + 1)) (place + 1) entry (integer_spelled 0 15 (place + 1) (λ n le. omega arith) (omega (arith, there.0, static_count))) (entry-placed items place (omega (arith, there.0, static_count))))
 name_spelled items header None found fits = new_name (0 ∷ []) (plain_string header.name) header.name (refl, omega arith) (string_spelled header.name fits)
 
-name_first : (header : Header) (place : Option ℕ) (rest : List ℕ) → slice_index (spelled_name header place ++ rest) 0 < 32
+name_first : (header : Header) (place : Option ℕ) (rest : List ℕ) → slice_index (name_bytes header place ++ rest) 0 < 32
 name_first header (Some place) rest = integer_first 0 15 (place + 1) rest (omega arith)
 name_first header None rest = omega arith
 
-pub header_named : (table : Table) (begun : Bool) (header : Header) (place : Option ℕ) → position (same_field header) static_table ≡ place → size_of header ≤ 16384 → Represents table begun (spelled_field header place) (Some header) table
+pub header_named : (table : Table) (begun : Bool) (header : Header) (place : Option ℕ) → position (same_field header) static_table ≡ place → size_of header ≤ 16384 → Represents table begun (field_bytes_at header place) (Some header) table
 header_named table begun header (Some place) found fits = field_named table begun header place found
 header_named table begun header None found fits =
     let place = position (same_name header) static_table in
     not_indexing header (name_first header place (plain_string header.value)) (record {
-      front = spelled_name header place;
+      front = name_bytes header place;
       back = plain_string header.value;
       parts = refl;
       name = name_spelled table.items header place refl (omega arith);
@@ -184,16 +184,16 @@ header_named table begun header None found fits =
 
 -- ---- blocks
 
-names_spelled : (table : Table) (begun : Bool) (headers : List Header) → list_size headers ≤ 16384 → Names table begun (spelled_block headers) headers table
-unfolding spelled
+names_spelled : (table : Table) (begun : Bool) (headers : List Header) → list_size headers ≤ 16384 → Names table begun (block_bytes headers) headers table
+unfolding field_bytes
 names_spelled table begun [] fits = ended table begun
 names_spelled table begun (header ∷ headers) fits =
     let size = list_size-cons header headers in
-    named table table table begun (spelled_field header (position (same_field header) static_table)) (spelled_block headers) header headers
+    named table table table begun (field_bytes_at header (position (same_field header) static_table)) (block_bytes headers) header headers
     (header_named table begun header (position (same_field header) static_table) refl (omega arith)) (names_spelled table true headers (omega arith))
 
-pub block_spelled : (headers : List Header) → list_size headers ≤ 16384 → (table : Table) → IsBlock table (spelled_block headers) headers table
+pub block_spelled : (headers : List Header) → list_size headers ≤ 16384 → (table : Table) → IsBlock table (block_bytes headers) headers table
 block_spelled headers fits table = record { names = names_spelled table false headers fits; fits = fits }
 
-pub block_again : (headers : List Header) → list_size headers ≤ 16384 → (table : Table) → block_of table (spelled_block headers) ≡ Ok (headers, table)
-block_again headers fits table = block_only table (spelled_block headers) headers table (block_spelled headers fits table)
+pub block_again : (headers : List Header) → list_size headers ≤ 16384 → (table : Table) → block_of table (block_bytes headers) ≡ Ok (headers, table)
+block_again headers fits table = block_only table (block_bytes headers) headers table (block_spelled headers fits table)

@@ -5,7 +5,7 @@ use Rattle.hpack.specs.declared.fault.HpackFault.{HpackFault}
 use Rattle.hpack.specs.Outcomes.{Refuses}
 use Rattle.hpack.specs.Tables.{Table}
 use Rattle.hpack.specs.Reading.{block_of}
-use Rattle.hpack.specs.Decoding.{Standing, Good, Broken, after_block, decoded, Decodes, standing_after, StandsFor, Reads, ReadsAlone, IsNoBlock}
+use Rattle.hpack.specs.Decoding.{Standing, Good, Broken, after_block, decode_block, Decodes, standing_after, StandsFor, Reads, ReadsAlone, IsNoBlock}
 use Rattle.hpack.proofs.Refusals.{Refuses-map, Refuses-bind, Refuses-all}
 use Rattle.hpack.proofs.Headers.{block_found, block_only}
 
@@ -45,14 +45,14 @@ broken_ok : (fault : HpackFault) (headers : List Header) (new : Standing) → �
 broken_ok fault headers new e =
     let wrong : ◌≡◌ {A = Answer} (Err fault) (Ok headers) = step_first (Err fault, Broken fault) (Ok headers, new) e in cc
 
-pub found-from_step : (old new : Standing) (block : List ℕ) (answer : Answer) → Decodes answer new (decoded old block) → IfOk answer (λ headers. Reads old block headers new)
+pub found-from_step : (old new : Standing) (block : List ℕ) (answer : Answer) → Decodes answer new (decode_block old block) → IfOk answer (λ headers. Reads old block headers new)
 found-from_step (Good table) new block (Ok headers) step =
     let inside = ok_inside (block_of table block) headers new step in
     subst (λ (s : Standing). Reads (Good table) block headers s) inside.2 (block_found table block headers inside.0 inside.1)
 found-from_step (Broken fault) new block (Ok headers) step = absurd (broken_ok fault headers new step)
 found-from_step old new block (Err fault) step = tt
 
-pub only-from_step : (old new : Standing) (block : List ℕ) (answer : Answer) → Decodes answer new (decoded old block) → IfOk answer (λ headers. ReadsAlone old block headers new)
+pub only-from_step : (old new : Standing) (block : List ℕ) (answer : Answer) → Decodes answer new (decode_block old block) → IfOk answer (λ headers. ReadsAlone old block headers new)
 only-from_step (Good table) new block (Ok headers) step = λ others after is.
     let inside = ok_inside (block_of table block) headers new step in
     let same : ◌≡◌ {A = Result Rest HpackFault} (Ok (others, after)) (Ok (headers, inside.0)) = sym (block_only table block others after is) ∙ inside.1 in
@@ -61,7 +61,7 @@ only-from_step (Good table) new block (Ok headers) step = λ others after is.
 only-from_step (Broken fault) new block (Ok headers) step = absurd (broken_ok fault headers new step)
 only-from_step old new block (Err fault) step = tt
 
-pub err-from_step : (old new : Standing) (block : List ℕ) (answer : Answer) → Decodes answer new (decoded old block) → IfErr answer (λ fault. Refuses fault (IsNoBlock old block))
+pub err-from_step : (old new : Standing) (block : List ℕ) (answer : Answer) → Decodes answer new (decode_block old block) → IfErr answer (λ fault. Refuses fault (IsNoBlock old block))
 err-from_step old new block (Ok headers) step = tt
 err-from_step (Good table) new block (Err fault) step =
     Refuses-map fault (λ due headers after is.
@@ -75,10 +75,10 @@ stands_there : (standing : Standing) (blocks : List (List ℕ)) → standing_aft
 stands_there (Good table) blocks e = e
 stands_there (Broken fault) blocks e = Refuses-all fault e
 
-moved : (old : Standing) (block : List ℕ) (blocks : List (List ℕ)) (due : Answer × Standing) → standing_after blocks ≡ old → decoded old block ≡ due → standing_after (block ∷ blocks) ≡ due.1
-moved old block blocks due here step = ap (λ (s : Standing). (decoded s block).1) here ∙ step_second (decoded old block) due step
+moved : (old : Standing) (block : List ℕ) (blocks : List (List ℕ)) (due : Answer × Standing) → standing_after blocks ≡ old → decode_block old block ≡ due → standing_after (block ∷ blocks) ≡ due.1
+moved old block blocks due here step = ap (λ (s : Standing). (decode_block s block).1) here ∙ step_second (decode_block old block) due step
 
-pub stands-from_step : (old new : Standing) (block : List ℕ) (answer : Answer) → Decodes answer new (decoded old block) → (blocks : List (List ℕ)) → StandsFor old blocks → StandsFor new (block ∷ blocks)
+pub stands-from_step : (old new : Standing) (block : List ℕ) (answer : Answer) → Decodes answer new (decode_block old block) → (blocks : List (List ℕ)) → StandsFor old blocks → StandsFor new (block ∷ blocks)
 stands-from_step (Good table) new block (Ok headers) step blocks here = stands_there new (block ∷ blocks) (moved (Good table) block blocks (Ok headers, new) here step)
 stands-from_step (Broken fault) new block (Ok headers) step blocks here = absurd (broken_ok fault headers new step)
 stands-from_step (Good table) new block (Err fault) step blocks here =

@@ -4,7 +4,7 @@ use Rattle.std.specs.List.{range_with_len}
 use Rattle.std.proofs.lemmas.Bool.{cases_lt, ne_eqb}
 use Rattle.std.proofs.lemmas.List.{get_or_past}
 use Rattle.std.proofs.lemmas.Option.{slice_get_read, slice_get_past}
-use Rattle.hpack.specs.Tables.{static_table, no_field, found, entry_at}
+use Rattle.hpack.specs.Tables.{static_table, no_field, entry_or_fault, entry_at}
 use Rattle.std.specs.List.{slice_get}
 use Rattle.wl_octets.specs.declared.header.Header.{Header}
 use Rattle.hpack.specs.declared.fault.HpackFault.TheVariants as faults
@@ -46,7 +46,7 @@ pub entry-static : (items : List Header) (index : ℕ) → 0 < index → index -
 unfolding entry_at
 entry-static items index from lt = rw (ne_eqb index 0 (omega arith), slice_get-left static_table items (index - 1) no_field (omega (arith, static_count))) refl
 
-pub entry-dynamic : (items : List Header) (index : ℕ) → 61 ≤ index - 1 → entry_at items index ≡ found (slice_get items (index - 1 - 61))
+pub entry-dynamic : (items : List Header) (index : ℕ) → 61 ≤ index - 1 → entry_at items index ≡ entry_or_fault (slice_get items (index - 1 - 61))
 unfolding entry_at
 entry-dynamic items index from =
     let e : index - 1 ≡ length static_table + (index - 1 - 61) = omega (arith, static_count) in

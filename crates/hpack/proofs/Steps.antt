@@ -3,7 +3,7 @@ use Rattle.std.proofs.Common.{◌≡◌, ℕ, ◌+◌, ◌*◌, ◌/◌, ◌%◌
 use Rattle.std.proofs.lemmas.Bool.{and_parts, ltb-true, eqb-true, false≢true}
 use Rattle.hpack.specs.declared.tables.TheConstants.{STEPS}
 use Rattle.hpack.specs.Huffman.{bits}
-use Rattle.hpack.specs.Tree.{Branch, Node, Symbol, End, branch_at, read}
+use Rattle.hpack.specs.Tree.{Branch, Node, Symbol, End, branch_at, walk}
 
 -- what an entry of the table stands for
 abbrev pub step_of : ℕ → ℕ → List ℕ × Branch
@@ -20,18 +20,18 @@ is_step _ entry = false
 
 abbrev pub are_steps : ℕ → List ℕ → Bool
 are_steps place [] = true
-are_steps place (entry ∷ entries) = is_step (read (place / 16) (bits 4 (place % 16))) entry && are_steps (place + 1) entries
+are_steps place (entry ∷ entries) = is_step (walk (place / 16) (bits 4 (place % 16))) entry && are_steps (place + 1) entries
 
 pub steps : are_steps 0 STEPS ≡ true
-unfolding read branch_at bits
+unfolding walk branch_at bits
 steps = refl
 
-pub are_steps-at : (place : ℕ) (entries : List ℕ) (i : ℕ) → are_steps place entries ≡ true → i < length entries → is_step (read ((place + i) / 16) (bits 4 ((place + i) % 16))) (get_or entries i 0) ≡ true
+pub are_steps-at : (place : ℕ) (entries : List ℕ) (i : ℕ) → are_steps place entries ≡ true → i < length entries → is_step (walk ((place + i) / 16) (bits 4 ((place + i) % 16))) (get_or entries i 0) ≡ true
 are_steps-at place [] i all lt = absurd (omega arith)
 are_steps-at place (entry ∷ entries) zero all lt = rw add-zero (and_parts _ _ all).0
 are_steps-at place (entry ∷ entries) (suc i) all lt =
     let e : place + suc i ≡ (place + 1) + i = omega arith in
-    rw e (are_steps-at (place + 1) entries i (and_parts (is_step (read (place / 16) (bits 4 (place % 16))) entry) _ all).1 (omega arith))
+    rw e (are_steps-at (place + 1) entries i (and_parts (is_step (walk (place / 16) (bits 4 (place % 16))) entry) _ all).1 (omega arith))
 
 pub is_step-found : (found : List ℕ × Branch) (entry : ℕ) → is_step found entry ≡ true → found ≡ step_of (entry / 256) (entry % 256)
 is_step-found ([], Node next) entry is =

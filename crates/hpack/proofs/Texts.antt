@@ -7,7 +7,7 @@ use Rattle.hpack.specs.declared.fault.HpackFault.{HpackFault}
 use Rattle.hpack.specs.declared.fault.HpackFault.TheVariants as faults
 use Rattle.hpack.specs.Outcomes.{Refuses, Gives, IsPaddingFault}
 use Rattle.hpack.specs.Huffman.{bits, bits_of, lengths, length_of, number_of, word, IsHuffman}
-use Rattle.hpack.specs.Tree.{on_zero, on_one, Branch, Node, Symbol, End, branch_of, branch_at, on_branch, read, with_text, is_end, text_of, huffman_text}
+use Rattle.hpack.specs.Tree.{on_zero, on_one, Branch, Node, Symbol, End, branch_of, branch_at, on_branch, walk, with_text, is_end, text_of, huffman_text}
 use Rattle.hpack.proofs.Bits.{each_below}
 use Rattle.hpack.proofs.Places.{place, path, place_of, zeros, ones, walks, padding_paths, padding_walks}
 use Rattle.hpack.proofs.Walks.{read-append}
@@ -104,40 +104,40 @@ spells_on (Symbol symbol) node bit f rest lt e spelled =
     spells_symbol symbol (f 0) (path node ++ bit ∷ rest) rest lt (extends node (word symbol) rest bit longer) (at_root rest (f 0) (spelled 0 (omega arith)))
 spells_on End node bit f rest lt e spelled = tt
 
-spells : (bits : List Bool) (node : ℕ) → node < 256 → Spells (path node ++ bits) (read node bits)
-unfolding read
+spells : (bits : List Bool) (node : ℕ) → node < 256 → Spells (path node ++ bits) (walk node bits)
+unfolding walk
 spells [] node lt = (append-nil (path node), tt)
-spells (bit ∷ bits) node lt = spells_on (branch_at node bit) node bit (λ next. read next bits) bits (in_tree node bit) (leads node bit lt) (λ next small. spells bits next small)
+spells (bit ∷ bits) node lt = spells_on (branch_at node bit) node bit (λ next. walk next bits) bits (in_tree node bit) (leads node bit lt) (λ next small. spells bits next small)
 
 ends_well : (found : List ℕ × Branch) (bytes text : List ℕ) → Spells (bits_of bytes) found → text_of found ≡ Ok text → IsHuffman bytes text
-ends_well (read, Node node) bytes text spelled e =
+ends_well (walk, Node node) bytes text spelled e =
     elim (cases_lt node 8) [
       | inl lt ↦
-          let same : read ≡ text = (let taken : Ok read ≡ Ok text = (rw (lt-ltb node 8 lt) at e) in cc) in
+          let same : walk ≡ text = (let taken : Ok walk ≡ Ok text = (rw (lt-ltb node 8 lt) at e) in cc) in
           let ones_there : path node ≡ replicate node true = each_below path (λ n. replicate n true) 8 node padding_paths lt in
           record { padding = node; short = lt; words = rw (← same, ← ones_there) spelled.0; symbols = rw (← same) spelled.1 }
       | inr past ↦ absurd (let refused : Err faults.Padding ≡ Ok text = (rw (le-ltb node 8 past) at e) in cc)
     ]
-ends_well (read, Symbol symbol) bytes text spelled e = absurd (cc)
-ends_well (read, End) bytes text spelled e = absurd (cc)
+ends_well (walk, Symbol symbol) bytes text spelled e = absurd (cc)
+ends_well (walk, End) bytes text spelled e = absurd (cc)
 
 -- what is read is a text of the code
 pub huffman_found : (bytes text : List ℕ) → huffman_text bytes ≡ Ok text → IsHuffman bytes text
 unfolding huffman_text
-huffman_found bytes text e = ends_well (read 0 (bits_of bytes)) bytes text (at_root (bits_of bytes) (read 0 (bits_of bytes)) (spells (bits_of bytes) 0 (omega arith))) e
+huffman_found bytes text e = ends_well (walk 0 (bits_of bytes)) bytes text (at_root (bits_of bytes) (walk 0 (bits_of bytes)) (spells (bits_of bytes) 0 (omega arith))) e
 
 -- ---- each text of the code is read
 
-read-text : (text : List ℕ) (rest : List Bool) → IsByteList text → read 0 (flat_map word text ++ rest) ≡ with_text text (read 0 rest)
+read-text : (text : List ℕ) (rest : List Bool) → IsByteList text → walk 0 (flat_map word text ++ rest) ≡ with_text text (walk 0 rest)
 read-text [] rest all = refl
 read-text (symbol ∷ text) rest all =
-    let walked : read 0 (word symbol) ≡ (symbol ∷ [], Node 0) = each_below (λ s. read 0 (word s)) (λ s. (s ∷ [], Node 0)) 256 symbol walks all.0 in
+    let walked : walk 0 (word symbol) ≡ (symbol ∷ [], Node 0) = each_below (λ s. walk 0 (word s)) (λ s. (s ∷ [], Node 0)) 256 symbol walks all.0 in
     rw (append_assoc (word symbol) (flat_map word text) rest, read-append 0 (word symbol) (flat_map word text ++ rest), walked, read-text text rest all.1) refl
 
 pub huffman_only : (bytes text : List ℕ) → IsHuffman bytes text → huffman_text bytes ≡ Ok text
 unfolding huffman_text
 huffman_only bytes text is =
-    let padded : read 0 (replicate is.padding true) ≡ ([], Node is.padding) = each_below (λ n. read 0 (replicate n true)) (λ n. ([], Node n)) 8 is.padding padding_walks is.short in
+    let padded : walk 0 (replicate is.padding true) ≡ ([], Node is.padding) = each_below (λ n. walk 0 (replicate n true)) (λ n. ([], Node n)) 8 is.padding padding_walks is.short in
     rw (is.words, read-text text (replicate is.padding true) is.symbols, padded, lt-ltb is.padding 8 is.short, append-nil text) refl
 
 -- ---- what the call says
@@ -162,7 +162,7 @@ padding_alone found fault e =
 
 alone : (bytes : List ℕ) (fault : HpackFault) → huffman_text bytes ≡ Err fault → fault ≡ faults.Padding
 unfolding huffman_text
-alone bytes fault e = padding_alone (read 0 (bits_of bytes)) fault e
+alone bytes fault e = padding_alone (walk 0 (bits_of bytes)) fault e
 
 pub err-from_gives : (answer : Result (List ℕ) HpackFault) (bytes : List ℕ) → Gives (λ text. text) answer (huffman_text bytes) → IfErr answer (λ fault. IsPaddingFault fault ((text : List ℕ) → IsHuffman bytes text → ⊥))
 err-from_gives (Ok text) bytes due = tt
@@ -176,19 +176,19 @@ err-from_gives (Err faults.ListTooLong) bytes due = let one = alone bytes faults
 
 -- ---- how the code ends
 
-pub ends_taken : (bytes text : List ℕ) (node : ℕ) → read 0 (bits_of bytes) ≡ with_text text (read node []) → node < 8 → huffman_text bytes ≡ Ok text
-unfolding huffman_text read
+pub ends_taken : (bytes text : List ℕ) (node : ℕ) → walk 0 (bits_of bytes) ≡ with_text text (walk node []) → node < 8 → huffman_text bytes ≡ Ok text
+unfolding huffman_text walk
 ends_taken bytes text node e lt = rw (e, lt-ltb node 8 lt, append-nil text) refl
 
-pub ends_refused : (bytes text : List ℕ) (node : ℕ) → read 0 (bits_of bytes) ≡ with_text text (read node []) → 8 ≤ node → huffman_text bytes ≡ Err faults.Padding
-unfolding huffman_text read
+pub ends_refused : (bytes text : List ℕ) (node : ℕ) → walk 0 (bits_of bytes) ≡ with_text text (walk node []) → 8 ≤ node → huffman_text bytes ≡ Err faults.Padding
+unfolding huffman_text walk
 ends_refused bytes text node e past = rw (e, le-ltb node 8 past) refl
 
-stops_there : (bytes text : List ℕ) (node byte : ℕ) (rest : List Bool) → read 0 (bits_of bytes) ≡ with_text text (read node (bits 8 byte ++ rest)) → ((more : List Bool) → is_end (read node (bits 8 byte ++ more)).1 ≡ false) → huffman_text bytes ≡ Err faults.Padding
+stops_there : (bytes text : List ℕ) (node byte : ℕ) (rest : List Bool) → walk 0 (bits_of bytes) ≡ with_text text (walk node (bits 8 byte ++ rest)) → ((more : List Bool) → is_end (walk node (bits 8 byte ++ more)).1 ≡ false) → huffman_text bytes ≡ Err faults.Padding
 unfolding huffman_text
 stops_there bytes text node byte rest e stop = rw (e, stop rest) refl
 
-pub stops : (fault : HpackFault) (bytes text : List ℕ) (node byte : ℕ) (rest : List Bool) → read 0 (bits_of bytes) ≡ with_text text (read node (bits 8 byte ++ rest)) → IsPaddingFault fault ((more : List Bool) → is_end (read node (bits 8 byte ++ more)).1 ≡ false) → Refuses fault (huffman_text bytes ≡ Err fault)
+pub stops : (fault : HpackFault) (bytes text : List ℕ) (node byte : ℕ) (rest : List Bool) → walk 0 (bits_of bytes) ≡ with_text text (walk node (bits 8 byte ++ rest)) → IsPaddingFault fault ((more : List Bool) → is_end (walk node (bits 8 byte ++ more)).1 ≡ false) → Refuses fault (huffman_text bytes ≡ Err fault)
 stops faults.Memory bytes text node byte rest e stop = tt
 stops faults.Padding bytes text node byte rest e stop = stops_there bytes text node byte rest e stop
 stops faults.Index bytes text node byte rest e stop = absurd stop

@@ -7,11 +7,11 @@ use Rattle.hpack.specs.Outcomes.{IsPaddingFault}
 use Rattle.hpack.specs.declared.tables.TheConstants.{STEPS}
 use Rattle.hpack.specs.Huffman.{bits}
 use Rattle.hpack.proofs.Steps.{step_of, are_steps-at, is_step-found, steps}
-use Rattle.hpack.specs.Tree.{Branch, Node, Symbol, End, branch_at, on_branch, read, with_text, is_end, StepsBy}
+use Rattle.hpack.specs.Tree.{Branch, Node, Symbol, End, branch_at, on_branch, walk, with_text, is_end, StepsBy}
 
 -- bits that follow what was read
 abbrev pub read_on : List ℕ × Branch → List Bool → List ℕ × Branch
-read_on (text, Node node) rest = with_text text (read node rest)
+read_on (text, Node node) rest = with_text text (walk node rest)
 read_on (text, Symbol symbol) rest = (text, Symbol symbol)
 read_on (text, End) rest = (text, End)
 
@@ -25,22 +25,22 @@ on_branch-append (Node node) f g rest same = same node
 on_branch-append (Symbol symbol) f g rest same = rw (same 0) (prefixed symbol (g 0) rest)
 on_branch-append End f g rest same = refl
 
-pub read-append : (node : ℕ) (front rest : List Bool) → read node (front ++ rest) ≡ read_on (read node front) rest
-unfolding read
+pub read-append : (node : ℕ) (front rest : List Bool) → walk node (front ++ rest) ≡ read_on (walk node front) rest
+unfolding walk
 read-append node [] rest = refl
-read-append node (bit ∷ front) rest = on_branch-append (branch_at node bit) (λ next. read next (front ++ rest)) (λ next. read next front) rest (λ next. read-append next front rest)
+read-append node (bit ∷ front) rest = on_branch-append (branch_at node bit) (λ next. walk next (front ++ rest)) (λ next. walk next front) rest (λ next. read-append next front rest)
 
 -- ---- steps, by the table
 
-read-nibble : (node nibble entry : ℕ) → node < 256 → nibble < 16 → entry ≡ get_or STEPS (node * 16 + nibble) 0 → read node (bits 4 nibble) ≡ step_of (entry / 256) (entry % 256)
+read-nibble : (node nibble entry : ℕ) → node < 256 → nibble < 16 → entry ≡ get_or STEPS (node * 16 + nibble) 0 → walk node (bits 4 nibble) ≡ step_of (entry / 256) (entry % 256)
 read-nibble node nibble entry n k e =
     let q : (node * 16 + nibble) / 16 ≡ node = omega arith in
     let r : (node * 16 + nibble) % 16 ≡ nibble = omega arith in
-    is_step-found (read node (bits 4 nibble)) entry (rw (zero-add, q, r, ← e) at (are_steps-at 0 STEPS (node * 16 + nibble) steps (omega arith)))
+    is_step-found (walk node (bits 4 nibble)) entry (rw (zero-add, q, r, ← e) at (are_steps-at 0 STEPS (node * 16 + nibble) steps (omega arith)))
 
 pub step_adds : (node nibble entry : ℕ) (old : List ℕ) → node < 256 → nibble < 16 → entry ≡ get_or STEPS (node * 16 + nibble) 0 → entry / 256 < 256 → StepsBy (bits 4 nibble) node old (Ok (entry % 256)) (old ++ entry / 256 ∷ [])
 step_adds node nibble entry old n k e symbol =
-    λ rest. rw (read-append node (bits 4 nibble) rest, read-nibble node nibble entry n k e, lt-ltb (entry / 256) 256 symbol) (ap (λ xs. (xs, (read (entry % 256) rest).1)) (sym (append_assoc old (entry / 256 ∷ []) (read (entry % 256) rest).0)))
+    λ rest. rw (read-append node (bits 4 nibble) rest, read-nibble node nibble entry n k e, lt-ltb (entry / 256) 256 symbol) (ap (λ xs. (xs, (walk (entry % 256) rest).1)) (sym (append_assoc old (entry / 256 ∷ []) (walk (entry % 256) rest).0)))
 
 pub step_passes : (node nibble entry : ℕ) (old : List ℕ) → node < 256 → nibble < 16 → entry ≡ get_or STEPS (node * 16 + nibble) 0 → entry / 256 ≡ 256 → StepsBy (bits 4 nibble) node old (Ok (entry % 256)) old
 step_passes node nibble entry old n k e none =

@@ -22,9 +22,9 @@ after_block (Ok read) = (Ok read.0, Good read.1)
 after_block (Err fault) = (Err fault, Broken fault)
 
 -- what a block's headers are, and where the decoder stands after it
-abbrev pub decoded : Standing → List ℕ → Result (List Header) HpackFault × Standing
-decoded (Good table) block = after_block (block_of table block)
-decoded (Broken fault) block = (Err fault, Broken fault)
+abbrev pub decode_block : Standing → List ℕ → Result (List Header) HpackFault × Standing
+decode_block (Good table) block = after_block (block_of table block)
+decode_block (Broken fault) block = (Err fault, Broken fault)
 
 -- What a call answered and left, where this was due; out of memory the decoder is broken.
 abbrev pub Decodes : Result (List Header) HpackFault → Standing → Result (List Header) HpackFault × Standing → Type 0
@@ -34,7 +34,7 @@ Decodes (Err fault) new due = (new ≡ Broken fault) × Refuses fault (due ≡ (
 -- where a decoder stands after these blocks, the last of them first
 abbrev pub standing_after : List (List ℕ) → Standing
 standing_after [] = Good first_table
-standing_after (block ∷ earlier) = (decoded (standing_after earlier) block).1
+standing_after (block ∷ earlier) = (decode_block (standing_after earlier) block).1
 
 -- a decoder stands where these blocks lead, unless memory ran out on the way
 abbrev pub StandsFor : Standing → List (List ℕ) → Type 0

@@ -4,7 +4,7 @@ use Rattle.std.specs.Bool.{MatchBool}
 use Rattle.wl_octets.specs.declared.header.Header.{Header}
 use Rattle.hpack.specs.declared.limit.TheConstants.{MAX_LIST_SIZE, MAX_TABLE_SIZE}
 use Rattle.hpack.specs.Huffman.{IsHuffman}
-use Rattle.hpack.specs.Tables.{Table, list_size, with_item, resized, entry_at}
+use Rattle.hpack.specs.Tables.{Table, list_size, with_item, with_maximum, entry_at}
 use Rattle.hpack.specs.Reading.{is_coded}
 
 -- ---- integers (section 5.1)
@@ -58,7 +58,7 @@ pub record IsLiteral (items : List Header) (full : ℕ) (bytes : List ℕ) (head
 pub data Represents (table : Table) (begun : Bool) (bytes : List ℕ) : Option Header → Table → Type 0 where
   indexed : (index : ℕ) (entry : Header) → 128 ≤ slice_index bytes 0 → IsInteger 127 bytes index → entry_at table.items index ≡ Ok entry → Represents table begun bytes (Some entry) table
   indexing : (header : Header) → 64 ≤ slice_index bytes 0 → slice_index bytes 0 < 128 → IsLiteral table.items 63 bytes header → Represents table begun bytes (Some header) (with_item table header)
-  size_update : (most : ℕ) → begun ≡ false → 32 ≤ slice_index bytes 0 → slice_index bytes 0 < 64 → IsInteger 31 bytes most → most ≤ MAX_TABLE_SIZE → Represents table begun bytes None (resized table most)
+  size_update : (most : ℕ) → begun ≡ false → 32 ≤ slice_index bytes 0 → slice_index bytes 0 < 64 → IsInteger 31 bytes most → most ≤ MAX_TABLE_SIZE → Represents table begun bytes None (with_maximum table most)
   not_indexing : (header : Header) → slice_index bytes 0 < 32 → IsLiteral table.items 15 bytes header → Represents table begun bytes (Some header) table
 
 -- ---- blocks (section 3.2)

@@ -36,13 +36,13 @@ length_of symbol = slice_index lengths symbol
 
 -- The code is canonical: the words stand by length, and of one length by symbol. A word begins where
 -- the words before it end: each of these covers as many numbers of this length as begin with it.
-unfoldable pub covered : ℕ → ℕ → ℕ → List ℕ → ℕ
-covered symbol len at [] = 0
-covered symbol len at (other ∷ others) =
-    (if nat_lt other len || (other == len && nat_lt at symbol) then 2 ^ (len - other) else 0) + covered symbol len (at + 1) others
+unfoldable pub code_offset : ℕ → ℕ → ℕ → List ℕ → ℕ
+code_offset symbol len at [] = 0
+code_offset symbol len at (other ∷ others) =
+    (if nat_lt other len || (other == len && nat_lt at symbol) then 2 ^ (len - other) else 0) + code_offset symbol len (at + 1) others
 
 unfoldable pub number_of : ℕ → ℕ
-number_of symbol = covered symbol (length_of symbol) 0 lengths
+number_of symbol = code_offset symbol (length_of symbol) 0 lengths
 
 -- the word of a symbol
 unfoldable pub word : ℕ → List Bool

@@ -7,7 +7,7 @@ use Rattle.hpack.specs.declared.fault.HpackFault.{HpackFault}
 use Rattle.hpack.specs.declared.fault.HpackFault.TheVariants as faults
 use Rattle.hpack.specs.declared.limit.TheConstants.{MAX_LIST_SIZE, MAX_TABLE_SIZE}
 use Rattle.hpack.specs.Tree.{huffman_text}
-use Rattle.hpack.specs.Tables.{Table, size_of, with_item, resized, entry_at, name_of}
+use Rattle.hpack.specs.Tables.{Table, size_of, with_item, with_maximum, entry_at, name_of}
 
 -- ---- integers (section 5.1)
 
@@ -72,7 +72,7 @@ representation_at table begun first bytes =
       Ok (Some literal.0, with_item table literal.0, literal.1))
     else if nat_le 32 first then (do
       most ← integer_at 31 bytes
-      if begun || nat_lt MAX_TABLE_SIZE most.0 then Err faults.SizeUpdate else Ok (None, resized table most.0, most.1))
+      if begun || nat_lt MAX_TABLE_SIZE most.0 then Err faults.SizeUpdate else Ok (None, with_maximum table most.0, most.1))
     else (do
       literal ← literal_at table.items 15 bytes
       Ok (Some literal.0, table, literal.1))

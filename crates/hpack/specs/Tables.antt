@@ -96,20 +96,20 @@ list_size [] = 0
 list_size (header ∷ headers) = size_of header + list_size headers
 
 -- the newest entries that fit: the others are evicted
-unfoldable pub fitting : ℕ → List Header → List Header
-fitting room [] = []
-fitting room (header ∷ headers) = if nat_lt room (size_of header) then [] else header ∷ fitting (room - size_of header) headers
+unfoldable pub evict_to_fit : ℕ → List Header → List Header
+evict_to_fit room [] = []
+evict_to_fit room (header ∷ headers) = if nat_lt room (size_of header) then [] else header ∷ evict_to_fit (room - size_of header) headers
 
 -- an entry is added in front; one that is too large empties the table
 abbrev pub with_item : Table → Header → Table
-with_item table header = record table { items = fitting table.most (header ∷ table.items) }
+with_item table header = record table { items = evict_to_fit table.most (header ∷ table.items) }
 
-abbrev pub resized : Table → ℕ → Table
-resized table most = record { items = fitting most table.items; most = most }
+abbrev pub with_maximum : Table → ℕ → Table
+with_maximum table most = record { items = evict_to_fit most table.items; most = most }
 
 abbrev pub found : Option Header → Result Header HpackFault
-found None = Err faults.Index
-found (Some header) = Ok header
+entry_or_fault None = Err faults.Index
+entry_or_fault (Some header) = Ok header
 
 abbrev pub name_of : Result Header HpackFault → Result (List ℕ) HpackFault
 name_of (Ok header) = Ok header.name
@@ -117,7 +117,7 @@ name_of (Err fault) = Err fault
 
 -- the entry at an index, which counts from 1: the static table, and the dynamic one behind it
 unfoldable pub entry_at : List Header → ℕ → Result Header HpackFault
-entry_at items index = if index == 0 then Err faults.Index else found (slice_get (static_table ++ items) (index - 1))
+entry_at items index = if index == 0 then Err faults.Index else entry_or_fault (slice_get (static_table ++ items) (index - 1))
 
 -- a table holds no more than its maximum, which is at most 4,096
 abbrev pub IsWithin : Table → Type 0

@@ -66,8 +66,8 @@ on_branch End go_on = ([], End)
 
 -- the text that the bits spell from a node on, and where they end
 unfoldable pub read : ℕ → List Bool → List ℕ × Branch
-read node [] = ([], Node node)
-read node (bit ∷ bits) = on_branch (branch_at node bit) (λ next. read next bits)
+walk node [] = ([], Node node)
+walk node (bit ∷ bits) = on_branch (branch_at node bit) (λ next. walk next bits)
 
 -- a text may end at the nodes that fewer than eight ones lead to
 abbrev pub is_end : Branch → Bool
@@ -79,7 +79,7 @@ abbrev pub text_of : List ℕ × Branch → Result (List ℕ) HpackFault
 text_of found = if is_end found.1 then Ok found.0 else Err faults.Padding
 
 unfoldable pub huffman_text : List ℕ → Result (List ℕ) HpackFault
-huffman_text bytes = text_of (read 0 (bits_of bytes))
+huffman_text bytes = text_of (walk 0 (bits_of bytes))
 
 -- ---- step by step
 
@@ -89,5 +89,5 @@ with_text text found = (text ++ found.0, found.1)
 
 -- Some bits lead from a node to the next, whatever follows them, and add to the text; or no text begins with them.
 abbrev pub StepsBy : List Bool → ℕ → List ℕ → Result ℕ HpackFault → List ℕ → Type 0
-StepsBy front node old (Ok next) new = (rest : List Bool) → with_text old (read node (front ++ rest)) ≡ with_text new (read next rest)
-StepsBy front node old (Err fault) new = IsPaddingFault fault ((rest : List Bool) → is_end (read node (front ++ rest)).1 ≡ false)
+StepsBy front node old (Ok next) new = (rest : List Bool) → with_text old (walk node (front ++ rest)) ≡ with_text new (walk next rest)
+StepsBy front node old (Err fault) new = IsPaddingFault fault ((rest : List Bool) → is_end (walk node (front ++ rest)).1 ≡ false)

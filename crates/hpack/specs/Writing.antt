@@ -33,18 +33,18 @@ abbrev pub NoNameBelow : Header → ℕ → Type 0
 NoNameBelow header end = (place : ℕ) → place < end → same_name header (slice_index_or static_table place no_field) ≡ false
 
 -- the first static entry of that name, or 0 and the name
-abbrev pub spelled_name : Header → Option ℕ → List ℕ
-spelled_name header (Some place) = integer_bytes 0 15 (place + 1)
-spelled_name header None = 0 ∷ plain_string header.name
+abbrev pub name_bytes : Header → Option ℕ → List ℕ
+name_bytes header (Some place) = integer_bytes 0 15 (place + 1)
+name_bytes header None = 0 ∷ plain_string header.name
 
 -- the first static entry that is the header, or a literal
-abbrev pub spelled_field : Header → Option ℕ → List ℕ
-spelled_field header (Some place) = integer_bytes 128 127 (place + 1)
-spelled_field header None = spelled_name header (position (same_name header) static_table) ++ plain_string header.value
+abbrev pub field_bytes_at : Header → Option ℕ → List ℕ
+field_bytes_at header (Some place) = integer_bytes 128 127 (place + 1)
+field_bytes_at header None = name_bytes header (position (same_name header) static_table) ++ plain_string header.value
 
 unfoldable pub spelled : Header → List ℕ
-spelled header = spelled_field header (position (same_field header) static_table)
+field_bytes header = field_bytes_at header (position (same_field header) static_table)
 
 -- the block of some headers
-abbrev pub spelled_block : List Header → List ℕ
-spelled_block headers = flat_map spelled headers
+abbrev pub block_bytes : List Header → List ℕ
+block_bytes headers = flat_map field_bytes headers

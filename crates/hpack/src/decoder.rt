@@ -5,7 +5,7 @@ ghost use Rattle.std.specs.Prelude.{◌≡◌, [], List, ℕ, ◌∷◌, Err, If
 ghost use Rattle.hpack.specs.declared.fault.HpackFault.{HpackFault};
 ghost use Rattle.hpack.specs.Tables.{first_table};
 ghost use Rattle.hpack.specs.Outcomes.{Refuses};
-ghost use Rattle.hpack.specs.Decoding.{Standing, Good, Broken, standing_of, decoded, Decodes, StandsFor, IsBounded, Reads, ReadsAlone, IsNoBlock};
+ghost use Rattle.hpack.specs.Decoding.{Standing, Good, Broken, standing_of, decode_block, Decodes, StandsFor, IsBounded, Reads, ReadsAlone, IsNoBlock};
 
 use crate::blocks::headers;
 use crate::dynamic_table::DynamicTable;
@@ -42,7 +42,7 @@ impl Decoder {
 
     /// Goes on by one block.
     fn advance(&mut self, alloc: Global, block: &[u8]) -> Result<Row<Header>, HpackFault>
-        ensures step { Decodes result self.new (decoded self.old block.now) }
+        ensures step { Decodes result self.new (decode_block self.old block.now) }
         ensures again { (fault : HpackFault) → self.old ≡ Broken fault → (result ≡ Err fault) × (self.new ≡ Broken fault) }
         ensures bounded { IsBounded self.new }
     {
@@ -65,7 +65,7 @@ impl Decoder {
     /// later call answers it again.
     pub fn block(&mut self, alloc: Global, block: &[u8]) -> Result<Row<Header>, HpackFault>
         // It is one step, and it fails for good.
-        ensures step { Decodes result self.new (decoded self.old block.now) }
+        ensures step { Decodes result self.new (decode_block self.old block.now) }
         ensures again { (fault : HpackFault) → self.old ≡ Broken fault → (result ≡ Err fault) × (self.new ≡ Broken fault) }
         // What is read is a block of the standard, and as such nothing else; what is refused is none.
         ensures found { IfOk result (λ headers. Reads self.old block.now headers self.new) }

@@ -3,7 +3,7 @@
 
 ghost use Rattle.std.specs.Prelude.{◌≡◌, ◌≤◌, ◌<◌, OnOk};
 ghost use Rattle.hpack.specs.declared.limit.TheConstants.{MAX_TABLE_SIZE};
-ghost use Rattle.hpack.specs.Tables.{Table, first_table, size_of, list_size, fitting, with_item, resized, entry_at, name_of, IsWithin};
+ghost use Rattle.hpack.specs.Tables.{Table, first_table, size_of, list_size, evict_to_fit, with_item, with_maximum, entry_at, name_of, IsWithin};
 ghost use Rattle.hpack.specs.Outcomes.{Gives};
 
 use crate::fault::HpackFault;
@@ -24,7 +24,7 @@ pub(crate) fn size(header: &Header) -> u128
 /// Evicts the oldest headers until the others, whose sizes sum to the answer, fit into the room.
 fn evict(items: &mut VecDeque<Header>, size_before: u32, room: u32) -> u32
     requires { size_before ≡ list_size items.old.items }
-    ensures items { items.new.items ≡ fitting room items.old.items }
+    ensures items { items.new.items ≡ evict_to_fit room items.old.items }
     ensures size { result ≡ list_size items.new.items }
     ensures fits { result ≤ room }
 {
@@ -83,7 +83,7 @@ impl DynamicTable {
     /// Sets the maximum size, and evicts what is past it (section 4.3).
     pub fn resize(&mut self, most: u32)
         requires { most ≤ MAX_TABLE_SIZE }
-        ensures { self.new ≡ resized self.old most }
+        ensures { self.new ≡ with_maximum self.old most }
     {
         self.total = evict(&mut self.items, self.total, most);
         self.most = most;

@@ -7,7 +7,7 @@ ghost use Rattle.hpack.specs.declared.limit.TheConstants.{MAX_LIST_SIZE};
 ghost use Rattle.hpack.specs.Tables.{Table, list_size, static_table};
 ghost use Rattle.hpack.specs.Reading.{block_of};
 ghost use Rattle.hpack.specs.Grammar.{IsBlock};
-ghost use Rattle.hpack.specs.Writing.{more_bytes, integer_bytes, plain_string, same_field, same_name, NoNameBelow, spelled, spelled_block};
+ghost use Rattle.hpack.specs.Writing.{more_bytes, integer_bytes, plain_string, same_field, same_name, NoNameBelow, field_bytes, block_bytes};
 
 use crate::static_table::{COUNT, static_name, static_value};
 use std::alloc::Global;
@@ -79,9 +79,9 @@ fn find_field(header: &Header, from: usize) -> Option<usize>
 }
 
 /// Appends the encoding of a header.
-#[tactic(auto, unfolding(crate::specs::Writing::spelled))]
+#[tactic(auto, unfolding(crate::specs::Writing::field_bytes))]
 fn put_header(out: &mut Vec<u8>, header: &Header) -> Result<(), Memory>
-    ensures { OnOk result (out.new.items ≡ out.old.items ++ spelled header.now) }
+    ensures { OnOk result (out.new.items ≡ out.old.items ++ field_bytes header.now) }
 {
     let Some(name) = find_name(header) else {
         out.push(0)?;
@@ -113,7 +113,7 @@ fn most_bytes(headers: &[Header]) -> usize {
 /// Where the headers' sizes sum to at most 16,384, a decoder reads it as these headers, whatever its table, and its table stays;
 /// and it takes at most 16,383 bytes.
 pub fn encode_plain(alloc: Global, headers: &[Header]) -> Result<Octets, Memory>
-    ensures spelled { IfOk result (λ block. block ≡ spelled_block headers.now) }
+    ensures spelled { IfOk result (λ block. block ≡ block_bytes headers.now) }
     ensures readable { IfOk result (λ block. list_size headers.now ≤ MAX_LIST_SIZE → (table : Table) → IsBlock table block headers.now table) }
     ensures small { IfOk result (λ block. list_size headers.now ≤ MAX_LIST_SIZE → length block < MAX_LIST_SIZE) }
     ensures read_again { IfOk result (λ block. list_size headers.now ≤ MAX_LIST_SIZE → (table : Table) → block_of table block ≡ Ok (headers.now, table)) }

@@ -3,12 +3,12 @@ use Rattle.std.proofs.Common.{◌≡◌, ℕ, ◌==◌, Bool, true, false, if◌
 use Rattle.std.proofs.lemmas.List.{append-nil}
 use Rattle.h2_frame.specs.declared.fault.FrameFault.{FrameFault}
 use Rattle.h2_frame.specs.declared.frame.Frame.{Frame}
-use Rattle.h2_frame.specs.Reading.{End, Opening, Rest, Fault, Reading, read_on, resumed}
+use Rattle.h2_frame.specs.Reading.{End, Opening, Rest, Fault, Reading, read_on, reading_from}
 use Rattle.h2_frame.proofs.Cuts.{reads_on}
 use Rattle.h2_conn.specs.declared.fault.ConnFault.{ConnFault}
 use Rattle.h2_conn.specs.declared.phase.Phase.{Phase}
 use Rattle.h2_conn.specs.declared.phase.Phase.TheVariants.{Open, Failed, OutOfMemory}
-use Rattle.h2_conn.specs.Conns.{flushed, frame_fault_on, after_frame_fault}
+use Rattle.h2_conn.specs.Conns.{flush_of, frame_fault_on, after_frame_fault}
 use Rattle.h2_conn.proofs.Results.{flushes_once}
 use Rattle.grpc_wire.specs.declared.refusal.Refusal.TheVariants.{UnknownService}
 use Rattle.wl_health.specs.Messages.{spell_state}
@@ -50,14 +50,14 @@ ended_then (Fault why) s f = sym (then_assoc s f (break_said why))
 open_on : (fs gs : List Frame) (x : End) (t : Talking) → ended_by x (frames_said (fs ++ gs) t) ≡ then_ (frames_said fs t) (λ u. ended_by x (frames_said gs u))
 open_on fs gs x t = ap (ended_by x) (said_on fs gs t) ∙ ended_then x (frames_said fs t) (frames_said gs)
 
-broken_phase : (why : FrameFault) (p : Phase) → after_frame_fault why (flushed (after_frame_fault why p)).after ≡ (flushed (after_frame_fault why p)).after
-unfolding flushed
+broken_phase : (why : FrameFault) (p : Phase) → after_frame_fault why (flush_of (after_frame_fault why p)).after ≡ (flush_of (after_frame_fault why p)).after
+unfolding flush_of
 broken_phase why (Open q) = refl
 broken_phase why (Failed fault left totals) = refl
 broken_phase why (OutOfMemory totals) = refl
 
-broken_fault : (why : FrameFault) (p : Phase) → first_of (frame_fault_on why p) (frame_fault_on why (flushed (after_frame_fault why p)).after) ≡ frame_fault_on why p
-unfolding flushed
+broken_fault : (why : FrameFault) (p : Phase) → first_of (frame_fault_on why p) (frame_fault_on why (flush_of (after_frame_fault why p)).after) ≡ frame_fault_on why p
+unfolding flush_of
 broken_fault why (Open q) = refl
 broken_fault why (Failed fault left totals) = refl
 broken_fault why (OutOfMemory totals) = refl
@@ -67,7 +67,7 @@ broke_quiet : (why : FrameFault) (u : Talking) → IsQuiet u → after_frame_fau
 unfolding break_said
 broke_quiet why u q is = ap (λ (p : Phase). written (frame_fault_on why u.phase) (record u { phase = p })) is ∙ quiet_writes (frame_fault_on why u.phase) u q
 
-broke_after : (why : FrameFault) (t : Talking) → break_said why (break_said why t).after ≡ record { after = (break_said why t).after; bytes = []; fault = frame_fault_on why (flushed (after_frame_fault why t.phase)).after }
+broke_after : (why : FrameFault) (t : Talking) → break_said why (break_said why t).after ≡ record { after = (break_said why t).after; bytes = []; fault = frame_fault_on why (flush_of (after_frame_fault why t.phase)).after }
 unfolding break_said written
 broke_after why t = broke_quiet why _ (written_quiet (frame_fault_on why t.phase) (record t { phase = after_frame_fault why t.phase })) (broken_phase why t.phase)
 
@@ -75,7 +75,7 @@ broke_twice : (why : FrameFault) (t : Talking) → then_ (break_said why t) (bre
 unfolding break_said written
 broke_twice why t =
     ap (λ (r : Said). record { after = r.after; bytes = (break_said why t).bytes ++ r.bytes; fault = first_of (break_said why t).fault r.fault }) (broke_after why t)
-    ∙ (ap (λ (xs : List ℕ). record { after = (break_said why t).after; bytes = xs; fault = first_of (break_said why t).fault (frame_fault_on why (flushed (after_frame_fault why t.phase)).after) }) (append-nil (break_said why t).bytes)
+    ∙ (ap (λ (xs : List ℕ). record { after = (break_said why t).after; bytes = xs; fault = first_of (break_said why t).fault (frame_fault_on why (flush_of (after_frame_fault why t.phase)).after) }) (append-nil (break_said why t).bytes)
     ∙ ap (λ (f : Option ConnFault). record { after = (break_said why t).after; bytes = (break_said why t).bytes; fault = f }) (broken_fault why t.phase))
 
 broke_again : (why : FrameFault) (s : Said) → then_ (then_ s (break_said why)) (break_said why) ≡ then_ s (break_said why)
@@ -83,18 +83,18 @@ broke_again why s =
     sym (then_assoc s (break_said why) (break_said why))
     ∙ ap (λ (r : Said). record { after = r.after; bytes = s.bytes ++ r.bytes; fault = first_of s.fault r.fault }) (broke_twice why s.after)
 
-fault_by : (fs : List Frame) (why : FrameFault) (b : List ℕ) (t : Talking) → feed_said (read_on (record { frames = fs; ending = Fault why }) b) t ≡ then_ (feed_said (record { frames = fs; ending = Fault why }) t) (feed_said (resumed (Fault why) b))
-unfolding feed_said resumed frames_said
+fault_by : (fs : List Frame) (why : FrameFault) (b : List ℕ) (t : Talking) → feed_said (read_on (record { frames = fs; ending = Fault why }) b) t ≡ then_ (feed_said (record { frames = fs; ending = Fault why }) t) (feed_said (reading_from (Fault why) b))
+unfolding feed_said reading_from frames_said
 fault_by fs why b t = ap (λ (xs : List Frame). then_ (frames_said xs t) (break_said why)) (append-nil fs) ∙ sym (broke_again why (frames_said fs t))
 
-fed_by : (fs : List Frame) (x : End) (b : List ℕ) (t : Talking) → feed_said (read_on (record { frames = fs; ending = x }) b) t ≡ then_ (feed_said (record { frames = fs; ending = x }) t) (feed_said (resumed x b))
+fed_by : (fs : List Frame) (x : End) (b : List ℕ) (t : Talking) → feed_said (read_on (record { frames = fs; ending = x }) b) t ≡ then_ (feed_said (record { frames = fs; ending = x }) t) (feed_said (reading_from x b))
 unfolding feed_said
-fed_by fs (Opening left) b t = open_on fs (resumed (Opening left) b).frames (resumed (Opening left) b).ending t
-fed_by fs (Rest rest) b t = open_on fs (resumed (Rest rest) b).frames (resumed (Rest rest) b).ending t
+fed_by fs (Opening left) b t = open_on fs (reading_from (Opening left) b).frames (reading_from (Opening left) b).ending t
+fed_by fs (Rest rest) b t = open_on fs (reading_from (Rest rest) b).frames (reading_from (Rest rest) b).ending t
 fed_by fs (Fault why) b t = fault_by fs why b t
 
-pub cut_anywhere : (e : End) (a b : List ℕ) (t : Talking) → feed_said (resumed e (a ++ b)) t ≡ then_ (feed_said (resumed e a) t) (feed_said (resumed (resumed e a).ending b))
-cut_anywhere e a b t = ap (λ (r : Reading). feed_said r t) (reads_on e a b) ∙ fed_by (resumed e a).frames (resumed e a).ending b t
+pub cut_anywhere : (e : End) (a b : List ℕ) (t : Talking) → feed_said (reading_from e (a ++ b)) t ≡ then_ (feed_said (reading_from e a) t) (feed_said (reading_from (reading_from e a).ending b))
+cut_anywhere e a b t = ap (λ (r : Reading). feed_said r t) (reads_on e a b) ∙ fed_by (reading_from e a).frames (reading_from e a).ending b t
 
 -- ---- turns
 

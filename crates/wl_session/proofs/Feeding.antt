@@ -5,7 +5,7 @@ use Rattle.list_laws.specs.Lists.{GainsFront}
 use Rattle.list_laws.proofs.Fronts.{gains_before, gains_after}
 use Rattle.h2_frame.specs.declared.fault.FrameFault.{FrameFault}
 use Rattle.h2_frame.specs.declared.frame.Frame.{Frame}
-use Rattle.h2_frame.specs.Reading.{End, Opening, Rest, Fault, IsOpen, Reading, resumed}
+use Rattle.h2_frame.specs.Reading.{End, Opening, Rest, Fault, IsOpen, Reading, reading_from}
 use Rattle.h2_conn.specs.Kinds.{Fits}
 use Rattle.h2_conn.proofs.Fitting.{frames_fit}
 use Rattle.wl_session.specs.Talks.{Talking, Said, then_, frames_said, break_said}
@@ -58,7 +58,7 @@ pub break_front : (r : Reading) (t : Talking) (why : FrameFault) (old mid new : 
 break_front r t why old mid new is came gained =
     rw (said_fault r t why is) (gains_after (frames_said r.frames t).bytes (break_said why (frames_said r.frames t).after).bytes old mid new came gained)
 
-pub fed_fit : (e : End) (bytes : List ℕ) (frames : List Frame) → frames ≡ (resumed e bytes).frames → AllByRecursion Fits frames
+pub fed_fit : (e : End) (bytes : List ℕ) (frames : List Frame) → frames ≡ (reading_from e bytes).frames → AllByRecursion Fits frames
 fed_fit e bytes frames is = rw is (frames_fit e bytes)
 
 -- what the fault writes stands behind what the frames wrote

@@ -10,7 +10,7 @@ use Rattle.h2_conn.specs.declared.phase.Phase.{Phase}
 use Rattle.h2_conn.specs.declared.phase.Phase.TheVariants.{Open, Failed, OutOfMemory}
 use Rattle.h2_conn.specs.declared.state.State.{State}
 use Rattle.h2_conn.specs.Peer.{Outcome, goes, fails, peer}
-use Rattle.h2_conn.specs.Conns.{heard, heard_of, flushed}
+use Rattle.h2_conn.specs.Conns.{frame_result, result_of, flush_of}
 use Rattle.wl_session.specs.Talks.{Talking, Said, first_of, then_, silent, greeting, written, frame_said, frames_said, after_happening, after_happenings}
 
 pub first_assoc : (f g h : Option ConnFault) → first_of f (first_of g h) ≡ first_of (first_of f g) h
@@ -61,13 +61,13 @@ pub happened_more : (hs : List Happening) (h : Happening) (t : Talking) → afte
 happened_more [] h t = refl
 happened_more (g ∷ hs) h t = happened_more hs h (after_happening g t)
 
-outcome_tells_nothing : (q : State) (o : Outcome) (f : ConnFault) → (heard_of q o).fault ≡ Some f → (heard_of q o).told ≡ []
+outcome_tells_nothing : (q : State) (o : Outcome) (f : ConnFault) → (result_of q o).fault ≡ Some f → (result_of q o).told ≡ []
 outcome_tells_nothing q (goes next told) f is = absurd (cc is)
 outcome_tells_nothing q (fails control g) f is = refl
 
 -- a frame with which the connection fails tells nothing
-pub faults_tell_nothing : (p : Phase) (frame : Frame) (f : ConnFault) → (heard p frame).fault ≡ Some f → (heard p frame).told ≡ []
-unfolding heard
+pub faults_tell_nothing : (p : Phase) (frame : Frame) (f : ConnFault) → (frame_result p frame).fault ≡ Some f → (frame_result p frame).told ≡ []
+unfolding frame_result
 faults_tell_nothing (Open q) frame f is = outcome_tells_nothing q (peer q frame) f is
 faults_tell_nothing (Failed g left totals) frame f is = refl
 faults_tell_nothing (OutOfMemory totals) frame f is = refl
@@ -79,9 +79,9 @@ written_fault fault t = refl
 -- part of the greeting is part of what is due
 pub greet_front : (fault : Option ConnFault) (t : Talking) (old new : List ℕ) → GainsFront (greeting t.greeted) old new → GainsFront (written fault t).bytes old new
 unfolding written
-greet_front fault t old new gained = gains_before (greeting t.greeted) (flushed t.phase).bytes old new gained
+greet_front fault t old new gained = gains_before (greeting t.greeted) (flush_of t.phase).bytes old new gained
 
 -- part of what may be written, behind the greeting, is part of what is due
-pub flush_front : (fault : Option ConnFault) (t : Talking) (old mid new : List ℕ) → mid ≡ old ++ greeting t.greeted → GainsFront (flushed t.phase).bytes mid new → GainsFront (written fault t).bytes old new
+pub flush_front : (fault : Option ConnFault) (t : Talking) (old mid new : List ℕ) → mid ≡ old ++ greeting t.greeted → GainsFront (flush_of t.phase).bytes mid new → GainsFront (written fault t).bytes old new
 unfolding written
-flush_front fault t old mid new came gained = gains_after (greeting t.greeted) (flushed t.phase).bytes old mid new came gained
+flush_front fault t old mid new came gained = gains_after (greeting t.greeted) (flush_of t.phase).bytes old mid new came gained

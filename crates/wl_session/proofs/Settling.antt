@@ -23,9 +23,9 @@ use Rattle.h2_conn.specs.declared.happening.Happening.{Happening}
 use Rattle.h2_conn.specs.declared.happening.Happening.TheVariants as happening
 use Rattle.h2_conn.specs.declared.phase.Phase.{Phase}
 use Rattle.h2_conn.specs.declared.phase.Phase.TheVariants.{Open}
-use Rattle.h2_flow.specs.Outboxes.{pulled}
+use Rattle.h2_flow.specs.Outboxes.{pull_of}
 use Rattle.h2_flow.specs.Pulls.{all_rounds, rounds, round}
-use Rattle.h2_conn.specs.Conns.{fresh, heard, flushed, after_pull, frame_fault_on, after_frame_fault}
+use Rattle.h2_conn.specs.Conns.{new_state, frame_result, flush_of, after_pull, frame_fault_on, after_frame_fault}
 use Rattle.grpc_conn.specs.declared.event.CallEvent.{CallEvent}
 use Rattle.grpc_conn.specs.declared.event.CallEvent.TheVariants.{Nothing, Malformed, Refuse}
 use Rattle.grpc_conn.specs.declared.event.CallEvent.TheVariants as events
@@ -80,7 +80,7 @@ happenings_were x (h ∷ hs) t were = happenings_were x hs (after_happening h t)
 
 frame_were : (x : Publication) (f : Frame) (t : Talking) → WereSeen x t.served → WereSeen x (after_frame f t).served
 unfolding after_frame
-frame_were x f t were = happenings_were x (heard t.phase f).told (record t { phase = (heard t.phase f).after }) were
+frame_were x f t were = happenings_were x (frame_result t.phase f).told (record t { phase = (frame_result t.phase f).after }) were
 
 -- what is written behind an item leaves nothing to be written
 pub settled_writing : (shown : Option Publication) (number : Option ℕ) (fault : Option ConnFault) (old t : Talking) → SettledOn shown number old → ((x : Publication) → WereSeen x old.served → WereSeen x t.served) → SettledOn shown number (written fault t).after
@@ -90,7 +90,7 @@ settled_writing (Some x) number fault old t settled were = (settled.0, refl, (wr
 
 settled_frame : (shown : Option Publication) (number : Option ℕ) (f : Frame) (t : Talking) → SettledOn shown number t → SettledOn shown number (frame_said f t).after
 unfolding frame_said
-settled_frame shown number f t settled = settled_writing shown number (heard t.phase f).fault t (after_frame f t) settled (λ x were. frame_were x f t were)
+settled_frame shown number f t settled = settled_writing shown number (frame_result t.phase f).fault t (after_frame f t) settled (λ x were. frame_were x f t were)
 
 pub settled_frames : (shown : Option Publication) (number : Option ℕ) (fs : List Frame) (t : Talking) → SettledOn shown number t → SettledOn shown number (frames_said fs t).after
 unfolding frames_said
@@ -187,8 +187,8 @@ unfolding name_first change_first
 name_phase sel cs p = changed_phase sel _ _ p
 
 moved_settled : (shown : Option Publication) (number : Option ℕ) (t : Talking) (r : Turned) → r.phase ≡ t.phase → ((x : Publication) → WereSeen x t.served → WereSeen x r.kept) → SettledOn shown number t → SettledOn shown number (with_turned t r)
-moved_settled None number t r same were settled = (settled.0, subst (λ (p : Phase). flushed p ≡ record { bytes = []; after = p }) (sym same) settled.1)
-moved_settled (Some x) number t r same were settled = (settled.0, settled.1, subst (λ (p : Phase). flushed p ≡ record { bytes = []; after = p }) (sym same) settled.2, were x settled.3)
+moved_settled None number t r same were settled = (settled.0, subst (λ (p : Phase). flush_of p ≡ record { bytes = []; after = p }) (sym same) settled.1)
+moved_settled (Some x) number t r same were settled = (settled.0, settled.1, subst (λ (p : Phase). flush_of p ≡ record { bytes = []; after = p }) (sym same) settled.2, were x settled.3)
 
 pub settled_name : (shown : Option Publication) (number : Option ℕ) (sel : Option (List (List ℕ))) (t : Talking) → SettledOn shown number t → SettledOn shown number (name_said sel t).after
 unfolding name_said
@@ -259,8 +259,8 @@ settled_feed shown number r t none settled = go r.ending none
     go (Fault why) is = settled_break shown number why (frames_said r.frames t).after (settled_frames shown number r.frames t settled)
 
 -- a connection of which nothing came has nothing to write
-pub fresh_quiet : flushed (Open fresh) ≡ record { bytes = []; after = Open fresh }
-unfolding flushed pulled after_pull all_rounds rounds round
+pub fresh_quiet : flush_of (Open new_state) ≡ record { bytes = []; after = Open new_state }
+unfolding flush_of pull_of after_pull all_rounds rounds round
 fresh_quiet = refl
 
 pub settled_fresh : SettledOn None None fresh_talk

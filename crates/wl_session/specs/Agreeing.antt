@@ -1,6 +1,6 @@
 -- Publications that a talk cannot tell apart, and those that show it nothing new.
 use Rattle.std.specs.Prelude.{◌≡◌, true, List, [], ◌∷◌}
-use Rattle.h2_conn.specs.Conns.{flushed}
+use Rattle.h2_conn.specs.Conns.{flush_of}
 use Rattle.wl_snapshot.specs.Snapshots.{Publication}
 use Rattle.wl_snapshot.specs.Views.{view_in}
 use Rattle.wl_session.specs.declared.served.Stage.{Stage}
@@ -32,4 +32,4 @@ HaveSeen x (c ∷ cs) = HasSeen x c.stage × HaveSeen x cs
 -- this side's SETTINGS were written, and nothing more may be written
 pub record IsQuiet (t : Talking) : Type 0 where
   pub greeted : t.greeted ≡ true
-  pub quiet : flushed t.phase ≡ record { bytes = []; after = t.phase }
+  pub quiet : flush_of t.phase ≡ record { bytes = []; after = t.phase }

@@ -1,9 +1,9 @@
 -- What a ready call is answered on a view (own rules after the SPIRE agent; gRPC over HTTP/2, Responses).
 use Rattle.std.specs.Prelude.{◌≡◌, ℕ, ◌==◌, Bool, true, false, not, if◌then◌else◌, List, [], ◌∷◌, ◌++◌, length, Option, Some, None, Result, Ok, Err}
 use Rattle.wl_octets.specs.declared.memory.Memory.{Memory}
-use Rattle.hpack.specs.Writing.{spelled_block}
+use Rattle.hpack.specs.Writing.{block_bytes}
 use Rattle.h2_conn.specs.declared.phase.Phase.{Phase}
-use Rattle.h2_conn.specs.Conns.{on_open, headed_on, finished_on, offers, withdraws}
+use Rattle.h2_conn.specs.Conns.{on_open, with_head_on, with_trailers_on, offers, withdraws}
 use Rattle.grpc_wire.specs.Messages.{framed}
 use Rattle.grpc_wire.specs.Answers.{response_fields, trailer_fields, refused_fields}
 use Rattle.grpc_wire.specs.declared.refusal.Refusal.{Refusal}
@@ -29,7 +29,7 @@ use Rattle.wl_session.specs.Kinds.{was_seen}
 
 -- the response head, once
 unfoldable pub with_head : ℕ → Bool → Phase → Phase
-with_head n headed p = if headed then p else on_open (headed_on n (spelled_block response_fields)) p
+with_head n headed p = if headed then p else on_open (with_head_on n (block_bytes response_fields)) p
 
 -- a message is offered behind the head
 unfoldable pub with_message : ℕ → Bool → List ℕ → Phase → Phase
@@ -37,11 +37,11 @@ with_message n headed m p = offers n (framed m) (with_head n headed p)
 
 -- the one message, and status 0
 unfoldable pub with_last_message : ℕ → Bool → List ℕ → Phase → Phase
-with_last_message n headed m p = on_open (finished_on n (spelled_block (trailer_fields 0 [] false))) (with_message n headed m p)
+with_last_message n headed m p = on_open (with_trailers_on n (block_bytes (trailer_fields 0 [] false))) (with_message n headed m p)
 
 -- a stream that ends with a refusal has no waiting message; without a response head it is one Trailers-Only frame
 unfoldable pub with_refusal : ℕ → Bool → Refusal → Phase → Phase
-with_refusal n headed r p = on_open (finished_on n (spelled_block (refused_fields r (not headed)))) (withdraws n p)
+with_refusal n headed r p = on_open (with_trailers_on n (block_bytes (refused_fields r (not headed)))) (withdraws n p)
 
 -- ---- one call
 

@@ -2,7 +2,7 @@
 use Rattle.std.specs.Prelude.{◌≡◌, ℕ, ◌==◌, ◌&&◌, Bool, false, List, ◌++◌, Option, Some, None, Result, Ok, Err}
 use Rattle.list_laws.specs.Lists.{GainsFront}
 use Rattle.h2_frame.specs.declared.fault.FrameFault.{FrameFault}
-use Rattle.h2_frame.specs.Reading.{End, Opening, Rest, Fault, Reading, preface, resumed}
+use Rattle.h2_frame.specs.Reading.{End, Opening, Rest, Fault, Reading, preface, reading_from}
 use Rattle.h2_conn.specs.declared.fault.ConnFault.{ConnFault}
 use Rattle.h2_conn.specs.Conns.{is_going, live_on, begun_on}
 use Rattle.wl_snapshot.specs.Snapshots.{Publication}
@@ -79,7 +79,7 @@ Says e x due (Err faults.Memory) old now new = GainsFront due.bytes old now × (
 
 -- a session that has failed has one answer
 abbrev pub Feeds : List ℕ → SessionState → Result (Unit {0}) SessionFault → List ℕ → List ℕ → SessionState → Type 0
-Feeds piece (Running e t x) r old now new = Says (resumed e piece).ending x (feed_said (resumed e piece) t) r old now new
+Feeds piece (Running e t x) r old now new = Says (reading_from e piece).ending x (feed_said (reading_from e piece) t) r old now new
 Feeds piece (Fallen f begun) r old now new = (r ≡ Err (faults.Protocol f)) × (now ≡ old) × (new ≡ Fallen f begun)
 Feeds piece OutOfMemory r old now new = (r ≡ Err faults.Memory) × (now ≡ old) × (new ≡ OutOfMemory)
 

@@ -1,6 +1,6 @@
 -- What holds of a session between its calls.
 use Rattle.std.specs.Prelude.{◌≡◌, ℕ, ◌≤◌, ◌==◌, Bool, true, false, List, [], ◌∷◌, Option, Some, None}
-use Rattle.h2_conn.specs.Conns.{flushed}
+use Rattle.h2_conn.specs.Conns.{flush_of}
 use Rattle.wl_snapshot.specs.Same.{same_sight}
 use Rattle.wl_snapshot.specs.Snapshots.{Publication}
 use Rattle.wl_snapshot.specs.Views.{Sight, view_in}
@@ -41,8 +41,8 @@ WereSeen x (c ∷ cs) = WasSeen x c.stage × WereSeen x cs
 -- nothing more may be written; and, once a turn was taken, this side's SETTINGS were, and what was answered was answered on
 -- the last turn's publication
 abbrev pub SettledOn : Option Publication → Option ℕ → Talking → Type 0
-SettledOn None number t = (number ≡ None) × (flushed t.phase ≡ record { bytes = []; after = t.phase })
-SettledOn (Some x) number t = (number ≡ Some x.number) × (t.greeted ≡ true) × (flushed t.phase ≡ record { bytes = []; after = t.phase }) × WereSeen x t.served
+SettledOn None number t = (number ≡ None) × (flush_of t.phase ≡ record { bytes = []; after = t.phase })
+SettledOn (Some x) number t = (number ≡ Some x.number) × (t.greeted ≡ true) × (flush_of t.phase ≡ record { bytes = []; after = t.phase }) × WereSeen x t.served
 
 abbrev pub IsSettled : Option SessionFault → Option Publication → Option ℕ → Talking → Type 0
 IsSettled None shown number t = SettledOn shown number t

@@ -4,13 +4,13 @@ use Rattle.h2_wire.specs.declared.setting.TheConstants.{MAX_CONCURRENT_STREAMS, 
 use Rattle.h2_frame.specs.declared.fault.FrameFault.{FrameFault}
 use Rattle.h2_frame.specs.declared.frame.Frame.{Frame}
 use Rattle.h2_frame.specs.declared.frame.Body.TheVariants as bodies
-use Rattle.h2_frame.specs.Writing.{spelling}
+use Rattle.h2_frame.specs.Writing.{frame_encoding}
 use Rattle.h2_conn.specs.declared.fault.ConnFault.{ConnFault}
 use Rattle.h2_conn.specs.declared.happening.Happening.{Happening}
 use Rattle.h2_conn.specs.declared.happening.Happening.TheVariants as happening
 use Rattle.h2_conn.specs.declared.phase.Phase.{Phase}
 use Rattle.h2_conn.specs.declared.phase.Phase.TheVariants.{Open}
-use Rattle.h2_conn.specs.Conns.{fresh, Heard, heard, on_open, reset_by, flushed, frame_fault_on, after_frame_fault}
+use Rattle.h2_conn.specs.Conns.{new_state, FrameResult, frame_result, on_open, after_reset, flush_of, frame_fault_on, after_frame_fault}
 use Rattle.grpc_conn.specs.declared.event.CallEvent.{CallEvent}
 use Rattle.grpc_conn.specs.declared.event.CallEvent.TheVariants.{Nothing, Malformed, Refuse, Ready}
 use Rattle.grpc_conn.specs.declared.standing.Call.{Call}
@@ -30,7 +30,7 @@ pub record Talking : Type 0 where
   pub served : List ServedCall
 
 abbrev pub fresh_talk : Talking
-fresh_talk = record { greeted = false; phase = Open fresh; calls = []; served = [] }
+fresh_talk = record { greeted = false; phase = Open new_state; calls = []; served = [] }
 
 -- ---- a verdict
 
@@ -46,7 +46,7 @@ others n cs = filter (λ c. not (c.stream == n)) cs
 -- verdict with it
 unfoldable pub after_event : ℕ → CallEvent → Talking → Talking
 after_event n Nothing t = t
-after_event n Malformed t = record t { phase = on_open (reset_by n 1) t.phase; calls = without n t.calls }
+after_event n Malformed t = record t { phase = on_open (after_reset n 1) t.phase; calls = without n t.calls }
 after_event n (Refuse r) t = record t { phase = with_refusal n false r t.phase; calls = without n t.calls }
 after_event n (Ready method message request) t = record t { calls = without n t.calls; served = with_served (record { stream = n; stage = Unnamed (kind_of method request) }) t.served }
 
@@ -66,17 +66,17 @@ after_happenings [] t = t
 after_happenings (h ∷ hs) t = after_happenings hs (after_happening h t)
 
 -- what a frame told; on a connection that has failed nothing is told
-abbrev pub after_heard : Heard → Talking → Talking
+abbrev pub after_heard : FrameResult → Talking → Talking
 after_heard h t = after_happenings h.told (record t { phase = h.after })
 
 unfoldable pub after_frame : Frame → Talking → Talking
-after_frame f t = after_heard (heard t.phase f) t
+after_frame f t = after_heard (frame_result t.phase f) t
 
 -- ---- what is written
 
 -- RFC 9113, section 3.4: the server's SETTINGS; own rules: at most 16 streams, header lists of at most 16,384 bytes
 unfoldable pub settings_bytes : List ℕ
-settings_bytes = spelling (record { stream = 0; body = bodies.Settings (record { id = MAX_CONCURRENT_STREAMS; value = 16 } ∷ record { id = MAX_HEADER_LIST_SIZE; value = 16384 } ∷ []) })
+settings_bytes = frame_encoding (record { stream = 0; body = bodies.Settings (record { id = MAX_CONCURRENT_STREAMS; value = 16 } ∷ record { id = MAX_HEADER_LIST_SIZE; value = 16384 } ∷ []) })
 
 abbrev pub greeting : Bool → List ℕ
 greeting true = []
@@ -91,7 +91,7 @@ pub record Said : Type 0 where
 -- behind each item: this side's SETTINGS before all else, and what may be written now
 unfoldable pub written : Option ConnFault → Talking → Said
 written fault t =
-    let w = flushed t.phase in
+    let w = flush_of t.phase in
     record { after = record { greeted = true; phase = w.after; calls = t.calls; served = t.served }; bytes = greeting t.greeted ++ w.bytes; fault = fault }
 
 -- the first fault counts
@@ -109,7 +109,7 @@ silent t = record { after = t; bytes = []; fault = None }
 
 -- a frame, and what is written behind it
 unfoldable pub frame_said : Frame → Talking → Said
-frame_said f t = written (heard t.phase f).fault (after_frame f t)
+frame_said f t = written (frame_result t.phase f).fault (after_frame f t)
 
 -- frames, one after another
 unfoldable pub frames_said : List Frame → Talking → Said

@@ -1,7 +1,7 @@
 //! What holds of the definitions alone.
 
 ghost use Rattle.std.specs.Prelude.{◌≡◌, ◌++◌, ℕ, List};
-ghost use Rattle.h2_frame.specs.Reading.{End, resumed};
+ghost use Rattle.h2_frame.specs.Reading.{End, reading_from};
 ghost use Rattle.wl_snapshot.specs.Snapshots.{Publication};
 ghost use Rattle.wl_session.specs.Talks.{Talking, then_, silent};
 ghost use Rattle.wl_session.specs.Sessions.{feed_said, turn_said};
@@ -11,7 +11,7 @@ ghost use Rattle.wl_session.specs.Agreeing.{SeeAlike, HaveSeen, IsQuiet};
 /// written, and the first fault.
 #[tactic(auto, using(crate::proofs::Agreements::cut_anywhere))]
 pub fn cut_anywhere()
-    ensures { (ending : End) (bytes more : List ℕ) (talk : Talking) → feed_said (resumed ending (bytes ++ more)) talk ≡ then_ (feed_said (resumed ending bytes) talk) (feed_said (resumed (resumed ending bytes).ending more)) }
+    ensures { (ending : End) (bytes more : List ℕ) (talk : Talking) → feed_said (reading_from ending (bytes ++ more)) talk ≡ then_ (feed_said (reading_from ending bytes) talk) (feed_said (reading_from (reading_from ending bytes).ending more)) }
 {}
 
 /// Two publications that show each ready call the same view are answered alike; a turn on views that were all seen writes

@@ -3,7 +3,7 @@
 ghost use Rattle.std.specs.Prelude.{◌≡◌, ◌++◌, IfOk, OnOk, IsSome, IfSome, None, Some, option_map};
 ghost use Rattle.list_laws.specs.Lists.{GainsFront};
 ghost use Rattle.h2_frame.specs.declared.fault.FrameFault.TheVariants as frame_faults;
-ghost use Rattle.h2_frame.specs.Reading.{resumed};
+ghost use Rattle.h2_frame.specs.Reading.{reading_from};
 ghost use Rattle.wl_session.specs.Sessions.{fresh_session, Feeds, Turns, Names, GivesOutcome, unnamed_in, asks_in, is_done_in, Began, fault_in, feed_said};
 ghost use Rattle.wl_session.specs.Settled.{MayTurn, is_number};
 
@@ -234,9 +234,9 @@ struct Heard {
 /// The frames of these bytes, and the fault of those that are none.
 #[tactic(auto, using(crate::proofs::Feeding::open_none, crate::proofs::Feeding::fault_some))]
 fn read(alloc: Global, parser: &mut Parser, piece: &[u8]) -> Result<Heard, Memory>
-    ensures ending { OnOk result (parser.new ≡ (resumed parser.old piece.now).ending) }
-    ensures frames { IfOk result (λ heard. heard.frames ≡ (resumed parser.old piece.now).frames) }
-    ensures fault { IfOk result (λ heard. heard.fault ≡ fault_in (resumed parser.old piece.now).ending) }
+    ensures ending { OnOk result (parser.new ≡ (reading_from parser.old piece.now).ending) }
+    ensures frames { IfOk result (λ heard. heard.frames ≡ (reading_from parser.old piece.now).frames) }
+    ensures fault { IfOk result (λ heard. heard.fault ≡ fault_in (reading_from parser.old piece.now).ending) }
     ensures named { IfOk result (λ heard. heard.fault ≡ Some frame_faults.Memory → ⊥) }
 {
     let mut frames = Row::empty(alloc);
@@ -262,11 +262,11 @@ fn advance(
     piece: &[u8],
     out: &mut Octets,
 ) -> Result<Option<ConnFault>, Memory>
-    ensures ending { OnOk result (parser.new ≡ (resumed parser.old piece.now).ending) }
-    ensures after { OnOk result (talk.new ≡ (feed_said (resumed parser.old piece.now) talk.old).after) }
-    ensures bytes { OnOk result (out.new ≡ out.old ++ (feed_said (resumed parser.old piece.now) talk.old).bytes) }
-    ensures fault { IfOk result (λ fault. fault ≡ (feed_said (resumed parser.old piece.now) talk.old).fault) }
-    ensures front { GainsFront (feed_said (resumed parser.old piece.now) talk.old).bytes out.old out.new }
+    ensures ending { OnOk result (parser.new ≡ (reading_from parser.old piece.now).ending) }
+    ensures after { OnOk result (talk.new ≡ (feed_said (reading_from parser.old piece.now) talk.old).after) }
+    ensures bytes { OnOk result (out.new ≡ out.old ++ (feed_said (reading_from parser.old piece.now) talk.old).bytes) }
+    ensures fault { IfOk result (λ fault. fault ≡ (feed_said (reading_from parser.old piece.now) talk.old).fault) }
+    ensures front { GainsFront (feed_said (reading_from parser.old piece.now) talk.old).bytes out.old out.new }
 {
     let Heard { frames, fault } = read(alloc, parser, piece)?;
     let first = talk.frames(frames, out)?;

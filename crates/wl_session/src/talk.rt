@@ -5,7 +5,7 @@ ghost use Rattle.std.specs.List.{AllByRecursion, list_any};
 ghost use Rattle.list_laws.specs.Lists.{GainsFront};
 ghost use Rattle.h2_frame.specs.declared.fault.FrameFault.TheVariants as frame_faults;
 ghost use Rattle.h2_conn.specs.declared.fault.ConnFault.{ConnFault};
-ghost use Rattle.h2_conn.specs.Conns.{heard, is_going, live_on, begun_on, frame_fault_on, after_frame_fault};
+ghost use Rattle.h2_conn.specs.Conns.{frame_result, is_going, live_on, begun_on, frame_fault_on, after_frame_fault};
 ghost use Rattle.h2_conn.specs.Kinds.{Fits};
 ghost use Rattle.wl_session.specs.Settled.{is_new, is_new_view};
 ghost use Rattle.wl_session.specs.Answering.{calls_turn};
@@ -216,7 +216,7 @@ impl Talk {
     fn frame(&mut self, frame: Frame) -> Result<Option<ConnFault>, Memory>
         requires { Fits frame }
         ensures after { OnOk result (self.new ≡ after_frame frame self.old) }
-        ensures fault { IfOk result (λ fault. fault ≡ (heard self.old.phase frame).fault) }
+        ensures fault { IfOk result (λ fault. fault ≡ (frame_result self.old.phase frame).fault) }
     {
         let mut told = Row::empty(self.alloc);
         match self.conn.frame(frame, &mut told) {

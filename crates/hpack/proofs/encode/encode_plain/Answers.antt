@@ -1,13 +1,13 @@
 use Rattle.std.proofs.Common.{◌≡◌, ap, ◌∙◌, arith}
 use Rattle.std.proofs.lemmas.List.{take_all}
-use Rattle.hpack.specs.Writing.{spelled_block}
+use Rattle.hpack.specs.Writing.{block_bytes}
 use Rattle.hpack.proofs.Spelling.{block_spelled, block_again}
 use Rattle.hpack.proofs.Lengths.{block_small}
 use Rattle.hpack.proofs.encode.encode_plain.Goals as goal
 use Rattle.hpack.proofs.encode.encode_plain.Goals.{After-from_vec}
 
-written : (c : After-from_vec) → c.from_vec.result ≡ spelled_block c.args.headers.now
-written c = c.from_vec.ensures ∙ (c.loop-header.invariant ∙ ap spelled_block (take_all c.loop-header.header-index c.args.headers.now (omega arith)))
+written : (c : After-from_vec) → c.from_vec.result ≡ block_bytes c.args.headers.now
+written c = c.from_vec.ensures ∙ (c.loop-header.invariant ∙ ap block_bytes (take_all c.loop-header.header-index c.args.headers.now (omega arith)))
 
 pub returns-clause-readable : goal.returns-clause-readable
 returns-clause-readable c = λ fits table. rw (written c) (block_spelled c.args.headers.now fits table)

@@ -1,6 +1,6 @@
 use Rattle.std.proofs.Common.{◌≡◌, take}
-use Rattle.hpack.specs.Writing.{spelled_block}
+use Rattle.hpack.specs.Writing.{block_bytes}
 use Rattle.hpack.proofs.encode.encode_plain.Given as goal
 
 abbrev pub invariant-loop-header : goal.invariant-loop-header
-invariant-loop-header l = l.out.items ≡ spelled_block (take l.header-index l.headers)
+invariant-loop-header l = l.out.items ≡ block_bytes (take l.header-index l.headers)

@@ -1,7 +1,7 @@
 use Rattle.std.proofs.Common.{rules}
-use Rattle.hpack.specs.Writing.{spelled_block}
+use Rattle.hpack.specs.Writing.{block_bytes}
 use Rattle.h2_conn.proofs.Sounds.{s_headed_on}
 use Rattle.h2_conn.proofs.conn.Conn.head.Goals as goal
 
 pub invariant_of-self-in-Open : goal.invariant_of-self-in-Open
-invariant_of-self-in-Open c = rw c.in_ok-head-in-Open.ensures (s_headed_on c.args.stream (spelled_block c.args.headers.now) c.in-Open.state (search rules))
+invariant_of-self-in-Open c = rw c.in_ok-head-in-Open.ensures (s_headed_on c.args.stream (block_bytes c.args.headers.now) c.in-Open.state (search rules))

@@ -1,17 +1,17 @@
 use Rattle.std.proofs.Common.{subst}
 use Rattle.list_laws.specs.Lists.{GainsFront}
-use Rattle.h2_conn.specs.Conns.{heard}
+use Rattle.h2_conn.specs.Conns.{frame_result}
 use Rattle.wl_session.specs.Talks.{Talking, written, frame_said}
 use Rattle.wl_session.proofs.talk.Talk.step.Goals as goal
 
 pub returns-in_err-write-clause-front : goal.returns-in_err-write-clause-front
 unfolding frame_said
 returns-in_err-write-clause-front c =
-    let fault = (heard c.args.self.now.phase c.args.frame).fault in
+    let fault = (frame_result c.args.self.now.phase c.args.frame).fault in
     subst (λ (t : Talking). GainsFront (written fault t).bytes c.args.out.now c.write.new.out) c.in_ok-fault.ensures.after (c.write.ensures.front fault)
 
 pub returns-clause-front : goal.returns-clause-front
 unfolding frame_said
 returns-clause-front c =
-    let fault = (heard c.args.self.now.phase c.args.frame).fault in
+    let fault = (frame_result c.args.self.now.phase c.args.frame).fault in
     subst (λ (t : Talking). GainsFront (written fault t).bytes c.args.out.now c.write.new.out) c.in_ok-fault.ensures.after (c.write.ensures.front fault)

@@ -1,7 +1,7 @@
 use Rattle.std.proofs.Common.{ap, subst, ◌∙◌}
 use Rattle.list_laws.specs.Lists.{GainsFront}
 use Rattle.h2_conn.specs.declared.phase.Phase.{Phase}
-use Rattle.h2_conn.specs.Conns.{flushed}
+use Rattle.h2_conn.specs.Conns.{flush_of}
 use Rattle.wl_session.proofs.Running.{greet_front, flush_front}
 use Rattle.wl_session.proofs.talk.Talk.write.Goals as goal
 
@@ -11,4 +11,4 @@ returns-in_err-greet-clause-front c fault = greet_front fault c.args.self.now c.
 pub returns-clause-front : goal.returns-clause-front
 returns-clause-front c fault =
     let same = ap (λ t. t.phase) c.self.view_is ∙ c.greet.ensures.phase in
-    flush_front fault c.args.self.now c.args.out.now c.greet.new.out c.flush.new.out c.in_ok-greet.ensures.bytes (subst (λ (p : Phase). GainsFront (flushed p).bytes c.greet.new.out c.flush.new.out) same c.flush.ensures.front)
+    flush_front fault c.args.self.now c.args.out.now c.greet.new.out c.flush.new.out c.in_ok-greet.ensures.bytes (subst (λ (p : Phase). GainsFront (flush_of p).bytes c.greet.new.out c.flush.new.out) same c.flush.ensures.front)
