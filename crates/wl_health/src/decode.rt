@@ -3,9 +3,10 @@
 ghost use Rattle.std.specs.Prelude.{◌≡◌, List, ℕ, Some, None, Ok, Err, IfOk, MatchResult};
 ghost use Rattle.pb_wire.specs.Message.{text_in, last_of};
 ghost use Rattle.pb_wire.specs.Strings.{field_fault, Gives};
+ghost use Rattle.wl_health.specs.declared.field_number.TheConstants.{REQUEST_SERVICE};
 ghost use Rattle.wl_health.specs.Messages.{is_service_field, service_of, SpellsService};
 
-use crate::HealthFault;
+use crate::{HealthFault, field_number};
 use pb_wire::{Field, read_field};
 use std::alloc::Global;
 use wl_octets::Octets;
@@ -15,10 +16,10 @@ use wl_octets::Octets;
 fn take_field<'a>(bytes: &'a [u8], field: &Field, before: &'a [u8]) -> Result<&'a [u8], HealthFault>
     ensures { MatchResult result
         (λ service. (field_fault is_service_field bytes.now field.now ≡ None)
-        × (service.now ≡ last_of before.now (text_in 1 bytes.now field.now)))
+        × (service.now ≡ last_of before.now (text_in REQUEST_SERVICE bytes.now field.now)))
         (λ e. field_fault is_service_field bytes.now field.now ≡ Some e) }
 {
-    if field.number != 1 {
+    if field.number != field_number::REQUEST_SERVICE {
         return Ok(before);
     }
     let text = field.text(bytes)?;

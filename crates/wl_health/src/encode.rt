@@ -4,6 +4,7 @@ ghost use Rattle.std.specs.Prelude.{◌≡◌, ◌≤◌, ◌++◌, length, IfOk
 ghost use Rattle.wl_health.specs.declared.health.TheConstants.{SERVING, SERVICE_UNKNOWN};
 ghost use Rattle.wl_health.specs.Messages.{spell_state};
 
+use crate::field_number;
 use pb_wire::put_varint;
 use std::alloc::Global;
 use wl_octets::{Memory, Octets};
@@ -12,7 +13,7 @@ use wl_octets::{Memory, Octets};
 fn put_state(out: &mut Vec<u8>, state: u32) -> Result<(), Memory>
     ensures { OnOk result (out.new.items ≡ out.old.items ++ spell_state state) }
 {
-    put_varint(out, 8)?;
+    put_varint(out, field_number::RESPONSE_STATUS_TAG)?;
     put_varint(out, u64::from(state))
 }
 

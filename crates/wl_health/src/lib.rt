@@ -6,6 +6,7 @@
 
 mod decode;
 mod encode;
+pub mod field_number;
 mod health;
 
 pub use decode::decode_health;

@@ -2,6 +2,7 @@
 
 ghost use Rattle.std.specs.Prelude.{◌≡◌, ◌≤◌, ◌^◌, ◌++◌, List, codes, length, IfOk, OnOk};
 ghost use Rattle.std.specs.List.{flat_map};
+ghost use Rattle.workload_proto.specs.declared.field_number.TheConstants.{JWT_BUNDLES_BUNDLES, X509_BUNDLES_BUNDLES, X509_RESPONSE_FEDERATED_BUNDLES};
 ghost use Rattle.workload_proto.specs.Spelling.{x509_field, map_field, spell_x509};
 ghost use Rattle.wl_snapshot.specs.Answers.{x509_bundle, x509_items, federated_item, map_item, x509_map_item, jwks_map_item, x509_message, message_of};
 
@@ -11,7 +12,7 @@ use sorted_lists::find_by_key;
 use std::alloc::Global;
 use wl_entry::Bundle;
 use wl_octets::{Memory, Octets, Shared};
-use workload_proto::{put_map_item, put_x509_item};
+use workload_proto::{field_number, put_map_item, put_x509_item};
 
 /// The X.509 bundle of the own domain, empty where there is none.
 #[tactic(auto, unfolding(crate::specs::Answers::x509_bundle))]
@@ -87,14 +88,20 @@ fn put_item(
 /// Writes a foreign domain's X.509 bundle.
 #[tactic(auto, unfolding(crate::specs::Answers::federated_item))]
 fn put_foreign(alloc: Global, out: &mut Vec<u8>, own: &[u8], bundle: &Bundle) -> Result<(), Memory>
-    requires { length (flat_map (map_field 3) (federated_item own.now bundle.now)) ≤ 2 ^ 31 }
-    ensures { OnOk result (out.new.items ≡ out.old.items ++ flat_map (map_field 3) (federated_item own.now bundle.now)) }
+    requires { length (flat_map (map_field X509_RESPONSE_FEDERATED_BUNDLES) (federated_item own.now bundle.now)) ≤ 2 ^ 31 }
+    ensures { OnOk result (out.new.items ≡ out.old.items ++ flat_map (map_field X509_RESPONSE_FEDERATED_BUNDLES) (federated_item own.now bundle.now)) }
 {
     if bundle.domain.as_bytes() == own {
         return Ok(());
     }
     let domain = bundle.domain.as_bytes();
-    put_item(alloc, out, 3, domain, bundle.x509.as_slice())
+    put_item(
+        alloc,
+        out,
+        field_number::X509_RESPONSE_FEDERATED_BUNDLES,
+        domain,
+        bundle.x509.as_slice(),
+    )
 }
 
 fn put_federated(
@@ -103,8 +110,8 @@ fn put_federated(
     own: &[u8],
     bundles: &[Shared<Bundle>],
 ) -> Result<(), Memory>
-    requires { length (flat_map (map_field 3) (flat_map (federated_item own.now) bundles.now)) ≤ 2 ^ 31 }
-    ensures { OnOk result (out.new.items ≡ out.old.items ++ flat_map (map_field 3) (flat_map (federated_item own.now) bundles.now)) }
+    requires { length (flat_map (map_field X509_RESPONSE_FEDERATED_BUNDLES) (flat_map (federated_item own.now) bundles.now)) ≤ 2 ^ 31 }
+    ensures { OnOk result (out.new.items ≡ out.old.items ++ flat_map (map_field X509_RESPONSE_FEDERATED_BUNDLES) (flat_map (federated_item own.now) bundles.now)) }
 {
     for bundle in bundles {
         put_foreign(alloc, out, own, bundle.part())?;
@@ -114,11 +121,17 @@ fn put_federated(
 
 #[tactic(auto, unfolding(crate::specs::Answers::x509_map_item))]
 fn put_x509_part(alloc: Global, out: &mut Vec<u8>, bundle: &Bundle) -> Result<(), Memory>
-    requires { length (flat_map (map_field 2) (x509_map_item bundle.now)) ≤ 2 ^ 31 }
-    ensures { OnOk result (out.new.items ≡ out.old.items ++ flat_map (map_field 2) (x509_map_item bundle.now)) }
+    requires { length (flat_map (map_field X509_BUNDLES_BUNDLES) (x509_map_item bundle.now)) ≤ 2 ^ 31 }
+    ensures { OnOk result (out.new.items ≡ out.old.items ++ flat_map (map_field X509_BUNDLES_BUNDLES) (x509_map_item bundle.now)) }
 {
     let domain = bundle.domain.as_bytes();
-    put_item(alloc, out, 2, domain, bundle.x509.as_slice())
+    put_item(
+        alloc,
+        out,
+        field_number::X509_BUNDLES_BUNDLES,
+        domain,
+        bundle.x509.as_slice(),
+    )
 }
 
 fn put_x509_bundles(
@@ -126,8 +139,8 @@ fn put_x509_bundles(
     out: &mut Vec<u8>,
     bundles: &[Shared<Bundle>],
 ) -> Result<(), Memory>
-    requires { length (flat_map (map_field 2) (flat_map x509_map_item bundles.now)) ≤ 2 ^ 31 }
-    ensures { OnOk result (out.new.items ≡ out.old.items ++ flat_map (map_field 2) (flat_map x509_map_item bundles.now)) }
+    requires { length (flat_map (map_field X509_BUNDLES_BUNDLES) (flat_map x509_map_item bundles.now)) ≤ 2 ^ 31 }
+    ensures { OnOk result (out.new.items ≡ out.old.items ++ flat_map (map_field X509_BUNDLES_BUNDLES) (flat_map x509_map_item bundles.now)) }
 {
     for bundle in bundles {
         put_x509_part(alloc, out, bundle.part())?;
@@ -137,11 +150,17 @@ fn put_x509_bundles(
 
 #[tactic(auto, unfolding(crate::specs::Answers::jwks_map_item))]
 fn put_jwks_part(alloc: Global, out: &mut Vec<u8>, bundle: &Bundle) -> Result<(), Memory>
-    requires { length (flat_map (map_field 1) (jwks_map_item bundle.now)) ≤ 2 ^ 31 }
-    ensures { OnOk result (out.new.items ≡ out.old.items ++ flat_map (map_field 1) (jwks_map_item bundle.now)) }
+    requires { length (flat_map (map_field JWT_BUNDLES_BUNDLES) (jwks_map_item bundle.now)) ≤ 2 ^ 31 }
+    ensures { OnOk result (out.new.items ≡ out.old.items ++ flat_map (map_field JWT_BUNDLES_BUNDLES) (jwks_map_item bundle.now)) }
 {
     let domain = bundle.domain.as_bytes();
-    put_item(alloc, out, 1, domain, bundle.jwks.as_slice())
+    put_item(
+        alloc,
+        out,
+        field_number::JWT_BUNDLES_BUNDLES,
+        domain,
+        bundle.jwks.as_slice(),
+    )
 }
 
 fn put_jwks_bundles(
@@ -149,8 +168,8 @@ fn put_jwks_bundles(
     out: &mut Vec<u8>,
     bundles: &[Shared<Bundle>],
 ) -> Result<(), Memory>
-    requires { length (flat_map (map_field 1) (flat_map jwks_map_item bundles.now)) ≤ 2 ^ 31 }
-    ensures { OnOk result (out.new.items ≡ out.old.items ++ flat_map (map_field 1) (flat_map jwks_map_item bundles.now)) }
+    requires { length (flat_map (map_field JWT_BUNDLES_BUNDLES) (flat_map jwks_map_item bundles.now)) ≤ 2 ^ 31 }
+    ensures { OnOk result (out.new.items ≡ out.old.items ++ flat_map (map_field JWT_BUNDLES_BUNDLES) (flat_map jwks_map_item bundles.now)) }
 {
     for bundle in bundles {
         put_jwks_part(alloc, out, bundle.part())?;

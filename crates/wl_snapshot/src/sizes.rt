@@ -3,6 +3,7 @@
 
 ghost use Rattle.std.specs.Prelude.{◌≡◌, List, length};
 ghost use Rattle.std.specs.List.{flat_map};
+ghost use Rattle.workload_proto.specs.declared.field_number.TheConstants.{JWT_BUNDLES_BUNDLES, X509_BUNDLES_BUNDLES, X509_RESPONSE_FEDERATED_BUNDLES};
 ghost use Rattle.workload_proto.specs.Spelling.{capped, x509_field, map_field};
 ghost use Rattle.wl_snapshot.specs.Answers.{x509_items, federated_item, map_item, x509_map_item, jwks_map_item, message_of};
 ghost use Rattle.wl_snapshot.specs.declared.answers.Method3.TheVariants as Method3;
@@ -12,7 +13,7 @@ use crate::messages::own_bundle;
 use crate::views::{Held, View};
 use wl_entry::Bundle;
 use wl_octets::Shared;
-use workload_proto::{map_item_size, x509_item_size};
+use workload_proto::{field_number, map_item_size, x509_item_size};
 
 /// How many bytes `spiffe://` has.
 const SCHEME: usize = 9;
@@ -57,17 +58,21 @@ fn item_size(number: u32, domain: &[u8], value: &[u8]) -> u64
 
 #[tactic(auto, unfolding(crate::specs::Answers::federated_item))]
 fn federated_item_size(own: &[u8], bundle: &Bundle) -> u64
-    ensures { result ≡ capped (length (flat_map (map_field 3) (federated_item own.now bundle.now))) }
+    ensures { result ≡ capped (length (flat_map (map_field X509_RESPONSE_FEDERATED_BUNDLES) (federated_item own.now bundle.now))) }
 {
     if bundle.domain.as_bytes() == own {
         0
     } else {
-        item_size(3, bundle.domain.as_bytes(), bundle.x509.as_slice())
+        item_size(
+            field_number::X509_RESPONSE_FEDERATED_BUNDLES,
+            bundle.domain.as_bytes(),
+            bundle.x509.as_slice(),
+        )
     }
 }
 
 fn federated_size(own: &[u8], bundles: &[Shared<Bundle>]) -> u64
-    ensures { result ≡ capped (length (flat_map (map_field 3) (flat_map (federated_item own.now) bundles.now))) }
+    ensures { result ≡ capped (length (flat_map (map_field X509_RESPONSE_FEDERATED_BUNDLES) (flat_map (federated_item own.now) bundles.now))) }
 {
     let mut size: u64 = 0;
     for bundle in bundles {
@@ -78,13 +83,17 @@ fn federated_size(own: &[u8], bundles: &[Shared<Bundle>]) -> u64
 
 #[tactic(auto, unfolding(crate::specs::Answers::x509_map_item))]
 fn x509_part_size(bundle: &Bundle) -> u64
-    ensures { result ≡ capped (length (flat_map (map_field 2) (x509_map_item bundle.now))) }
+    ensures { result ≡ capped (length (flat_map (map_field X509_BUNDLES_BUNDLES) (x509_map_item bundle.now))) }
 {
-    item_size(2, bundle.domain.as_bytes(), bundle.x509.as_slice())
+    item_size(
+        field_number::X509_BUNDLES_BUNDLES,
+        bundle.domain.as_bytes(),
+        bundle.x509.as_slice(),
+    )
 }
 
 fn x509_bundles_size(bundles: &[Shared<Bundle>]) -> u64
-    ensures { result ≡ capped (length (flat_map (map_field 2) (flat_map x509_map_item bundles.now))) }
+    ensures { result ≡ capped (length (flat_map (map_field X509_BUNDLES_BUNDLES) (flat_map x509_map_item bundles.now))) }
 {
     let mut size: u64 = 0;
     for bundle in bundles {
@@ -95,13 +104,17 @@ fn x509_bundles_size(bundles: &[Shared<Bundle>]) -> u64
 
 #[tactic(auto, unfolding(crate::specs::Answers::jwks_map_item))]
 fn jwks_part_size(bundle: &Bundle) -> u64
-    ensures { result ≡ capped (length (flat_map (map_field 1) (jwks_map_item bundle.now))) }
+    ensures { result ≡ capped (length (flat_map (map_field JWT_BUNDLES_BUNDLES) (jwks_map_item bundle.now))) }
 {
-    item_size(1, bundle.domain.as_bytes(), bundle.jwks.as_slice())
+    item_size(
+        field_number::JWT_BUNDLES_BUNDLES,
+        bundle.domain.as_bytes(),
+        bundle.jwks.as_slice(),
+    )
 }
 
 fn jwks_bundles_size(bundles: &[Shared<Bundle>]) -> u64
-    ensures { result ≡ capped (length (flat_map (map_field 1) (flat_map jwks_map_item bundles.now))) }
+    ensures { result ≡ capped (length (flat_map (map_field JWT_BUNDLES_BUNDLES) (flat_map jwks_map_item bundles.now))) }
 {
     let mut size: u64 = 0;
     for bundle in bundles {

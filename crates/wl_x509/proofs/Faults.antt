@@ -6,7 +6,8 @@ use Rattle.wl_entry.specs.declared.unfit.CertFault.TheVariants.{Truncated, Tag, 
 use Rattle.wl_x509.specs.declared.values.Span.{Span}
 use Rattle.wl_x509.specs.declared.leaves.Leaf.{Leaf}
 use Rattle.wl_x509.specs.declared.parts.Frame.{Frame}
-use Rattle.wl_x509.specs.Values.{◌>>=◌, content, content_at, long_at, longer_at, value_at, part_at, option_at}
+use Rattle.list_laws.specs.Results.{◌>>=◌}
+use Rattle.wl_x509.specs.Values.{content, content_at, long_at, longer_at, value_at, part_at, option_at}
 use Rattle.wl_x509.specs.Times.{short_time, long_time}
 use Rattle.wl_x509.specs.Certificates.{subject_alt_name}
 use Rattle.wl_x509.specs.Leaves.{then_end, told_time, time_at, validity_at, names_in, names_from, alternative_names, uris_of, extension_at, extensions_in, extensions_from, extension_list, extensions_part, issuing_at, subject_at, body_at, frame_of, signature_at, one_uri, leaf_of}

@@ -6,7 +6,7 @@ use Rattle.wl_x509.specs.declared.values.Span.{Span}
 use Rattle.wl_x509.specs.declared.names.Uris.{Uris}
 use Rattle.wl_x509.specs.declared.parts.Frame.{Frame}
 use Rattle.wl_x509.specs.declared.leaves.Leaf.{Leaf}
-use Rattle.wl_x509.specs.Values.{◌>>=◌}
+use Rattle.list_laws.specs.Results.{◌>>=◌}
 use Rattle.wl_x509.specs.Leaves.{frame_of, extensions_part, signature_at, one_uri, leaf_of, Refuses}
 use Rattle.wl_x509.specs.Tallies.{no_uris, tallied, chosen, found_in}
 use Rattle.wl_x509.specs.Certificates.{IsOnlyLeafOf, HasNoLeaf}

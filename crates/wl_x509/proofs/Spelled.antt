@@ -11,7 +11,9 @@ use Rattle.wl_entry.specs.declared.unfit.CertFault.TheVariants as fault
 use Rattle.wl_x509.specs.declared.values.Span.{Span}
 use Rattle.wl_x509.specs.declared.leaves.Leaf.{Leaf}
 use Rattle.wl_x509.specs.declared.parts.Frame.{Frame}
-use Rattle.wl_x509.specs.Values.{◌>>=◌, content, value_at, part_at, option_at}
+use Rattle.list_laws.specs.Results.{◌>>=◌}
+use Rattle.list_laws.proofs.Results.{bind_then, ok_is}
+use Rattle.wl_x509.specs.Values.{content, value_at, part_at, option_at}
 use Rattle.wl_x509.specs.Times.{short_time, long_time}
 use Rattle.wl_x509.specs.Leaves.{then_end, told_time, time_at, validity_at, names_in, names_from, alternative_names, uris_of, extension_at, extensions_in, extensions_from, extension_list, extensions_part, issuing_at, subject_at, body_at, frame_of, signature_at, one_uri, leaf_of}
 use Rattle.wl_x509.specs.Encodings.{encoding, AreBytes, between}
@@ -20,14 +22,6 @@ use Rattle.wl_x509.proofs.Encodings.{encoded}
 use Rattle.wl_x509.proofs.Digits.{IsTimeText, short_found, long_found}
 
 -- ---- steps
-
--- what a step gave, and how it goes on from there
-bind_then : {A B : Type 0} {C : Type 0} (r : Result A CertFault) (f : A → Result B CertFault) (y : B) → (r >>= f) ≡ Ok y → ((x : A) → r ≡ Ok x → f x ≡ Ok y → C) → C
-bind_then (Ok x) f y e go = go x refl e
-bind_then (Err fault) f y e go = absurd (cc)
-
-ok_is : {A : Type 0} {x y : A} → ◌≡◌ {A = Result A CertFault} (Ok x) (Ok y) → x ≡ y
-ok_is e = cc
 
 -- nothing follows
 ended : {A : Type 0} (at end : ℕ) (said x : A) → then_end at end said ≡ Ok x → (end ≤ at) × (said ≡ x)

@@ -5,7 +5,8 @@ use Rattle.wl_entry.specs.declared.unfit.CertFault.{CertFault}
 use Rattle.wl_entry.specs.declared.unfit.CertFault.TheVariants.{Extra, ManyUris}
 use Rattle.wl_x509.specs.declared.values.Span.{Span}
 use Rattle.wl_x509.specs.declared.names.Uris.{Uris}
-use Rattle.wl_x509.specs.Values.{◌>>=◌, value_at, part_at}
+use Rattle.list_laws.specs.Results.{◌>>=◌}
+use Rattle.wl_x509.specs.Values.{value_at, part_at}
 use Rattle.wl_x509.specs.Leaves.{then_end, names_in, extension_at, extensions_in, one_uri}
 use Rattle.wl_x509.specs.Tallies.{no_uris, met, tally, tallied, ended, chosen, IsMet}
 

@@ -12,7 +12,8 @@ use Rattle.wl_entry.specs.declared.signing.Signed.{Signed}
 use Rattle.wl_x509.specs.declared.values.Span.{Span}
 use Rattle.wl_x509.specs.declared.leaves.Leaf.{Leaf}
 use Rattle.wl_x509.specs.declared.parts.Frame.{Frame}
-use Rattle.wl_x509.specs.Values.{◌>>=◌, content, value_at, part_at, option_at}
+use Rattle.list_laws.specs.Results.{◌>>=◌}
+use Rattle.wl_x509.specs.Values.{content, value_at, part_at, option_at}
 use Rattle.wl_x509.specs.Times.{short_time, long_time}
 use Rattle.wl_x509.specs.Encodings.{AreBytes}
 use Rattle.wl_x509.specs.Certificates.{subject_alt_name, IsLeafOf}

@@ -5,7 +5,8 @@ use Rattle.wl_entry.specs.declared.unfit.CertFault.TheVariants.{NoUri, ManyUris}
 use Rattle.wl_x509.specs.declared.values.Span.{Span}
 use Rattle.wl_x509.specs.declared.names.Uris.{Uris}
 use Rattle.wl_x509.specs.declared.parts.Frame.{Frame}
-use Rattle.wl_x509.specs.Values.{◌>>=◌, content}
+use Rattle.list_laws.specs.Results.{◌>>=◌}
+use Rattle.wl_x509.specs.Values.{content}
 use Rattle.wl_x509.specs.Leaves.{then_end, frame_of, extensions_part, signature_at}
 
 -- none yet

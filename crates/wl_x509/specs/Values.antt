@@ -1,14 +1,10 @@
 -- Reading one value of DER (ITU-T X.690, sections 8.1 and 10.1): a tag of one byte, a length and content. Places count
 -- from the start of the bytes; what holds a value ends at `end`. `Encodings` has the form of a value.
 use Rattle.std.specs.Prelude.{ℕ, ◌+◌, ◌*◌, ◌-◌, ◌==◌, nat_lt, nat_le, if◌then◌else◌, List, take, drop, slice_index, Result, Ok, Err}
+use Rattle.list_laws.specs.Results.{◌>>=◌}
 use Rattle.wl_x509.specs.declared.values.Span.{Span}
 use Rattle.wl_entry.specs.declared.unfit.CertFault.{CertFault}
 use Rattle.wl_entry.specs.declared.unfit.CertFault.TheVariants.{Truncated, Tag, Length}
-
-infixl 10 ◌>>=◌
-abbrev pub ◌>>=◌ : {A B : Type 0} → Result A CertFault → (A → Result B CertFault) → Result B CertFault
-(Ok x) >>= f = f x
-(Err e) >>= f = Err e
 
 -- the bytes of a content
 abbrev pub content : List ℕ → Span → List ℕ

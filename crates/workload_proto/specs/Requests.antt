@@ -1,6 +1,7 @@
 -- What the requests say (SPIFFE Workload API, `workload.proto`; proto3). Own rules: groups and a known field of another
 -- wire type are refused.
 use Rattle.std.specs.Prelude.{ℕ, ◌==◌, ◌||◌, Bool, false, List, [], ◌++◌, Result}
+use Rattle.workload_proto.specs.declared.field_number.TheConstants as field_number
 use Rattle.pb_wire.specs.declared.fault.FieldFault.{FieldFault}
 use Rattle.pb_wire.specs.declared.fault.FieldFault.TheVariants.{Wire, FieldKind, NotUtf8, Memory}
 use Rattle.pb_wire.specs.declared.field.Field.{Field}
@@ -8,10 +9,11 @@ use Rattle.pb_wire.specs.Message.{AreFields, texts_in, last_of}
 use Rattle.pb_wire.specs.Strings.{Spells, message_of}
 use Rattle.workload_proto.specs.declared.message.JwtRequest.{JwtRequest}
 
--- ---- `JWTSVIDRequest`: audience is 1 and spiffe_id is 2, both of them strings
+-- ---- `JWTSVIDRequest`: audience and spiffe_id, both of them strings
 
 abbrev pub is_jwt_field : ℕ → Bool
-is_jwt_field number = (number == 1) || (number == 2)
+is_jwt_field number =
+    (number == field_number.JWT_REQUEST_AUDIENCE) || (number == field_number.JWT_REQUEST_SPIFFE_ID)
 
 -- a request without audiences and without an id
 abbrev pub nothing_asked : JwtRequest
@@ -20,8 +22,8 @@ nothing_asked = record { audience = []; spiffe_id = [] }
 -- of the texts of audience all, in their order; of those of spiffe_id the last
 unfoldable pub asked_in : List ℕ → JwtRequest → List Field → JwtRequest
 asked_in bytes before fs = record {
-  audience = before.audience ++ texts_in 1 bytes fs;
-  spiffe_id = last_of before.spiffe_id (texts_in 2 bytes fs);
+  audience = before.audience ++ texts_in field_number.JWT_REQUEST_AUDIENCE bytes fs;
+  spiffe_id = last_of before.spiffe_id (texts_in field_number.JWT_REQUEST_SPIFFE_ID bytes fs);
 }
 
 -- the grammar

@@ -7,8 +7,8 @@ ghost use Rattle.pb_wire.specs.Strings.{fault_of, field_fault, Gives};
 ghost use Rattle.workload_proto.specs.Requests.{is_jwt_field, SpellsJwtRequest, SpellsEmpty, IsWire, jwt_request_of, empty_of};
 ghost use Rattle.workload_proto.specs.Steps.{StepFails, asked_more};
 
-use crate::ProtoFault;
 use crate::message::JwtRequest;
+use crate::{ProtoFault, field_number};
 use pb_wire::{Field, read_field};
 use std::alloc::Global;
 use wl_octets::{Octets, Row};
@@ -53,8 +53,13 @@ fn take_field(
         (λ e. StepFails e (field_fault is_jwt_field bytes.now field.now)) }
 {
     match field.number {
-        1 => take_audience(alloc, bytes, field, &mut request.audience),
-        2 => take_id(alloc, bytes, field, &mut request.spiffe_id),
+        field_number::JWT_REQUEST_AUDIENCE => take_audience(
+            alloc,
+            bytes,
+            field,
+            &mut request.audience,
+        ),
+        field_number::JWT_REQUEST_SPIFFE_ID => take_id(alloc, bytes, field, &mut request.spiffe_id),
         _ => Ok(()),
     }
 }

@@ -3,6 +3,7 @@
 ghost use Rattle.std.specs.Prelude.{◌≡◌, ◌≤◌, ◌^◌, ◌++◌, length, IfOk, OnOk};
 ghost use Rattle.workload_proto.specs.Spelling.{spell_x509, spell_bundles, spell_jwt_bundles, spell_jwt};
 
+use crate::field_number;
 use crate::items::{put_jwt_items, put_map_items, put_x509_items};
 use crate::message::{BundlesResponse, JwtBundlesResponse, JwtResponse, X509Response};
 use crate::size::{size_bundles, size_jwt, size_jwt_bundles, size_x509};
@@ -15,7 +16,11 @@ fn put_x509(out: &mut Vec<u8>, message: &X509Response) -> Result<(), Memory>
     ensures { OnOk result (out.new.items ≡ out.old.items ++ spell_x509 message.now) }
 {
     put_x509_items(out, message.svids.as_slice())?;
-    put_map_items(out, 3, message.federated.as_slice())
+    put_map_items(
+        out,
+        field_number::X509_RESPONSE_FEDERATED_BUNDLES,
+        message.federated.as_slice(),
+    )
 }
 
 /// The encoding of an `X509SVIDResponse`, which has at most 2^31 bytes. Its map's keys are written in their order.
@@ -35,7 +40,11 @@ pub fn encode_bundles(alloc: Global, message: &BundlesResponse) -> Result<Octets
     ensures { IfOk result (λ o. o ≡ spell_bundles message.now) }
 {
     let mut out = Vec::with_capacity(alloc, size_bundles(message) as usize)?;
-    put_map_items(&mut out, 2, message.bundles.as_slice())?;
+    put_map_items(
+        &mut out,
+        field_number::X509_BUNDLES_BUNDLES,
+        message.bundles.as_slice(),
+    )?;
     Ok(Octets::from_vec(out))
 }
 
@@ -46,7 +55,11 @@ pub fn encode_jwt_bundles(alloc: Global, message: &JwtBundlesResponse) -> Result
     ensures { IfOk result (λ o. o ≡ spell_jwt_bundles message.now) }
 {
     let mut out = Vec::with_capacity(alloc, size_jwt_bundles(message) as usize)?;
-    put_map_items(&mut out, 1, message.bundles.as_slice())?;
+    put_map_items(
+        &mut out,
+        field_number::JWT_BUNDLES_BUNDLES,
+        message.bundles.as_slice(),
+    )?;
     Ok(Octets::from_vec(out))
 }
 

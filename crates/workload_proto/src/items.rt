@@ -7,6 +7,7 @@ ghost use Rattle.pb_wire.specs.declared.field.TheConstants.{MAX_FIELD_NUMBER};
 ghost use Rattle.pb_wire.specs.Spelling.{optional_field};
 ghost use Rattle.workload_proto.specs.Spelling.{spell_x509_item, spell_jwt_item, spell_map_item, x509_field, jwt_field, map_field};
 
+use crate::field_number;
 use crate::message::{JwtItem, MapItem, X509Item};
 use crate::size::{jwt_content_size, map_content_size, x509_content_size};
 use pb_wire::{put_bytes, put_head};
@@ -50,11 +51,11 @@ fn put_x509_content(
       hint = hint.now;
     })) out.old.items out.new.items) }
 {
-    put_optional(out, 1, spiffe_id)?;
-    put_optional(out, 2, chain)?;
-    put_optional(out, 3, key)?;
-    put_optional(out, 4, bundle)?;
-    put_optional(out, 5, hint)
+    put_optional(out, field_number::X509_SVID_SPIFFE_ID, spiffe_id)?;
+    put_optional(out, field_number::X509_SVID_CHAIN, chain)?;
+    put_optional(out, field_number::X509_SVID_KEY, key)?;
+    put_optional(out, field_number::X509_SVID_BUNDLE, bundle)?;
+    put_optional(out, field_number::X509_SVID_HINT, hint)
 }
 
 /// Writes one SVID of an `X509SVIDResponse`, with its tag and its length, after what `out` holds. So a response can be
@@ -91,7 +92,7 @@ pub fn put_x509_item(
     })) out.old.items out.new.items) }
 {
     let size = x509_content_size(spiffe_id, chain, key, bundle, hint);
-    put_head(out, 1, size)?;
+    put_head(out, field_number::X509_RESPONSE_SVIDS, size)?;
     put_x509_content(out, spiffe_id, chain, key, bundle, hint)
 }
 
@@ -106,8 +107,8 @@ fn put_map_content(out: &mut Vec<u8>, key: &[u8], value: &[u8]) -> Result<(), Me
       value = value.now;
     })) out.old.items out.new.items) }
 {
-    put_bytes(out, 1, key)?;
-    put_bytes(out, 2, value)
+    put_bytes(out, field_number::MAP_ITEM_KEY, key)?;
+    put_bytes(out, field_number::MAP_ITEM_VALUE, value)
 }
 
 /// Writes one item of the map with this field number, with its tag and its length, after what `out` holds. The map is
@@ -136,9 +137,13 @@ pub fn put_map_item(out: &mut Vec<u8>, number: u32, key: &[u8], value: &[u8]) ->
 fn put_jwt_content(out: &mut Vec<u8>, item: &JwtItem) -> Result<(), Memory>
     ensures { OnOk result (out.new.items ≡ out.old.items ++ spell_jwt_item item.now) }
 {
-    put_optional(out, 1, item.spiffe_id.as_slice())?;
-    put_optional(out, 2, item.svid.as_slice())?;
-    put_optional(out, 3, item.hint.as_slice())
+    put_optional(
+        out,
+        field_number::JWT_SVID_SPIFFE_ID,
+        item.spiffe_id.as_slice(),
+    )?;
+    put_optional(out, field_number::JWT_SVID_SVID, item.svid.as_slice())?;
+    put_optional(out, field_number::JWT_SVID_HINT, item.hint.as_slice())
 }
 
 #[tactic(auto, unfolding(crate::specs::Spelling::jwt_field))]
@@ -151,7 +156,7 @@ fn put_jwt_item(out: &mut Vec<u8>, item: &JwtItem) -> Result<(), Memory>
         item.svid.as_slice(),
         item.hint.as_slice(),
     );
-    put_head(out, 1, size)?;
+    put_head(out, field_number::JWT_RESPONSE_SVIDS, size)?;
     put_jwt_content(out, item)
 }
 

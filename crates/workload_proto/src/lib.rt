@@ -7,6 +7,7 @@
 
 mod decode;
 mod encode;
+pub mod field_number;
 mod items;
 mod limits;
 mod message;

@@ -6,6 +6,7 @@ ghost use Rattle.pb_wire.specs.Varint.{varint};
 ghost use Rattle.pb_wire.specs.Spelling.{field, optional_field};
 ghost use Rattle.workload_proto.specs.Spelling.{capped, spell_x509_item, spell_jwt_item, spell_map_item, spell_x509, spell_bundles, spell_jwt_bundles, spell_jwt, x509_field, jwt_field, map_field};
 
+use crate::field_number;
 use crate::message::{
     BundlesResponse, JwtBundlesResponse, JwtItem, JwtResponse, MapItem, X509Item, X509Response,
 };
@@ -47,9 +48,15 @@ pub(crate) fn x509_content_size(
       hint = hint.now;
     }))) }
 {
-    let id = optional_size(1, spiffe_id);
-    let secrets = optional_size(2, chain).saturating_add(optional_size(3, key));
-    let others = optional_size(4, bundle).saturating_add(optional_size(5, hint));
+    let id = optional_size(field_number::X509_SVID_SPIFFE_ID, spiffe_id);
+    let secrets = optional_size(field_number::X509_SVID_CHAIN, chain).saturating_add(optional_size(
+        field_number::X509_SVID_KEY,
+        key,
+    ));
+    let others = optional_size(field_number::X509_SVID_BUNDLE, bundle).saturating_add(optional_size(
+        field_number::X509_SVID_HINT,
+        hint,
+    ));
     id.saturating_add(secrets).saturating_add(others)
 }
 
@@ -58,7 +65,10 @@ pub(crate) fn map_content_size(key_len: usize, value: &[u8]) -> u64
     ensures { (key : List ℕ) → length key ≡ key_len
         → result ≡ capped (length (spell_map_item (record { key = key; value = value.now }))) }
 {
-    field_size(1, key_len as u64).saturating_add(field_size(2, value.len() as u64))
+    field_size(field_number::MAP_ITEM_KEY, key_len as u64).saturating_add(field_size(
+        field_number::MAP_ITEM_VALUE,
+        value.len() as u64,
+    ))
 }
 
 /// The size of a `JWTSVID` without its tag and its length.
@@ -69,9 +79,9 @@ pub(crate) fn jwt_content_size(spiffe_id: &[u8], svid: &[u8], hint: &[u8]) -> u6
       hint = hint.now;
     }))) }
 {
-    let id = optional_size(1, spiffe_id);
-    id.saturating_add(optional_size(2, svid))
-        .saturating_add(optional_size(3, hint))
+    let id = optional_size(field_number::JWT_SVID_SPIFFE_ID, spiffe_id);
+    id.saturating_add(optional_size(field_number::JWT_SVID_SVID, svid))
+        .saturating_add(optional_size(field_number::JWT_SVID_HINT, hint))
 }
 
 /// The size of one SVID in an `X509SVIDResponse`, with its tag and its length. A response has the sum of the sizes of
@@ -86,7 +96,10 @@ pub fn x509_item_size(spiffe_id: &[u8], chain: &[u8], key: &[u8], bundle: &[u8],
       hint = hint.now;
     }))) }
 {
-    field_size(1, x509_content_size(spiffe_id, chain, key, bundle, hint))
+    field_size(
+        field_number::X509_RESPONSE_SVIDS,
+        x509_content_size(spiffe_id, chain, key, bundle, hint),
+    )
 }
 
 /// The size of one item in the map with this field number, with its tag and its length, where its key has `key_len`
@@ -108,7 +121,10 @@ pub fn jwt_item_size(spiffe_id: &[u8], svid: &[u8], hint: &[u8]) -> u64
       hint = hint.now;
     }))) }
 {
-    field_size(1, jwt_content_size(spiffe_id, svid, hint))
+    field_size(
+        field_number::JWT_RESPONSE_SVIDS,
+        jwt_content_size(spiffe_id, svid, hint),
+    )
 }
 
 fn x509_items_size(svids: &[X509Item]) -> u64
@@ -157,7 +173,10 @@ pub fn size_x509(message: &X509Response) -> u64
     ensures { result ≡ capped (length (spell_x509 message.now)) }
 {
     let svids = x509_items_size(message.svids.as_slice());
-    let federated = map_items_size(3, message.federated.as_slice());
+    let federated = map_items_size(
+        field_number::X509_RESPONSE_FEDERATED_BUNDLES,
+        message.federated.as_slice(),
+    );
     svids.saturating_add(federated)
 }
 
@@ -166,7 +185,10 @@ pub fn size_x509(message: &X509Response) -> u64
 pub fn size_bundles(message: &BundlesResponse) -> u64
     ensures { result ≡ capped (length (spell_bundles message.now)) }
 {
-    map_items_size(2, message.bundles.as_slice())
+    map_items_size(
+        field_number::X509_BUNDLES_BUNDLES,
+        message.bundles.as_slice(),
+    )
 }
 
 /// The size of a `JWTBundlesResponse`.
@@ -174,7 +196,10 @@ pub fn size_bundles(message: &BundlesResponse) -> u64
 pub fn size_jwt_bundles(message: &JwtBundlesResponse) -> u64
     ensures { result ≡ capped (length (spell_jwt_bundles message.now)) }
 {
-    map_items_size(1, message.bundles.as_slice())
+    map_items_size(
+        field_number::JWT_BUNDLES_BUNDLES,
+        message.bundles.as_slice(),
+    )
 }
 
 /// The size of a `JWTSVIDResponse`.

@@ -1,8 +1,9 @@
 use Rattle.std.proofs.Common.{◌≡◌, ◌++◌, take}
 use Rattle.std.specs.List.{flat_map}
+use Rattle.workload_proto.specs.declared.field_number.TheConstants.{X509_RESPONSE_FEDERATED_BUNDLES}
 use Rattle.workload_proto.specs.Spelling.{map_field}
 use Rattle.wl_snapshot.specs.Answers.{federated_item}
 use Rattle.wl_snapshot.proofs.messages.put_federated.Given as goal
 
 abbrev pub invariant-loop-bundle : goal.invariant-loop-bundle
-invariant-loop-bundle l = l.out.items ≡ l.fn.out.items ++ flat_map (map_field 3) (flat_map (federated_item l.own) (take l.bundle-index l.bundles))
+invariant-loop-bundle l = l.out.items ≡ l.fn.out.items ++ flat_map (map_field X509_RESPONSE_FEDERATED_BUNDLES) (flat_map (federated_item l.own) (take l.bundle-index l.bundles))

@@ -1,8 +1,9 @@
 use Rattle.std.proofs.Common.{◌≡◌, ◌++◌, take}
 use Rattle.std.specs.List.{flat_map}
+use Rattle.workload_proto.specs.declared.field_number.TheConstants.{JWT_BUNDLES_BUNDLES}
 use Rattle.workload_proto.specs.Spelling.{map_field}
 use Rattle.wl_snapshot.specs.Answers.{jwks_map_item}
 use Rattle.wl_snapshot.proofs.messages.put_jwks_bundles.Given as goal
 
 abbrev pub invariant-loop-bundle : goal.invariant-loop-bundle
-invariant-loop-bundle l = l.out.items ≡ l.fn.out.items ++ flat_map (map_field 1) (flat_map jwks_map_item (take l.bundle-index l.bundles))
+invariant-loop-bundle l = l.out.items ≡ l.fn.out.items ++ flat_map (map_field JWT_BUNDLES_BUNDLES) (flat_map jwks_map_item (take l.bundle-index l.bundles))

@@ -1,8 +1,9 @@
 use Rattle.std.proofs.Common.{◌≡◌, take, length}
 use Rattle.std.specs.List.{flat_map}
+use Rattle.workload_proto.specs.declared.field_number.TheConstants.{X509_BUNDLES_BUNDLES}
 use Rattle.workload_proto.specs.Spelling.{capped, map_field}
 use Rattle.wl_snapshot.specs.Answers.{x509_map_item}
 use Rattle.wl_snapshot.proofs.sizes.x509_bundles_size.Given as goal
 
 abbrev pub invariant-loop-bundle : goal.invariant-loop-bundle
-invariant-loop-bundle l = l.size ≡ capped (length (flat_map (map_field 2) (flat_map x509_map_item (take l.bundle-index l.bundles))))
+invariant-loop-bundle l = l.size ≡ capped (length (flat_map (map_field X509_BUNDLES_BUNDLES) (flat_map x509_map_item (take l.bundle-index l.bundles))))
