@@ -76,7 +76,8 @@ fn put_line(alloc: Global, out: &mut Octets, line: &[u8], is_last: bool) -> Resu
 
 /// Writes what is due for these lines, with a newline between two.
 fn put_lines(alloc: Global, out: &mut Octets, lines: &[&[u8]]) -> Result<(), Memory>
-    ensures { OnOk result (out.new ≡ out.old ++ join_with_byte 10 (map explanation (map (λ w. w.now) lines.now))) }
+    ensures { OnOk result
+        (out.new ≡ out.old ++ join_with_byte 10 (map explanation (map (λ w. w.now) lines.now))) }
 {
     for (at, line) in lines.iter().enumerate() {
         put_line(alloc, out, line, at + 1 == lines.len())?;

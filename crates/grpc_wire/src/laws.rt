@@ -13,7 +13,8 @@ ghost use Rattle.grpc_wire.specs.Bodies.{IsBody};
 pub fn prefixes_stay()
     ensures stays { (limit : ℕ) (bytes more : List ℕ) →
         (prefix_of limit bytes ≡ Ok None) ⊎ (prefix_of limit (bytes ++ more) ≡ prefix_of limit bytes) }
-    ensures short { (limit : ℕ) (bytes : List ℕ) → prefix_of limit bytes ≡ Ok None → length bytes < PREFIX_LEN }
+    ensures short { (limit : ℕ) (bytes : List ℕ) → prefix_of limit bytes ≡ Ok None
+        → length bytes < PREFIX_LEN }
     ensures memory { (limit : ℕ) (bytes : List ℕ) → prefix_of limit bytes ≡ Err faults.Memory → ⊥ }
 {}
 

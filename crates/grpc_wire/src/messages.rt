@@ -212,7 +212,8 @@ fn take_in(
     ensures fault { IfErr result (λ fault. Refuses fault ((into.new ≡ into.old
         ++ (messages_of limit (pending.old.items ++ piece.now)).messages)
         × ((messages_of limit (pending.old.items ++ piece.now)).ending ≡ Fault fault))) }
-    ensures front { GainsFront (messages_of limit (pending.old.items ++ piece.now)).messages into.old into.new }
+    ensures front { GainsFront
+        (messages_of limit (pending.old.items ++ piece.now)).messages into.old into.new }
 {
     if pending.is_empty() {
         let used = messages(alloc, limit, piece, into)?;

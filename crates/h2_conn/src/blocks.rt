@@ -103,7 +103,10 @@ fn header_rows(state: &mut State, block: &OpenBlock, headers: Row<Header>) -> Ro
 fn whole_block(state: &mut State, alloc: Global, block: OpenBlock) -> RowResult
     requires low { block.stream < 2 ^ 31 }
     requires sound { Sound state.old }
-    ensures { Steps (header_list_rows (record { state = state.old; block = block; whole = true }) (decode_block state.old.decoder block.bytes).0 (decode_block state.old.decoder block.bytes).1) result state.new }
+    ensures { Steps
+        (header_list_rows (record { state = state.old; block = block; whole = true })
+        (decode_block state.old.decoder block.bytes).0
+        (decode_block state.old.decoder block.bytes).1) result state.new }
 {
     match state.decoder.block(alloc, block.bytes.as_slice()) {
         Ok(headers) => header_rows(state, &block, headers),
@@ -115,7 +118,8 @@ fn whole_block(state: &mut State, alloc: Global, block: OpenBlock) -> RowResult
 fn block_in(state: &mut State, alloc: Global, block: OpenBlock, whole: bool) -> RowResult
     requires low { block.stream < 2 ^ 31 }
     requires sound { Sound state.old }
-    ensures { Steps (block_rows (record { state = state.old; block = block; whole = whole })) result state.new }
+    ensures { Steps
+        (block_rows (record { state = state.old; block = block; whole = whole })) result state.new }
 {
     if block.bytes.len() > MAX_BLOCK_SIZE {
         return Err(fault(state, ConnCause::BlockTooLong));

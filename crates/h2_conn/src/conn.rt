@@ -52,7 +52,8 @@ impl Model for Conn {
 
 /// What is kept of a connection for good.
 fn totals(phase: &Phase) -> Totals
-    ensures { result ≡ record { goaway_received = is_going phase.now; messages_started = begun_on phase.now } }
+    ensures { result
+        ≡ record { goaway_received = is_going phase.now; messages_started = begun_on phase.now } }
 {
     match phase {
         Phase::Open(state) => Totals {
@@ -124,7 +125,8 @@ impl Conn {
         ensures after { OnOk result (self.new ≡ (frame_result self.old frame).after) }
         ensures told { OnOk result (into.new ≡ into.old ++ (frame_result self.old frame).told) }
         ensures right { OnOk result ((frame_result self.old frame).fault ≡ None) }
-        ensures refused { IfErr result (λ error. Refuses error (frame_result self.old frame) self.old self.new) }
+        ensures refused { IfErr result
+            (λ error. Refuses error (frame_result self.old frame) self.old self.new) }
         ensures kept { OnErr result (into.new ≡ into.old) }
         ensures again { Repeats self.old result }
         ensures named { NamesOn self.old frame }
@@ -207,7 +209,8 @@ impl Conn {
     #[tactic(auto, using(crate::proofs::Sounds::s_headed_on))]
     pub fn head(&mut self, stream: u32, headers: &[Header]) -> Result<(), Memory>
         requires { list_size headers.now ≤ MAX_LIST_SIZE }
-        ensures after { OnOk result (self.new ≡ on_open (with_head_on stream (block_bytes headers.now)) self.old) }
+        ensures after { OnOk result
+            (self.new ≡ on_open (with_head_on stream (block_bytes headers.now)) self.old) }
         ensures err { OnErr result (self.new ≡ out_of_memory self.old) }
         ensures again { Lasts self.old result }
     {
@@ -239,7 +242,8 @@ impl Conn {
     #[tactic(auto, using(crate::proofs::Sounds::s_finished_on))]
     pub fn finish(&mut self, stream: u32, headers: &[Header]) -> Result<(), Memory>
         requires { list_size headers.now ≤ MAX_LIST_SIZE }
-        ensures after { OnOk result (self.new ≡ on_open (with_trailers_on stream (block_bytes headers.now)) self.old) }
+        ensures after { OnOk result
+            (self.new ≡ on_open (with_trailers_on stream (block_bytes headers.now)) self.old) }
         ensures err { OnErr result (self.new ≡ out_of_memory self.old) }
         ensures again { Lasts self.old result }
     {

@@ -23,7 +23,12 @@ pub type RowResult = Result<Option<Happening>, ConnError>;
 #[tactic(auto, using(crate::proofs::Queues::head_and_payload), unfolding(h2_wire::specs::Encoding::frame_bytes, h2_flow::specs::Outboxes::with_control))]
 fn queue(state: &mut State, kind: u8, flags: u8, stream: u32, payload: &[u8]) -> Result<(), Memory>
     requires { length payload.now ≤ MAX_FRAME_SIZE }
-    ensures { OnOk result (state.new ≡ record state.old { outbox = with_control (frame_bytes kind flags stream payload.now) state.old.outbox }) }
+    ensures { OnOk result
+        (state.new
+        ≡ record state.old {
+          outbox = with_control
+              (frame_bytes kind flags stream payload.now) state.old.outbox;
+        }) }
 {
     let head = head_of_frame(payload.len() as u32, kind, flags, stream);
     state.outbox.control(&head)?;

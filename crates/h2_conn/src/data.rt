@@ -70,7 +70,8 @@ pub fn data(state: &mut State, stream: u32, bytes: Octets, size: u32, ended: boo
 
 #[tactic(auto, using(crate::proofs::Sounds::is_there), unfolding(crate::specs::Peer::reset_frame))]
 fn close_reset(state: &mut State, stream: u32) -> RowResult
-    requires count { is_rapid state.old stream && has_come MAX_RAPID_RESETS state.old.rapid_reset_count ≡ false }
+    requires count { is_rapid state.old stream && has_come MAX_RAPID_RESETS state.old.rapid_reset_count
+        ≡ false }
     requires sound { Sound state.old }
     ensures { Steps (reset_frame state.old stream) result state.new }
 {

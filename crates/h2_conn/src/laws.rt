@@ -16,25 +16,34 @@ ghost use Rattle.h2_conn.specs.Conns.{is_live_on, on_open, with_head_on, with_tr
 /// Two flushes are one: the second writes nothing and changes nothing.
 #[tactic(auto, using(crate::proofs::Results::flushes_once))]
 pub fn flushes_once()
-    ensures { (phase : Phase) → flush_of (flush_of phase).after ≡ record { bytes = []; after = (flush_of phase).after } }
+    ensures { (phase : Phase)
+        → flush_of (flush_of phase).after ≡ record { bytes = []; after = (flush_of phase).after } }
 {}
 
 /// A stream that is not live takes nothing: what is given to it changes nothing.
 #[tactic(auto, using(crate::proofs::Results::dead_head, crate::proofs::Results::dead_last, crate::proofs::Results::dead_message, crate::proofs::Results::dead_withdrawal, crate::proofs::Results::dead_reset))]
 pub fn dead_streams_take_nothing()
-    ensures head { (stream : ℕ) (block : List ℕ) (phase : Phase) → is_live_on phase stream ≡ false → on_open (with_head_on stream block) phase ≡ phase }
-    ensures finish { (stream : ℕ) (block : List ℕ) (phase : Phase) → is_live_on phase stream ≡ false → on_open (with_trailers_on stream block) phase ≡ phase }
-    ensures offer { (stream : ℕ) (message : List ℕ) (phase : Phase) → is_live_on phase stream ≡ false → on_open (with_message_on stream message) phase ≡ phase }
-    ensures withdraw { (stream : ℕ) (phase : Phase) → is_live_on phase stream ≡ false → on_open (without_waiting_on stream) phase ≡ phase }
-    ensures reset { (stream code : ℕ) (phase : Phase) → is_live_on phase stream ≡ false → on_open (after_reset stream code) phase ≡ phase }
+    ensures head { (stream : ℕ) (block : List ℕ) (phase : Phase) → is_live_on phase stream ≡ false
+        → on_open (with_head_on stream block) phase ≡ phase }
+    ensures finish { (stream : ℕ) (block : List ℕ) (phase : Phase) → is_live_on phase stream ≡ false
+        → on_open (with_trailers_on stream block) phase ≡ phase }
+    ensures offer { (stream : ℕ) (message : List ℕ) (phase : Phase) → is_live_on phase stream ≡ false
+        → on_open (with_message_on stream message) phase ≡ phase }
+    ensures withdraw { (stream : ℕ) (phase : Phase) → is_live_on phase stream ≡ false
+        → on_open (without_waiting_on stream) phase ≡ phase }
+    ensures reset { (stream code : ℕ) (phase : Phase) → is_live_on phase stream ≡ false
+        → on_open (after_reset stream code) phase ≡ phase }
 {}
 
 /// After a fault no stream is live, and once its bytes are written nothing is left.
 #[tactic(auto, using(crate::proofs::Results::fault_flush, crate::proofs::Results::fault_quiet))]
 pub fn faults_end_all()
-    ensures dead { (fault : ConnFault) (left : List ℕ) (totals : Totals) (stream : ℕ) → is_live_on (Failed fault left totals) stream ≡ false }
-    ensures once { (fault : ConnFault) (left : List ℕ) (totals : Totals) → flush_of (Failed fault left totals) ≡ record { bytes = left; after = Failed fault [] totals } }
-    ensures quiet { (fault : ConnFault) (totals : Totals) → flush_of (Failed fault [] totals) ≡ record { bytes = []; after = Failed fault [] totals } }
+    ensures dead { (fault : ConnFault) (left : List ℕ) (totals : Totals) (stream : ℕ)
+        → is_live_on (Failed fault left totals) stream ≡ false }
+    ensures once { (fault : ConnFault) (left : List ℕ) (totals : Totals)
+        → flush_of (Failed fault left totals) ≡ record { bytes = left; after = Failed fault [] totals } }
+    ensures quiet { (fault : ConnFault) (totals : Totals)
+        → flush_of (Failed fault [] totals) ≡ record { bytes = []; after = Failed fault [] totals } }
 {}
 
 /// The frames that are read from bytes have what `Conn::frame` asks of them.
@@ -56,5 +65,6 @@ pub fn floods_are_counted()
 /// less the bytes of DATA written on it, below zero too (RFC 9113, section 6.9).
 #[tactic(auto, using(crate::proofs::WindowSums::reached_windows))]
 pub fn windows_are_sums()
-    ensures { (steps : List Step) (state : State) → AllByRecursion HasLowStream steps → Reaches steps state → HasWindows steps state }
+    ensures { (steps : List Step) (state : State) → AllByRecursion HasLowStream steps → Reaches steps state
+        → HasWindows steps state }
 {}

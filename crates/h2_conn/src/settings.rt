@@ -29,7 +29,9 @@ fn note(state: &mut State, value: u32)
 /// Sets the initial window.
 fn set_initial(state: &mut State, value: u32) -> RowResult
     requires { value < 2 ^ 31 }
-    ensures { Steps (with_window state.old (set_initial_window value state.old.outbox) (fault state.old cause.Overflow)) result state.new }
+    ensures { Steps
+        (with_window state.old (set_initial_window value state.old.outbox)
+        (fault state.old cause.Overflow)) result state.new }
 {
     match state.outbox.initial(value) {
         Ok(()) => Ok(None),

@@ -20,7 +20,9 @@ pub fn pulls_once()
 /// Offering the same message again leaves the same outbox.
 #[tactic(auto, using(crate::proofs::Offers::offers_once))]
 pub fn offers_once()
-    ensures { (stream : ℕ) (message : List ℕ) (outbox : Out) → with_message stream message (with_message stream message outbox) ≡ with_message stream message outbox }
+    ensures { (stream : ℕ) (message : List ℕ) (outbox : Out)
+        → with_message stream message (with_message stream message outbox)
+        ≡ with_message stream message outbox }
 {}
 
 /// A pull neither adds nor removes a stream.
@@ -36,7 +38,8 @@ pub fn pulls_keep_streams()
 #[tactic(auto, using(crate::proofs::Sums::reached_sums, crate::proofs::Sums::reached_rises))]
 pub fn windows_are_sums()
     ensures sums { (steps : List Step) (outbox : Out) → Reaches steps outbox → HasSums steps outbox }
-    ensures ascending { (steps : List Step) (outbox : Out) → Reaches steps outbox → RisesFrom 0 (numbers outbox) }
+    ensures ascending { (steps : List Step) (outbox : Out) → Reaches steps outbox
+        → RisesFrom 0 (numbers outbox) }
 {}
 
 /// The DATA written on a stream is a prefix of the messages that began there, one after the
@@ -45,10 +48,16 @@ pub fn windows_are_sums()
 /// begun messages by those that waited before it and do not after it.
 #[tactic(auto, using(crate::proofs::Progress::reached_prefix, crate::proofs::Progress::reached_progress, crate::proofs::Progress::pull_finishes, crate::proofs::Begun::pull_counts))]
 pub fn writes_what_began()
-    ensures prefix { (stream : ℕ) (steps : List Step) (outbox : Out) → Reaches steps outbox → BeginsWith (all_messages (progress_on stream steps).begun) (progress_on stream steps).written }
-    ensures progress { (stream : ℕ) (steps : List Step) (outbox : Out) → Reaches steps outbox → WritesWhatBegan stream steps outbox }
-    ensures whole { (stream : ℕ) (sent : List Sent) (before : List Step) (outbox : Out) → Reaches (Pull sent ∷ before) outbox → IsMore (all_data_on stream sent) (progress_on stream before) → Finishes (all_data_on stream sent) (progress_on stream before) }
-    ensures count { (outbox : Out) → (pull_of outbox).left.flow.begun ≡ outbox.flow.begun + count_all_begun outbox.streams (pull_of outbox).left.streams }
+    ensures prefix { (stream : ℕ) (steps : List Step) (outbox : Out) → Reaches steps outbox
+        → BeginsWith (all_messages (progress_on stream steps).begun) (progress_on stream steps).written }
+    ensures progress { (stream : ℕ) (steps : List Step) (outbox : Out) → Reaches steps outbox
+        → WritesWhatBegan stream steps outbox }
+    ensures whole { (stream : ℕ) (sent : List Sent) (before : List Step) (outbox : Out)
+        → Reaches (Pull sent ∷ before) outbox → IsMore (all_data_on stream sent) (progress_on stream before)
+        → Finishes (all_data_on stream sent) (progress_on stream before) }
+    ensures count { (outbox : Out)
+        → (pull_of outbox).left.flow.begun
+        ≡ outbox.flow.begun + count_all_begun outbox.streams (pull_of outbox).left.streams }
 {}
 
 /// A pull writes on a stream no more bytes of DATA than its window was, and none where that was
@@ -56,6 +65,10 @@ pub fn writes_what_began()
 /// section 6.9.1).
 #[tactic(auto, using(crate::proofs::Sums::pull_within_streams, crate::proofs::Sums::pull_within_connection))]
 pub fn pulls_stay_within_windows()
-    ensures streams { (outbox : Out) → RisesFrom 0 (numbers outbox) → AllByRecursion (λ s. sum_by (data_on s.number) (pull_of outbox).sent ≤ room_of (window_of outbox.flow.initial_window_size s.credit)) outbox.streams }
-    ensures connection { (outbox : Out) → RisesFrom 0 (numbers outbox) → sum_by data_of (pull_of outbox).sent ≤ outbox.flow.connection_window }
+    ensures streams { (outbox : Out) → RisesFrom 0 (numbers outbox)
+        → AllByRecursion
+        (λ s. sum_by (data_on s.number) (pull_of outbox).sent
+        ≤ room_of (window_of outbox.flow.initial_window_size s.credit)) outbox.streams }
+    ensures connection { (outbox : Out) → RisesFrom 0 (numbers outbox)
+        → sum_by data_of (pull_of outbox).sent ≤ outbox.flow.connection_window }
 {}

@@ -90,7 +90,8 @@ impl Outbox {
         requires { value < 2 ^ 31 }
         ensures changes { Changes result (set_initial_window value self.old) self.old self.new }
         ensures lowest { IfErr result (λ over. IsLowestOver value over.stream self.old.streams) }
-        ensures fits { OnOk result (AllByRecursion (λ s. window_of value s.credit ≤ℤ pos MAX_WINDOW_SIZE) self.old.streams) }
+        ensures fits { OnOk result
+            (AllByRecursion (λ s. window_of value s.credit ≤ℤ pos MAX_WINDOW_SIZE) self.old.streams) }
     {
         match passing(self.streams.as_slice(), value) {
             Some(stream) => Err(Overflow { stream }),
@@ -272,7 +273,8 @@ impl Outbox {
         ensures ended_front { GainsFront (pull_of self.old).ended ended.old ended.new }
         ensures fails { OnErr result (self.new.failed ≡ true) }
         ensures again { self.old.failed ≡ true → IsErr result }
-        ensures still { self.old.failed ≡ true → (out.new ≡ out.old) × (ended.new ≡ ended.old) × (self.new ≡ self.old) }
+        ensures still { self.old.failed ≡ true
+            → (out.new ≡ out.old) × (ended.new ≡ ended.old) × (self.new ≡ self.old) }
         ensures counts { OnErr result (self.new.flow ≡ self.old.flow) }
         ensures kept { OnErr result (self.new.control ≡ self.old.control) }
     {

@@ -61,7 +61,9 @@ fn put_headers(
     block: &Block,
     out: &mut Octets,
 ) -> Result<(), Memory>
-    ensures { (told : List ℕ) → Takes result (headers_turn flow.old stream.old block.now false) out.old out.new told told flow.new stream.new }
+    ensures { (told : List ℕ)
+        → Takes result
+        (headers_turn flow.old stream.old block.now false) out.old out.new told told flow.new stream.new }
 {
     put(
         out,
@@ -114,7 +116,8 @@ fn spent(initial: u32, credit: i64, bytes: u32) -> i64
 /// Writes the next bytes of the message that began last.
 #[tactic(auto, unfolding(crate::specs::Streams::data_turn))]
 fn put_data(flow: &mut Flow, stream: &mut Stream, out: &mut Octets) -> Result<(), Memory>
-    ensures { (told : List ℕ) → Takes result (data_turn flow.old stream.old) out.old out.new told told flow.new stream.new }
+    ensures { (told : List ℕ)
+        → Takes result (data_turn flow.old stream.old) out.old out.new told told flow.new stream.new }
 {
     let left = left(stream);
     let count = allowed(*flow, stream.credit, left.len());
@@ -135,7 +138,8 @@ fn put_data(flow: &mut Flow, stream: &mut Stream, out: &mut Octets) -> Result<()
 
 /// Moves the waiting message to where messages are written from.
 fn begin(stream: &mut Stream)
-    ensures { (message : List ℕ) → stream.old.waiting ≡ Some message → stream.new ≡ record stream.old { last = message; sent = 0; waiting = None } }
+    ensures { (message : List ℕ) → stream.old.waiting ≡ Some message
+        → stream.new ≡ record stream.old { last = message; sent = 0; waiting = None } }
 {
     if let Some(message) = stream.waiting.take() {
         stream.last = message;
@@ -191,7 +195,8 @@ fn put_body(
     out: &mut Octets,
     ended: &mut Row<u32>,
 ) -> Result<(), Memory>
-    ensures { Takes result (body_turn flow.old stream.old) out.old out.new ended.old ended.new flow.new stream.new }
+    ensures { Takes result
+        (body_turn flow.old stream.old) out.old out.new ended.old ended.new flow.new stream.new }
 {
     if stream.sent < stream.last.len() {
         put_data(flow, stream, out)
@@ -208,7 +213,8 @@ fn take_turn(
     out: &mut Octets,
     ended: &mut Row<u32>,
 ) -> Result<(), Memory>
-    ensures { Takes result (turn flow.old stream.old) out.old out.new ended.old ended.new flow.new stream.new }
+    ensures { Takes result
+        (turn flow.old stream.old) out.old out.new ended.old ended.new flow.new stream.new }
 {
     match stream.head.take() {
         Some(block) => put_headers(flow, stream, &block, out),
@@ -224,7 +230,8 @@ fn take_round(
     out: &mut Octets,
     ended: &mut Row<u32>,
 ) -> Result<(), Memory>
-    ensures { Makes result (round flow.old streams.old) out.old out.new ended.old ended.new flow.new streams.new }
+    ensures { Makes result
+        (round flow.old streams.old) out.old out.new ended.old ended.new flow.new streams.new }
 {
     for stream in streams.iter_mut() {
         take_turn(flow, stream, out, ended)?;
@@ -239,7 +246,8 @@ pub(crate) fn take_rounds(
     out: &mut Octets,
     ended: &mut Row<u32>,
 ) -> Result<(), Memory>
-    ensures { Makes result (all_rounds flow.old streams.old) out.old out.new ended.old ended.new flow.new streams.new }
+    ensures { Makes result
+        (all_rounds flow.old streams.old) out.old out.new ended.old ended.new flow.new streams.new }
 {
     'rounds: loop {
         let before = out.len();

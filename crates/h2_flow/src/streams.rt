@@ -15,8 +15,11 @@ use wl_octets::Octets;
 fn place(streams: &[Stream], number: u32) -> usize
     requires { list_any (is_number number) streams.now ≡ true }
     ensures within { result < length streams.now }
-    ensures changes { (f : Stream → Stream) (d : Stream) → update_stream number f streams.now ≡ slice_set streams.now result (f (slice_index_or streams.now result d)) }
-    ensures credit { (d : Stream) → credit_of number streams.now ≡ (slice_index_or streams.now result d).credit }
+    ensures changes { (f : Stream → Stream) (d : Stream)
+        → update_stream number f streams.now
+        ≡ slice_set streams.now result (f (slice_index_or streams.now result d)) }
+    ensures credit { (d : Stream)
+        → credit_of number streams.now ≡ (slice_index_or streams.now result d).credit }
 {
     let mut at = 0;
     while streams[at].number != number {
@@ -37,7 +40,8 @@ pub(crate) fn credit(streams: &[Stream], number: u32) -> i64
 pub(crate) fn raise(streams: &mut [Stream], number: u32, step: u32)
     requires there { list_any (is_number number) streams.old ≡ true }
     requires small { (credit_of number streams.old +ℤ pos step) ≤ℤ pos MAX_WINDOW_SIZE }
-    ensures { streams.new ≡ update_stream number (λ s. record s { credit = s.credit +ℤ pos step }) streams.old }
+    ensures { streams.new
+        ≡ update_stream number (λ s. record s { credit = s.credit +ℤ pos step }) streams.old }
 {
     let at = place(streams, number);
     streams[at].raise(step);
@@ -73,7 +77,8 @@ pub(crate) fn withdraw(streams: &mut [Stream], number: u32)
 /// Makes the last block due on a stream that is there.
 pub(crate) fn finish(streams: &mut [Stream], number: u32, block: Block)
     requires { list_any (is_number number) streams.old ≡ true }
-    ensures { streams.new ≡ update_stream number (λ s. record s { trailers = Some block; finished = true }) streams.old }
+    ensures { streams.new
+        ≡ update_stream number (λ s. record s { trailers = Some block; finished = true }) streams.old }
 {
     let at = place(streams, number);
     streams[at].finish(block);

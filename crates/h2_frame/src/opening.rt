@@ -21,8 +21,10 @@ pub enum Greeting {
 fn common(left: &[u8], piece: &[u8]) -> usize
     ensures left { result ≤ length left.now }
     ensures piece { result ≤ length piece.now }
-    ensures same { after_preface left.now piece.now ≡ after_preface (drop result left.now) (drop result piece.now) }
-    ensures ends { result < length left.now → result < length piece.now → slice_index left.now result ≢ slice_index piece.now result }
+    ensures same { after_preface left.now piece.now
+        ≡ after_preface (drop result left.now) (drop result piece.now) }
+    ensures ends { result < length left.now → result < length piece.now
+        → slice_index left.now result ≢ slice_index piece.now result }
 {
     let mut count = 0;
     while count < left.len() && count < piece.len() && left[count] == piece[count] {

@@ -74,7 +74,8 @@ impl Parser {
         ensures fed { Feeds result (reading_from self.old piece.now) into.old into.new self.new }
         ensures front { GainsFront (reading_from self.old piece.now).frames into.old into.new }
         ensures again { (fault : FrameFault) → self.old ≡ Fault fault → result ≡ Err fault }
-        ensures stands { (first : End) (fed : List ℕ) → StandsFor first self.old fed → StandsFor first self.new (fed ++ piece.now) }
+        ensures stands { (first : End) (fed : List ℕ) → StandsFor first self.old fed
+            → StandsFor first self.new (fed ++ piece.now) }
     {
         self.feed_parts(alloc, piece, into)
     }
@@ -180,7 +181,8 @@ fn read(
     into: &mut Row<Frame>,
 ) -> Result<(), FrameFault>
     requires { stage.old ≡ Frames }
-    ensures fed { Feeds result (reading_from (Rest pending.old.items) piece.now) into.old into.new (ending_of stage.new pending.new.items) }
+    ensures fed { Feeds result (reading_from (Rest pending.old.items) piece.now) into.old into.new
+        (ending_of stage.new pending.new.items) }
     ensures within { IsWithin stage.new }
     ensures front { GainsFront (reading_from (Rest pending.old.items) piece.now).frames into.old into.new }
 {
@@ -200,8 +202,13 @@ fn take_in(
     piece: &[u8],
     into: &mut Row<Frame>,
 ) -> Result<(), FrameFault>
-    ensures ok { OnOk result ((into.new ≡ into.old ++ (frames_of (pending.old.items ++ piece.now)).frames) × ((frames_of (pending.old.items ++ piece.now)).ending ≡ Rest pending.new.items)) }
-    ensures fault { IfErr result (λ fault. Refuses fault ((into.new ≡ into.old ++ (frames_of (pending.old.items ++ piece.now)).frames) × ((frames_of (pending.old.items ++ piece.now)).ending ≡ Fault fault))) }
+    ensures ok { OnOk result
+        ((into.new ≡ into.old ++ (frames_of (pending.old.items ++ piece.now)).frames)
+        × ((frames_of (pending.old.items ++ piece.now)).ending ≡ Rest pending.new.items)) }
+    ensures fault { IfErr result
+        (λ fault. Refuses fault
+        ((into.new ≡ into.old ++ (frames_of (pending.old.items ++ piece.now)).frames)
+        × ((frames_of (pending.old.items ++ piece.now)).ending ≡ Fault fault))) }
     ensures front { GainsFront (frames_of (pending.old.items ++ piece.now)).frames into.old into.new }
 {
     if pending.is_empty() {

@@ -51,7 +51,10 @@ pub(crate) fn frames(
     ensures within { IfOk result (λ used. used ≤ length bytes.now) }
     ensures ending { IfOk result (λ used. (frames_of bytes.now).ending ≡ Rest (drop used bytes.now)) }
     ensures all { OnOk result (into.new ≡ into.old ++ (frames_of bytes.now).frames) }
-    ensures fault { IfErr result (λ fault. Refuses fault ((into.new ≡ into.old ++ (frames_of bytes.now).frames) × ((frames_of bytes.now).ending ≡ Fault fault))) }
+    ensures fault { IfErr result
+        (λ fault. Refuses fault
+        ((into.new ≡ into.old ++ (frames_of bytes.now).frames)
+        × ((frames_of bytes.now).ending ≡ Fault fault))) }
     ensures front { GainsFront (frames_of bytes.now).frames into.old into.new }
 {
     let mut at = 0;

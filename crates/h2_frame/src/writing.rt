@@ -20,7 +20,8 @@ pub fn put_frame(out: &mut Octets, frame: &Frame) -> Result<(), Memory>
     requires { length (payload_of frame.now.body) ≤ MAX_FRAME_SIZE }
     ensures ok { OnOk result (out.new ≡ out.old ++ frame_encoding frame.now) }
     ensures front { GainsFront (frame_encoding frame.now) out.old out.new }
-    ensures read_again { IsWritable frame.now.body → frame.now.stream < 2 ^ 31 → (rest : List ℕ) → first_frame (frame_encoding frame.now ++ rest) ≡ whole frame.now rest }
+    ensures read_again { IsWritable frame.now.body → frame.now.stream < 2 ^ 31 → (rest : List ℕ)
+        → first_frame (frame_encoding frame.now ++ rest) ≡ whole frame.now rest }
 {
     let body = &frame.body;
     let head = head_of_frame(payload_len(body), kind(body), flags(body), frame.stream);

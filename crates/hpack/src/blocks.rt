@@ -56,7 +56,8 @@ fn representation<'a>(
     first: u8,
     bytes: &'a [u8],
 ) -> Result<(Option<Header>, &'a [u8]), HpackFault>
-    ensures { Gives (λ read. (read.0, table.new, read.1.now)) result (representation_at table.old begun first bytes.now) }
+    ensures { Gives (λ read. (read.0, table.new, read.1.now)) result
+        (representation_at table.old begun first bytes.now) }
 {
     if first >= 128 {
         let (index, rest) = integer(127, bytes)?;

@@ -43,7 +43,8 @@ impl Decoder {
     /// Goes on by one block.
     fn advance(&mut self, alloc: Global, block: &[u8]) -> Result<Row<Header>, HpackFault>
         ensures step { Decodes result self.new (decode_block self.old block.now) }
-        ensures again { (fault : HpackFault) → self.old ≡ Broken fault → (result ≡ Err fault) × (self.new ≡ Broken fault) }
+        ensures again { (fault : HpackFault) → self.old ≡ Broken fault
+            → (result ≡ Err fault) × (self.new ≡ Broken fault) }
         ensures bounded { IsBounded self.new }
     {
         if let Some(fault) = self.fault {
@@ -66,13 +67,15 @@ impl Decoder {
     pub fn block(&mut self, alloc: Global, block: &[u8]) -> Result<Row<Header>, HpackFault>
         // It is one step, and it fails for good.
         ensures step { Decodes result self.new (decode_block self.old block.now) }
-        ensures again { (fault : HpackFault) → self.old ≡ Broken fault → (result ≡ Err fault) × (self.new ≡ Broken fault) }
+        ensures again { (fault : HpackFault) → self.old ≡ Broken fault
+            → (result ≡ Err fault) × (self.new ≡ Broken fault) }
         // What is read is a block of the standard, and as such nothing else; what is refused is none.
         ensures found { IfOk result (λ headers. Reads self.old block.now headers self.new) }
         ensures only { IfOk result (λ headers. ReadsAlone self.old block.now headers self.new) }
         ensures err { IfErr result (λ fault. Refuses fault (IsNoBlock self.old block.now)) }
         // It stands for the blocks that it was given, the last of them first, and its table stays within its size.
-        ensures stands { (blocks : List (List ℕ)) → StandsFor self.old blocks → StandsFor self.new (block.now ∷ blocks) }
+        ensures stands { (blocks : List (List ℕ)) → StandsFor self.old blocks
+            → StandsFor self.new (block.now ∷ blocks) }
         ensures bounded { IsBounded self.new }
     {
         self.advance(alloc, block)

@@ -109,7 +109,8 @@ impl DynamicTable {
 
     /// The header at an index, which counts from 1 through the static table and then this one (section 2.3.3).
     pub fn field(&self, index: u32) -> Result<Field<'_>, HpackFault>
-        ensures { Gives (λ field. record { name = field.name.now; value = field.value.now }) result (entry_at self.now.items index) }
+        ensures { Gives (λ field. record { name = field.name.now; value = field.value.now }) result
+            (entry_at self.now.items index) }
     {
         if index == 0 {
             return Err(HpackFault::Index);

@@ -114,9 +114,14 @@ fn most_bytes(headers: &[Header]) -> usize {
 /// and it takes at most 16,383 bytes.
 pub fn encode_plain(alloc: Global, headers: &[Header]) -> Result<Octets, Memory>
     ensures spelled { IfOk result (λ block. block ≡ block_bytes headers.now) }
-    ensures readable { IfOk result (λ block. list_size headers.now ≤ MAX_LIST_SIZE → (table : Table) → IsBlock table block headers.now table) }
-    ensures small { IfOk result (λ block. list_size headers.now ≤ MAX_LIST_SIZE → length block < MAX_LIST_SIZE) }
-    ensures read_again { IfOk result (λ block. list_size headers.now ≤ MAX_LIST_SIZE → (table : Table) → block_of table block ≡ Ok (headers.now, table)) }
+    ensures readable { IfOk result
+        (λ block. list_size headers.now ≤ MAX_LIST_SIZE → (table : Table)
+        → IsBlock table block headers.now table) }
+    ensures small { IfOk result
+        (λ block. list_size headers.now ≤ MAX_LIST_SIZE → length block < MAX_LIST_SIZE) }
+    ensures read_again { IfOk result
+        (λ block. list_size headers.now ≤ MAX_LIST_SIZE → (table : Table)
+        → block_of table block ≡ Ok (headers.now, table)) }
 {
     let mut out = Vec::with_capacity(alloc, most_bytes(headers))?;
     for header in headers {

@@ -80,7 +80,8 @@ pub(crate) fn decode(alloc: Global, bytes: &[u8]) -> Result<Octets, HpackFault>
 pub fn huff_decode(alloc: Global, bytes: &[u8]) -> Result<Octets, HpackFault>
     ensures ok { IfOk result (λ text. IsHuffman bytes.now text) }
     ensures only { IfOk result (λ text. (other : List ℕ) → IsHuffman bytes.now other → other ≡ text) }
-    ensures err { IfErr result (λ fault. IsPaddingFault fault ((text : List ℕ) → IsHuffman bytes.now text → ⊥)) }
+    ensures err { IfErr result
+        (λ fault. IsPaddingFault fault ((text : List ℕ) → IsHuffman bytes.now text → ⊥)) }
     ensures read { Gives (λ text. text) result (huffman_text bytes.now) }
 {
     decode(alloc, bytes)

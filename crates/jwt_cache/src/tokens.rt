@@ -35,7 +35,8 @@ type Rings = BTreeMap<Vec<u8>, Ring>;
 
 /// Keeps one more.
 fn put(alloc: Global, rings: &mut Rings, kept: CachedToken) -> Result<(), Memory>
-    ensures ok { OnOk result ((q : List ℕ) → ring_at rings.new.entries q ≡ with_token kept q (ring_at rings.old.entries q)) }
+    ensures ok { OnOk result
+        ((q : List ℕ) → ring_at rings.new.entries q ≡ with_token kept q (ring_at rings.old.entries q)) }
     ensures err { OnErr result (rings.new.entries ≡ rings.old.entries) }
 {
     match rings.get_mut(kept.ask.entry_id.as_slice()) {
@@ -70,7 +71,9 @@ impl Tokens {
         audience: &[Octets],
         now: u64,
     ) -> Result<Option<JwtToken>, Memory>
-        ensures { IfOk result (λ t. t ≡ find_among ask.now (sorted_texts audience.now) now (tokens_for self.now ask.now.entry_id)) }
+        ensures { IfOk result
+            (λ t. t
+            ≡ find_among ask.now (sorted_texts audience.now) now (tokens_for self.now ask.now.entry_id)) }
     {
         let Some(ring) = self.rings.get(ask.entry_id.as_slice()) else {
             return Ok(None);
@@ -90,7 +93,10 @@ impl Tokens {
         audience: &[Octets],
         token: JwtToken,
     ) -> Result<(), Memory>
-        ensures ok { OnOk result ((q : List ℕ) → tokens_for self.new q ≡ with_token (cached_token_of ask.now audience.now token) q (tokens_for self.old q)) }
+        ensures ok { OnOk result
+            ((q : List ℕ)
+            → tokens_for self.new q
+            ≡ with_token (cached_token_of ask.now audience.now token) q (tokens_for self.old q)) }
         ensures err { OnErr result (self.new ≡ self.old) }
     {
         let kept = CachedToken {
@@ -111,9 +117,12 @@ impl Tokens {
         audience: &[Octets],
         now: u64,
     ) -> Result<Option<JwtToken>, Memory>
-        ensures found { IfOk result (λ t. t ≡ find_among ask.now (sorted_texts audience.now) now (tokens_for self.now ask.now.entry_id)) }
+        ensures found { IfOk result
+            (λ t. t
+            ≡ find_among ask.now (sorted_texts audience.now) now (tokens_for self.now ask.now.entry_id)) }
         // Where the cache holds what a history leaves, it is the one that is found in them.
-        ensures history { (history : List CachedToken) → StandsFor self.now history → IfOk result (λ t. t ≡ find_in history ask.now (sorted_texts audience.now) now) }
+        ensures history { (history : List CachedToken) → StandsFor self.now history
+            → IfOk result (λ t. t ≡ find_in history ask.now (sorted_texts audience.now) now) }
     {
         let token = self.find_kept(alloc, ask, audience, now)?;
         Ok(token)
@@ -128,8 +137,12 @@ impl Tokens {
         audience: &[Octets],
         token: JwtToken,
     ) -> Result<(), Memory>
-        ensures ok { OnOk result ((q : List ℕ) → tokens_for self.new q ≡ with_token (cached_token_of ask.now audience.now token) q (tokens_for self.old q)) }
-        ensures history { (history : List CachedToken) → StandsFor self.old history → OnOk result (StandsFor self.new (history ++ cached_token_of ask.now audience.now token ∷ [])) }
+        ensures ok { OnOk result
+            ((q : List ℕ)
+            → tokens_for self.new q
+            ≡ with_token (cached_token_of ask.now audience.now token) q (tokens_for self.old q)) }
+        ensures history { (history : List CachedToken) → StandsFor self.old history
+            → OnOk result (StandsFor self.new (history ++ cached_token_of ask.now audience.now token ∷ [])) }
         ensures err { OnErr result (self.new ≡ self.old) }
     {
         self.keep_one(alloc, ask, audience, token)?;
@@ -138,15 +151,18 @@ impl Tokens {
 
     /// Drops the tokens of an entry. It takes no memory.
     fn drop_ring(&mut self, entry_id: &[u8])
-        ensures { (q : List ℕ) → tokens_for self.new q ≡ (if bytes_eq q entry_id.now then [] else tokens_for self.old q) }
+        ensures { (q : List ℕ)
+            → tokens_for self.new q ≡ (if bytes_eq q entry_id.now then [] else tokens_for self.old q) }
     {
         self.rings.remove(entry_id);
     }
 
     /// Drops the tokens of an entry. It takes no memory.
     pub fn forget(&mut self, entry_id: &[u8])
-        ensures rings { (q : List ℕ) → tokens_for self.new q ≡ (if bytes_eq q entry_id.now then [] else tokens_for self.old q) }
-        ensures history { (history : List CachedToken) → StandsFor self.old history → StandsFor self.new (without_entry entry_id.now history) }
+        ensures rings { (q : List ℕ)
+            → tokens_for self.new q ≡ (if bytes_eq q entry_id.now then [] else tokens_for self.old q) }
+        ensures history { (history : List CachedToken) → StandsFor self.old history
+            → StandsFor self.new (without_entry entry_id.now history) }
     {
         self.drop_ring(entry_id);
     }

@@ -18,7 +18,8 @@ use wl_octets::{Memory, Octets, Row, Shared};
 /// The first second at which half of its time has passed.
 fn half_time(signed: &Signed) -> u64
     ensures second { result ≡ half_second signed.now }
-    ensures exact { signed.now.not_before ≤ signed.now.not_after → (now : ℕ) → is_half_over now signed.now ≡ nat_le result now }
+    ensures exact { signed.now.not_before ≤ signed.now.not_after → (now : ℕ)
+        → is_half_over now signed.now ≡ nat_le result now }
 {
     let half = (signed.not_before as u128 + signed.not_after as u128 + 1) / 2;
     half.min(signed.not_after as u128) as u64

@@ -78,7 +78,8 @@ fn put_id(out: &mut Vec<u8>, fault: IdFault) -> Result<(), Memory>
 /// A fault's number, its place and one number more.
 #[tactic(auto, unfolding(fault_lines::specs::Lines::spaced_all))]
 fn put_counted(out: &mut Vec<u8>, kind: u64, place: Place, count: usize) -> Result<(), Memory>
-    ensures { OnOk result (out.new.items ≡ out.old.items ++ spaced_all (kind ∷ place_numbers place ++ count ∷ [])) }
+    ensures { OnOk result
+        (out.new.items ≡ out.old.items ++ spaced_all (kind ∷ place_numbers place ++ count ∷ [])) }
 {
     put_placed(out, kind, place)?;
     put_spaced(out, count as u64)
@@ -87,7 +88,8 @@ fn put_counted(out: &mut Vec<u8>, kind: u64, place: Place, count: usize) -> Resu
 /// The number of a fault in an id, its place and the id's own numbers.
 #[tactic(auto, unfolding(fault_lines::specs::Lines::spaced_all))]
 fn put_placed_id(out: &mut Vec<u8>, place: Place, fault: IdFault) -> Result<(), Memory>
-    ensures { OnOk result (out.new.items ≡ out.old.items ++ spaced_all (5 ∷ place_numbers place ++ id_numbers fault)) }
+    ensures { OnOk result
+        (out.new.items ≡ out.old.items ++ spaced_all (5 ∷ place_numbers place ++ id_numbers fault)) }
 {
     put_placed(out, 5, place)?;
     put_id(out, fault)

@@ -47,7 +47,8 @@ impl<V: Voucher> Desk<V> {
     /// A desk of a manager and a publisher whose last publication is the manager's, and so many seats.
     pub fn start(manager: Manager<V>, publisher: Publisher<V>, seats: u32) -> Desk<V>
         requires { IsLast publisher.list manager.stored.published }
-        ensures { result ≡ record { store = publisher.store; list = publisher.list; managed = manager; seats = seats } }
+        ensures { result
+            ≡ record { store = publisher.store; list = publisher.list; managed = manager; seats = seats } }
     {
         Desk {
             manager,
@@ -64,16 +65,20 @@ impl<V: Voucher> Desk<V> {
         alloc: Global,
         document: &[u8],
     ) -> Result<Option<Note<V>>, DocFault>
-        ensures stored { OnOk result (IsOkAnd (document_state (Some self.old.managed.stored.published.domain) document.now)
+        ensures stored { OnOk result
+            (IsOkAnd (document_state (Some self.old.managed.stored.published.domain) document.now)
             (λ d. self.new.managed.stored ≡ stored_after (after_sync d self.old.managed.stored) self.old.managed.stored)) }
-        ensures list { OnOk result (IsOkAnd (document_state (Some self.old.managed.stored.published.domain) document.now)
+        ensures list { OnOk result
+            (IsOkAnd (document_state (Some self.old.managed.stored.published.domain) document.now)
             (λ d. self.new.list ≡ grown self.old.list (change_to (after_sync d self.old.managed.stored) self.old.managed.stored) self.new.managed.stored.published)) }
-        ensures note { IfOk result (λ note. IsOkAnd (document_state (Some self.old.managed.stored.published.domain) document.now)
+        ensures note { IfOk result
+            (λ note. IsOkAnd (document_state (Some self.old.managed.stored.published.domain) document.now)
             (λ d. note ≡ noted (change_to (after_sync d self.old.managed.stored) self.old.managed.stored) (listing self.new.store self.new.list))) }
         ensures history { (history : List CachedToken) → StandsFor self.old.managed.tokens history
             → OnOk result (StandsFor self.new.managed.tokens (history_after self.old.managed.stored.store.entries self.new.managed.stored.store.entries history)) }
         ensures rest { (self.new.store ≡ self.old.store) × (self.new.seats ≡ self.old.seats) }
-        ensures fault { IfErr result (λ e. Faults e (document_state (Some self.old.managed.stored.published.domain) document.now)) }
+        ensures fault { IfErr result
+            (λ e. Faults e (document_state (Some self.old.managed.stored.published.domain) document.now)) }
         ensures err { OnErr result (self.new ≡ self.old) }
     {
         let prepared = self.manager.prepare_sync(alloc, document)?;
@@ -94,10 +99,18 @@ impl<V: Voucher> Desk<V> {
         alloc: Global,
         now: u64,
     ) -> Result<(Row<Ticket>, Option<Note<V>>), Memory>
-        ensures stored { OnOk result (self.new.managed.stored ≡ stored_after (after_claim now self.old.managed.stored.store) self.old.managed.stored) }
-        ensures tickets { IfOk result (λ r. flights_of r.0 ≡ flights_from self.old.managed.stored.store.last_ticket (asks_to_claim now self.old.managed.stored.store)) }
+        ensures stored { OnOk result
+            (self.new.managed.stored
+            ≡ stored_after (after_claim now self.old.managed.stored.store) self.old.managed.stored) }
+        ensures tickets { IfOk result
+            (λ r. flights_of r.0
+            ≡ flights_from self.old.managed.stored.store.last_ticket
+            (asks_to_claim now self.old.managed.stored.store)) }
         ensures list { OnOk result (self.new.list ≡ grown self.old.list (change_to (after_claim now self.old.managed.stored.store) self.old.managed.stored) self.new.managed.stored.published) }
-        ensures note { IfOk result (λ r. r.1 ≡ noted (change_to (after_claim now self.old.managed.stored.store) self.old.managed.stored) (listing self.new.store self.new.list)) }
+        ensures note { IfOk result
+            (λ r. r.1
+            ≡ noted (change_to (after_claim now self.old.managed.stored.store) self.old.managed.stored)
+            (listing self.new.store self.new.list)) }
         ensures tokens { self.new.managed.tokens ≡ self.old.managed.tokens }
         ensures rest { (self.new.store ≡ self.old.store) × (self.new.seats ≡ self.old.seats) }
         ensures err { OnErr result (self.new ≡ self.old) }
@@ -139,7 +152,8 @@ impl<V: Voucher> Desk<V> {
         ensures tokens { self.new.managed.tokens ≡ self.old.managed.tokens }
         ensures rest { (self.new.store ≡ self.old.store) × (self.new.seats ≡ self.old.seats) }
         ensures err { OnErr result (self.new.list ≡ self.old.list) }
-        ensures err_spent { OnErr result (SpentIn ticket.number ticket.ask self.old.managed.stored self.new.managed.stored) }
+        ensures err_spent { OnErr result
+            (SpentIn ticket.number ticket.ask self.old.managed.stored self.new.managed.stored) }
     {
         let prepared = match self.manager.prepare_signed(alloc, &ticket, &signed, now) {
             Ok(prepared) => prepared,

@@ -26,7 +26,8 @@ pub(crate) fn edition_of<V: Voucher>(
     alloc: Global,
     prepared: &Prepared<V>,
 ) -> Result<Option<Edition>, Memory>
-    ensures value { IfOk result (λ edition. edition ≡ news prepared.now.step.answer.change prepared.now.step.next.published) }
+    ensures value { IfOk result
+        (λ edition. edition ≡ news prepared.now.step.answer.change prepared.now.step.next.published) }
     ensures vouched { IsVouched V.signed prepared.now.step.next.published }
 {
     match prepared.snapshot() {

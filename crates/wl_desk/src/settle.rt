@@ -28,8 +28,10 @@ impl<V: Voucher> Desk<V> {
         requires { Follows self.old.managed.stored.published prepared.step.answer.change prepared.step.next.published }
         ensures stored { OnOk result (self.new.managed.stored ≡ prepared.step.next) }
         ensures answer { IfOk result (λ r. r.0 ≡ prepared.step.answer) }
-        ensures list { OnOk result (self.new.list ≡ grown self.old.list prepared.step.answer.change prepared.step.next.published) }
-        ensures note { IfOk result (λ r. r.1 ≡ noted prepared.step.answer.change (listing self.new.store self.new.list)) }
+        ensures list { OnOk result
+            (self.new.list ≡ grown self.old.list prepared.step.answer.change prepared.step.next.published) }
+        ensures note { IfOk result
+            (λ r. r.1 ≡ noted prepared.step.answer.change (listing self.new.store self.new.list)) }
         ensures history { (history : List CachedToken) → StandsFor self.old.managed.tokens history
             → OnOk result (StandsFor self.new.managed.tokens (without_all prepared.dropped history)) }
         ensures tokens { prepared.dropped ≡ [] → self.new.managed.tokens ≡ self.old.managed.tokens }

@@ -43,7 +43,9 @@ impl<V: Voucher> Desk<V> {
         now: u64,
     ) -> Result<Keeping, Memory>
         requires { V.token ask.now (sorted_texts audience.now) token }
-        ensures answer { IfOk result (λ k. k ≡ keep_verdict now (asks_of self.old.managed.stored.store.entries) ask.now audience.now token) }
+        ensures answer { IfOk result
+            (λ k. k
+            ≡ keep_verdict now (asks_of self.old.managed.stored.store.entries) ask.now audience.now token) }
         ensures kept { (history : List CachedToken) → StandsFor self.old.managed.tokens history
             → IfOk result (λ k. k ≡ Keeping.Kept
             → StandsFor self.new.managed.tokens (history ++ cached_token_of ask.now audience.now token ∷ [])) }

@@ -173,7 +173,8 @@ fn entry(
     before: &BTreeMap<Octets, Entry>,
     value: &Value,
 ) -> Result<Entry, DocFault>
-    ensures { Gives (λ e. e) result (entry_of own.now version index (kept_has before.now.entries) (view value.now)) }
+    ensures { Gives (λ e. e) result
+        (entry_of own.now version index (kept_has before.now.entries) (view value.now)) }
 {
     let id = entry_name(alloc, index, before, value)?;
     let spiffe_id = id_of(alloc, own, Place::entry(index, 2), "spiffe_id", value)?;

@@ -33,7 +33,8 @@ pub(crate) fn changed_ids<V: Voucher>(
 
 /// Drops the tokens of these entries. It takes no memory.
 pub(crate) fn forget_all(tokens: &mut Tokens, ids: &[Octets])
-    ensures kept { (q : List ℕ) → tokens_for tokens.new q ≡ (if has_text ids.now q then [] else tokens_for tokens.old q) }
+    ensures kept { (q : List ℕ)
+        → tokens_for tokens.new q ≡ (if has_text ids.now q then [] else tokens_for tokens.old q) }
     ensures none { ids.now ≡ [] → tokens.new ≡ tokens.old }
 {
     for id in ids {

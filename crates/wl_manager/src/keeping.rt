@@ -52,8 +52,12 @@ impl<V: Voucher> Manager<V> {
         audience: &[Octets],
         now: u64,
     ) -> Result<Option<JwtToken>, Memory>
-        ensures found { IfOk result (λ t. t ≡ find_among ask.now (sorted_texts audience.now) now (tokens_for self.now.tokens ask.now.entry_id)) }
-        ensures history { (history : List CachedToken) → StandsFor self.now.tokens history → IfOk result (λ t. t ≡ find_in history ask.now (sorted_texts audience.now) now) }
+        ensures found { IfOk result
+            (λ t. t
+            ≡ find_among ask.now (sorted_texts audience.now) now
+            (tokens_for self.now.tokens ask.now.entry_id)) }
+        ensures history { (history : List CachedToken) → StandsFor self.now.tokens history
+            → IfOk result (λ t. t ≡ find_in history ask.now (sorted_texts audience.now) now) }
         ensures vouched { IfOk result (λ t. IfSome t (V.token ask.now (sorted_texts audience.now))) }
     {
         let token = self.tokens.find(alloc, ask, audience, now)?;
@@ -70,7 +74,9 @@ impl<V: Voucher> Manager<V> {
         token: &JwtToken,
         now: u64,
     ) -> Result<Keeping, Memory>
-        ensures { IfOk result (λ k. k ≡ keep_verdict now (asks_of self.now.stored.store.entries) ask.now audience.now token.now) }
+        ensures { IfOk result
+            (λ k. k
+            ≡ keep_verdict now (asks_of self.now.stored.store.entries) ask.now audience.now token.now) }
     {
         if let Some(unfit) = token.unfit(now) {
             return Ok(Keeping::Unfit(unfit));
@@ -97,8 +103,12 @@ impl<V: Voucher> Manager<V> {
         now: u64,
     ) -> Result<Keeping, Memory>
         requires { V.token ask.now (sorted_texts audience.now) token }
-        ensures answer { IfOk result (λ k. k ≡ keep_verdict now (asks_of self.old.stored.store.entries) ask.now audience.now token) }
-        ensures kept { (history : List CachedToken) → StandsFor self.old.tokens history → IfOk result (λ k. k ≡ Keeping.Kept → StandsFor self.new.tokens (history ++ cached_token_of ask.now audience.now token ∷ [])) }
+        ensures answer { IfOk result
+            (λ k. k ≡ keep_verdict now (asks_of self.old.stored.store.entries) ask.now audience.now token) }
+        ensures kept { (history : List CachedToken) → StandsFor self.old.tokens history
+            → IfOk result
+            (λ k. k ≡ Keeping.Kept
+            → StandsFor self.new.tokens (history ++ cached_token_of ask.now audience.now token ∷ [])) }
         ensures refused { IfOk result (λ k. (k ≡ Keeping.Kept → ⊥) → self.new ≡ self.old) }
         ensures stored { self.new.stored ≡ self.old.stored }
         ensures err { OnErr result (self.new ≡ self.old) }

@@ -45,7 +45,8 @@ impl<V: Voucher> Manager<V> {
     /// A manager that begins with a document, in which neither SVID nor token is kept. Leaves are not judged in it. The
     /// first check of the document that fails is the fault.
     pub fn start(alloc: Global, document: &[u8]) -> Result<Manager<V>, DocFault>
-        ensures ok { IfOk result (λ m. IsOkAnd (document_state None document.now) (λ d. m ≡ first_managed false d)) }
+        ensures ok { IfOk result
+            (λ m. IsOkAnd (document_state None document.now) (λ d. m ≡ first_managed false d)) }
         ensures tokens { IfOk result (λ m. StandsFor m.tokens []) }
         ensures fault { IfErr result (λ e. Faults e (document_state None document.now)) }
     {
@@ -59,7 +60,8 @@ impl<V: Voucher> Manager<V> {
     /// As `start`, and the store is strict for good: no SVID is kept whose leaf names another id than its ask's, or has
     /// other times.
     pub fn start_strict(alloc: Global, document: &[u8]) -> Result<Manager<V>, DocFault>
-        ensures ok { IfOk result (λ m. IsOkAnd (document_state None document.now) (λ d. m ≡ first_managed true d)) }
+        ensures ok { IfOk result
+            (λ m. IsOkAnd (document_state None document.now) (λ d. m ≡ first_managed true d)) }
         ensures tokens { IfOk result (λ m. StandsFor m.tokens []) }
         ensures fault { IfErr result (λ e. Faults e (document_state None document.now)) }
     {
@@ -88,8 +90,11 @@ impl<V: Voucher> Manager<V> {
     /// The places, rising, of exactly the entries of the last publication to which a caller with these selectors is
     /// entitled.
     pub fn entitled(&self, alloc: Global, selectors: &Selectors) -> Result<Row<u32>, Memory>
-        ensures value { IfOk result (λ places. places ≡ entitled_places selectors.now self.now.stored.published.entries) }
-        ensures chosen { IfOk result (λ places. items_at self.now.stored.published.entries places ≡ filter (is_entitled selectors.now) self.now.stored.published.entries) }
+        ensures value { IfOk result
+            (λ places. places ≡ entitled_places selectors.now self.now.stored.published.entries) }
+        ensures chosen { IfOk result
+            (λ places. items_at self.now.stored.published.entries places
+            ≡ filter (is_entitled selectors.now) self.now.stored.published.entries) }
         ensures rising { IfOk result (IsStrictlySortedBy nat_cmp) }
         ensures there { IfOk result (All (λ place. place < length self.now.stored.published.entries)) }
     {
@@ -99,7 +104,8 @@ impl<V: Voucher> Manager<V> {
 
     /// The first ticket in flight of this number. It takes no memory.
     pub fn flight(&self, number: u64) -> Option<&Flight>
-        ensures { option_map (λ f. f.now) result ≡ find (λ f. f.number == number) self.now.stored.store.in_flight }
+        ensures { option_map (λ f. f.now) result
+            ≡ find (λ f. f.number == number) self.now.stored.store.in_flight }
     {
         self.store.flight(number)
     }
@@ -116,7 +122,8 @@ impl<V: Voucher> Manager<V> {
     pub fn failed(&mut self, ticket: Ticket)
         ensures left { has_ticket ticket.number ticket.ask self.old.stored.store.in_flight ≡ true →
             self.new.stored ≡ after_failed ticket.number self.old.stored }
-        ensures other { has_ticket ticket.number ticket.ask self.old.stored.store.in_flight ≡ false → self.new.stored ≡ self.old.stored }
+        ensures other { has_ticket ticket.number ticket.ask self.old.stored.store.in_flight ≡ false
+            → self.new.stored ≡ self.old.stored }
         ensures tokens { self.new.tokens ≡ self.old.tokens }
     {
         self.store.failed(ticket);

@@ -30,7 +30,8 @@ pub struct Prepared<V: Voucher> {
 impl<V: Voucher> Prepared<V> {
     /// The new publication, where there is one. It takes no memory.
     pub fn snapshot(&self) -> Option<&Shared<Snapshot>>
-        ensures value { option_map (λ p. p.now) result ≡ news self.now.step.answer.change self.now.step.next.published }
+        ensures value { option_map (λ p. p.now) result
+            ≡ news self.now.step.answer.change self.now.step.next.published }
         ensures trusted { AllTrusted V.signed self.now.step.next.store.strict self.now.step.next.published.svids }
     {
         self.step.snapshot()
@@ -46,7 +47,9 @@ impl<V: Voucher> Prepared<V> {
 impl<V: Voucher> Manager<V> {
     /// The ids of the entries whose ask the step changes or removes.
     fn dropped_by(&self, alloc: Global, step: &wl_store::Prepared<V>) -> Result<Row<Octets>, Memory>
-        ensures { IfOk result (λ ids. ids ≡ changed_ids (asks_of self.now.stored.store.entries) (asks_of step.now.next.store.entries)) }
+        ensures { IfOk result
+            (λ ids. ids
+            ≡ changed_ids (asks_of self.now.stored.store.entries) (asks_of step.now.next.store.entries)) }
     {
         changed_ids(alloc, self.store.asks(), &step.next)
     }
@@ -54,15 +57,21 @@ impl<V: Voucher> Manager<V> {
     /// Prepares the step that a document is read. Its own domain has to be the manager's. The tokens are to be dropped
     /// of each entry whose ask it changes or removes.
     pub fn prepare_sync(&self, alloc: Global, document: &[u8]) -> Result<Prepared<V>, DocFault>
-        ensures next { IfOk result (λ p. IsOkAnd (document_state (Some self.now.stored.published.domain) document.now)
+        ensures next { IfOk result
+            (λ p. IsOkAnd (document_state (Some self.now.stored.published.domain) document.now)
             (λ d. p.step.next ≡ stored_after (after_sync d self.now.stored) self.now.stored)) }
-        ensures change { IfOk result (λ p. IsOkAnd (document_state (Some self.now.stored.published.domain) document.now)
+        ensures change { IfOk result
+            (λ p. IsOkAnd (document_state (Some self.now.stored.published.domain) document.now)
             (λ d. p.step.answer.change ≡ change_to (after_sync d self.now.stored) self.now.stored)) }
         ensures tickets { IfOk result (λ p. p.step.answer.tickets ≡ []) }
         ensures installed { IfOk result (λ p. p.step.answer.installed ≡ None) }
-        ensures touched { IfOk result (λ p. SameBut p.step.answer.touched self.now.stored.published p.step.next.published) }
-        ensures dropped { IfOk result (λ p. p.dropped ≡ changed_ids (asks_of self.now.stored.store.entries) (asks_of p.step.next.store.entries)) }
-        ensures fault { IfErr result (λ e. Faults e (document_state (Some self.now.stored.published.domain) document.now)) }
+        ensures touched { IfOk result
+            (λ p. SameBut p.step.answer.touched self.now.stored.published p.step.next.published) }
+        ensures dropped { IfOk result
+            (λ p. p.dropped
+            ≡ changed_ids (asks_of self.now.stored.store.entries) (asks_of p.step.next.store.entries)) }
+        ensures fault { IfErr result
+            (λ e. Faults e (document_state (Some self.now.stored.published.domain) document.now)) }
     {
         let step = self.store.prepare_sync(alloc, document)?;
         match self.dropped_by(alloc, &step) {
@@ -77,11 +86,16 @@ impl<V: Voucher> Manager<V> {
     /// Prepares a claim: what has expired is let go, and there is one ticket, by ascending entry id, for each ask that is
     /// due then and has none in flight.
     pub fn prepare_claim(&self, alloc: Global, now: u64) -> Result<Prepared<V>, Memory>
-        ensures next { IfOk result (λ p. p.step.next ≡ stored_after (after_claim now self.now.stored.store) self.now.stored) }
-        ensures change { IfOk result (λ p. p.step.answer.change ≡ change_to (after_claim now self.now.stored.store) self.now.stored) }
-        ensures tickets { IfOk result (λ p. flights_of p.step.answer.tickets ≡ flights_from self.now.stored.store.last_ticket (asks_to_claim now self.now.stored.store)) }
+        ensures next { IfOk result
+            (λ p. p.step.next ≡ stored_after (after_claim now self.now.stored.store) self.now.stored) }
+        ensures change { IfOk result
+            (λ p. p.step.answer.change ≡ change_to (after_claim now self.now.stored.store) self.now.stored) }
+        ensures tickets { IfOk result
+            (λ p. flights_of p.step.answer.tickets
+            ≡ flights_from self.now.stored.store.last_ticket (asks_to_claim now self.now.stored.store)) }
         ensures installed { IfOk result (λ p. p.step.answer.installed ≡ None) }
-        ensures touched { IfOk result (λ p. SameBut p.step.answer.touched self.now.stored.published p.step.next.published) }
+        ensures touched { IfOk result
+            (λ p. SameBut p.step.answer.touched self.now.stored.published p.step.next.published) }
         ensures dropped { IfOk result (λ p. p.dropped ≡ []) }
     {
         let step = self.store.prepare_claim(alloc, now)?;
@@ -110,10 +124,12 @@ impl<V: Voucher> Manager<V> {
             IfOk result (λ p. p.step.next ≡ stored_after (after_signed now ticket.now.number ticket.now.ask signed.now self.now.stored.store) self.now.stored) }
         ensures change { has_ticket ticket.now.number ticket.now.ask self.now.stored.store.in_flight ≡ true →
             IfOk result (λ p. p.step.answer.change ≡ change_to (after_signed now ticket.now.number ticket.now.ask signed.now self.now.stored.store) self.now.stored) }
-        ensures installed { has_ticket ticket.now.number ticket.now.ask self.now.stored.store.in_flight ≡ true →
+        ensures installed { has_ticket ticket.now.number ticket.now.ask self.now.stored.store.in_flight
+            ≡ true →
             IfOk result (λ p. p.step.answer.installed ≡ Some (install now ticket.now.ask signed.now self.now.stored.store)) }
         ensures tickets { IfOk result (λ p. p.step.answer.tickets ≡ []) }
-        ensures touched { IfOk result (λ p. SameBut p.step.answer.touched self.now.stored.published p.step.next.published) }
+        ensures touched { IfOk result
+            (λ p. SameBut p.step.answer.touched self.now.stored.published p.step.next.published) }
         ensures dropped { IfOk result (λ p. p.dropped ≡ []) }
     {
         let step = self.store.prepare_signed(alloc, ticket, signed, now)?;
@@ -127,7 +143,8 @@ impl<V: Voucher> Manager<V> {
     /// the step drops. So a caller prepares a step and adopts it with no other step between. It takes no memory.
     pub fn adopt(&mut self, prepared: Prepared<V>) -> Adopted
         ensures stored { self.new.stored ≡ prepared.step.next }
-        ensures history { (history : List CachedToken) → StandsFor self.old.tokens history → StandsFor self.new.tokens (without_all prepared.dropped history) }
+        ensures history { (history : List CachedToken) → StandsFor self.old.tokens history
+            → StandsFor self.new.tokens (without_all prepared.dropped history) }
         ensures tokens { prepared.dropped ≡ [] → self.new.tokens ≡ self.old.tokens }
         ensures answer { result ≡ prepared.step.answer }
     {
@@ -140,12 +157,18 @@ impl<V: Voucher> Manager<V> {
     /// removed. Its own domain has to be the manager's. The first check that fails is the fault, and nothing changes
     /// then.
     pub fn sync(&mut self, alloc: Global, document: &[u8]) -> Result<Change, DocFault>
-        ensures ok { OnOk result (IsOkAnd (document_state (Some self.old.stored.published.domain) document.now)
+        ensures ok { OnOk result
+            (IsOkAnd (document_state (Some self.old.stored.published.domain) document.now)
             (λ d. self.new.stored ≡ stored_after (after_sync d self.old.stored) self.old.stored)) }
-        ensures history { (history : List CachedToken) → StandsFor self.old.tokens history → OnOk result (StandsFor self.new.tokens (history_after self.old.stored.store.entries self.new.stored.store.entries history)) }
-        ensures change { IfOk result (λ c. IsOkAnd (document_state (Some self.old.stored.published.domain) document.now)
+        ensures history { (history : List CachedToken) → StandsFor self.old.tokens history
+            → OnOk result
+            (StandsFor self.new.tokens
+            (history_after self.old.stored.store.entries self.new.stored.store.entries history)) }
+        ensures change { IfOk result
+            (λ c. IsOkAnd (document_state (Some self.old.stored.published.domain) document.now)
             (λ d. c ≡ change_to (after_sync d self.old.stored) self.old.stored)) }
-        ensures fault { IfErr result (λ e. Faults e (document_state (Some self.old.stored.published.domain) document.now)) }
+        ensures fault { IfErr result
+            (λ e. Faults e (document_state (Some self.old.stored.published.domain) document.now)) }
         ensures err { OnErr result (self.new ≡ self.old) }
     {
         match self.prepare_sync(alloc, document) {
@@ -162,9 +185,13 @@ impl<V: Voucher> Manager<V> {
     /// Lets go of what has expired, and gives one ticket, by ascending entry id, for each ask that is due then and has none
     /// in flight.
     pub fn claim(&mut self, alloc: Global, now: u64) -> Result<Claim, Memory>
-        ensures ok { OnOk result (self.new.stored ≡ stored_after (after_claim now self.old.stored.store) self.old.stored) }
-        ensures swept { IfOk result (λ c. c.swept ≡ change_to (after_claim now self.old.stored.store) self.old.stored) }
-        ensures tickets { IfOk result (λ c. flights_of c.tickets ≡ flights_from self.old.stored.store.last_ticket (asks_to_claim now self.old.stored.store)) }
+        ensures ok { OnOk result
+            (self.new.stored ≡ stored_after (after_claim now self.old.stored.store) self.old.stored) }
+        ensures swept { IfOk result
+            (λ c. c.swept ≡ change_to (after_claim now self.old.stored.store) self.old.stored) }
+        ensures tickets { IfOk result
+            (λ c. flights_of c.tickets
+            ≡ flights_from self.old.stored.store.last_ticket (asks_to_claim now self.old.stored.store)) }
         ensures tokens { self.new.tokens ≡ self.old.tokens }
         ensures err { OnErr result (self.new ≡ self.old) }
     {
@@ -183,7 +210,8 @@ impl<V: Voucher> Manager<V> {
         requires { V.signed ticket.ask signed }
 
         // A ticket that is not in flight changes nothing.
-        ensures spent { has_ticket ticket.number ticket.ask self.old.stored.store.in_flight ≡ false → (result ≡ Ok Installed.Spent) × (self.new ≡ self.old) }
+        ensures spent { has_ticket ticket.number ticket.ask self.old.stored.store.in_flight ≡ false
+            → (result ≡ Ok Installed.Spent) × (self.new ≡ self.old) }
 
         // The ticket leaves, and the answer is that of Install.
         ensures ok { has_ticket ticket.number ticket.ask self.old.stored.store.in_flight ≡ true →

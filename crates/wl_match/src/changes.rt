@@ -29,7 +29,8 @@ type ById = BTreeMap<Octets, Shared<Entry>>;
 
 /// Puts an entry in the place of the one of its id.
 fn put(alloc: Global, entries: &mut ById, entry: &Shared<Entry>) -> Result<(), Memory>
-    ensures { (es : List Entry) → entries.old.entries ≡ by_id es → OnOk result (entries.new.entries ≡ by_id (put_entry entry.now es)) }
+    ensures { (es : List Entry) → entries.old.entries ≡ by_id es
+        → OnOk result (entries.new.entries ≡ by_id (put_entry entry.now es)) }
 {
     let id = entry.part().id.copy(alloc)?;
     entries.insert(id, entry.share()?)?;
@@ -50,7 +51,8 @@ fn entries_by_id(alloc: Global, entries: &[Shared<Entry>]) -> Result<ById, Memor
 
 /// Makes one change.
 fn make(alloc: Global, entries: &mut ById, change: &Change) -> Result<(), Memory>
-    ensures { (es : List Entry) → entries.old.entries ≡ by_id es → OnOk result (entries.new.entries ≡ by_id (changed_by change.now es)) }
+    ensures { (es : List Entry) → entries.old.entries ≡ by_id es
+        → OnOk result (entries.new.entries ≡ by_id (changed_by change.now es)) }
 {
     match change {
         Change::Put(entry) => put(alloc, entries, entry)?,
@@ -63,7 +65,8 @@ fn make(alloc: Global, entries: &mut ById, change: &Change) -> Result<(), Memory
 
 /// Makes the changes, in turn.
 fn make_all(alloc: Global, entries: &mut ById, changes: &[Change]) -> Result<(), Memory>
-    ensures { (es : List Entry) → entries.old.entries ≡ by_id es → OnOk result (entries.new.entries ≡ by_id (changed_entries changes.now es)) }
+    ensures { (es : List Entry) → entries.old.entries ≡ by_id es
+        → OnOk result (entries.new.entries ≡ by_id (changed_entries changes.now es)) }
 {
     for change in changes {
         make(alloc, entries, change)?;

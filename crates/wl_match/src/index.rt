@@ -90,7 +90,8 @@ impl Index {
     /// filed under a selector of the caller, or has no selector, is looked at.
     pub fn entitled(&self, alloc: Global, selectors: &Selectors) -> Result<Row<u32>, Memory>
         ensures value { IfOk result (λ places. places ≡ entitled_places selectors.now self.now) }
-        ensures chosen { IfOk result (λ places. items_at self.now places ≡ filter (is_entitled selectors.now) self.now) }
+        ensures chosen { IfOk result
+            (λ places. items_at self.now places ≡ filter (is_entitled selectors.now) self.now) }
         ensures rising { IfOk result (IsStrictlySortedBy nat_cmp) }
         ensures there { IfOk result (All (λ place. place < length self.now)) }
     {

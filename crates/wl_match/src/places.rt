@@ -27,7 +27,10 @@ fn gather_one(
 ) -> Result<(), Memory>
     requires rises { Rises (map entry_key entries.now) }
     requires few { length entries.now < 2 ^ 32 }
-    ensures { OnOk result ((q : ℕ) → contains nat_cmp places.new q ≡ (contains nat_cmp places.old q || is_hit selectors.now (id.now ∷ []) (slice_get entries.now q))) }
+    ensures { OnOk result
+        ((q : ℕ)
+        → contains nat_cmp places.new q
+        ≡ (contains nat_cmp places.old q || is_hit selectors.now (id.now ∷ []) (slice_get entries.now q))) }
 {
     let Some(place) = place_by_key(entries, id) else {
         return Ok(());
@@ -47,7 +50,10 @@ fn gather(
 ) -> Result<(), Memory>
     requires rises { Rises (map entry_key entries.now) }
     requires few { length entries.now < 2 ^ 32 }
-    ensures { OnOk result ((q : ℕ) → contains nat_cmp places.new q ≡ (contains nat_cmp places.old q || is_hit selectors.now ids.now (slice_get entries.now q))) }
+    ensures { OnOk result
+        ((q : ℕ)
+        → contains nat_cmp places.new q
+        ≡ (contains nat_cmp places.old q || is_hit selectors.now ids.now (slice_get entries.now q))) }
 {
     for id in ids {
         gather_one(entries, id.as_slice(), selectors, places)?;
@@ -66,7 +72,11 @@ fn gather_all(
     requires rises { Rises (map entry_key entries.now) }
     requires few { length entries.now < 2 ^ 32 }
     requires keys { Rises (map posting_key postings.now) }
-    ensures { IfOk result (λ places. (q : ℕ) → contains nat_cmp places q ≡ is_hit selectors.now (flat_map (ids_at postings.now) ([] ∷ selectors.now)) (slice_get entries.now q)) }
+    ensures { IfOk result
+        (λ places. (q : ℕ)
+        → contains nat_cmp places q
+        ≡ is_hit selectors.now (flat_map (ids_at postings.now) ([] ∷ selectors.now))
+        (slice_get entries.now q)) }
 {
     let mut places = BTreeSet::new(alloc);
     gather(entries, ids_at(postings, &[]), selectors, &mut places)?;

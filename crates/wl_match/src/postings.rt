@@ -63,7 +63,9 @@ fn file_all(
     alloc: Global,
     entries: &[Shared<Entry>],
 ) -> Result<BTreeMap<Octets, Row<Octets>>, Memory>
-    ensures { IfOk result (λ groups. (q : List ℕ) → unwrap_or (btree.get (slice_cmp nat_cmp) groups q) [] ≡ ids_under q entries.now) }
+    ensures { IfOk result
+        (λ groups. (q : List ℕ)
+        → unwrap_or (btree.get (slice_cmp nat_cmp) groups q) [] ≡ ids_under q entries.now) }
 {
     let mut groups = BTreeMap::new(alloc);
     for entry in entries {
@@ -114,7 +116,8 @@ pub fn post(
 ) -> Result<Vec<Shared<Posting>>, Memory>
     requires { Rises (map posting_key old.now) }
     ensures keys { IfOk result (λ postings. Rises (map posting_key postings.items)) }
-    ensures filed { IfOk result (λ postings. (q : List ℕ) → ids_at postings.items q ≡ ids_under q entries.now) }
+    ensures filed { IfOk result
+        (λ postings. (q : List ℕ) → ids_at postings.items q ≡ ids_under q entries.now) }
 {
     let groups = file_all(alloc, entries)?;
     let postings = make_postings(alloc, groups, old)?;

@@ -101,7 +101,8 @@ impl Prefix {
     /// Whether this list is the shorter one, or as long as the other, which then begins with it.
     pub fn begins(&self, other: &Prefix) -> bool
         requires { other.now.store ≡ self.now.store }
-        ensures { MatchBool result (IsPrefix self.now.list other.now.list) (IsPrefix other.now.list self.now.list) }
+        ensures { MatchBool result (IsPrefix self.now.list other.now.list)
+            (IsPrefix other.now.list self.now.list) }
     {
         let mut both = self.seen.again();
         both.learn(&other.seen);
@@ -121,7 +122,8 @@ impl Prefix {
     /// Adds a publication to the book, and says whether it did. It does not where the book is longer, or full.
     pub fn add(&mut self, head: &Head, next: &Edition) -> bool
         requires head { head.now ≡ head_of self.old.store }
-        ensures { MatchBool result (self.new ≡ listing self.old.store (self.old.list ++ next.now ∷ [])) (self.new ≡ self.old) }
+        ensures { MatchBool result (self.new ≡ listing self.old.store (self.old.list ++ next.now ∷ []))
+            (self.new ≡ self.old) }
     {
         let count = self.count;
         let Some(more) = count.checked_add(1) else {

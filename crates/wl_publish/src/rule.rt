@@ -29,7 +29,8 @@ impl Current {
     /// it. Out of memory either is as it was or as it is shown.
     pub fn follow(&mut self, alloc: Global, shown: &Current) -> Result<Edition, Memory>
         requires store { shown.now.prefix.store ≡ self.old.prefix.store }
-        requires last { IsLast self.old.prefix.list self.old.edition × IsLast shown.now.prefix.list shown.now.edition }
+        requires last { IsLast self.old.prefix.list self.old.edition
+            × IsLast shown.now.prefix.list shown.now.edition }
         ensures edition { IfOk result (λ e. e ≡ shown.now.edition) }
         ensures store { self.new.prefix.store ≡ self.old.prefix.store }
         ensures last { IsLast self.new.prefix.list self.new.edition }

@@ -33,7 +33,8 @@ pub fn make<V: Voucher, R: Wait>(
     ensures shown { IfOk result (λ w. (w.desk.shown.value.prefix ≡ first.prefix)
         × (w.desk.shown.value.edition ≡ first.edition)) }
     ensures none { IfOk result (λ w. drop w.behind w.log.items ≡ []) }
-    ensures known { IfOk result (λ w. known_at w.desk.place ≡ knowing first.prefix.store first.prefix.list []) }
+    ensures known { IfOk result
+        (λ w. known_at w.desk.place ≡ knowing first.prefix.store first.prefix.list []) }
 {
     let Ok(edition) = first.edition.share() else {
         return Err(Memory);
@@ -67,7 +68,8 @@ fn begin<V: Voucher, R: Wait>(
     ensures shown { IfOk result (λ w. (w.desk.shown.value.prefix ≡ again.prefix)
         × (w.desk.shown.value.edition ≡ again.edition)) }
     ensures none { IfOk result (λ w. drop w.behind w.log.items ≡ []) }
-    ensures known { IfOk result (λ w. known_at w.desk.place ≡ knowing again.prefix.store again.prefix.list []) }
+    ensures known { IfOk result
+        (λ w. known_at w.desk.place ≡ knowing again.prefix.store again.prefix.list []) }
 {
     match queue(writer, again) {
         Ok(writer) => match writer.publish_as::<Begins, R>(rt) {

@@ -59,7 +59,8 @@ fn send_tokens(
     stream: u32,
     got: Row<JwtItem>,
 ) -> Result<Option<Stage>, Memory>
-    ensures { Gives result stream conn.new (token_message stream (spell_jwt (record { svids = got })) conn.old) }
+    ensures { Gives result stream conn.new
+        (token_message stream (spell_jwt (record { svids = got })) conn.old) }
 {
     let response = JwtResponse { svids: got };
     if size_jwt(&response) > MAX_RESPONSE_LEN {
@@ -164,7 +165,8 @@ pub fn give_first(
     served: Row<ServedCall>,
     outcome: JwtOutcome,
 ) -> Result<Row<ServedCall>, Memory>
-    ensures { IfOk result (λ kept. give_first outcome served conn.old ≡ record { phase = conn.new; kept = kept }) }
+    ensures { IfOk result
+        (λ kept. give_first outcome served conn.old ≡ record { phase = conn.new; kept = kept }) }
 {
     let served = served.into_vec();
     let Some(place) = place_of(served.as_slice()) else {

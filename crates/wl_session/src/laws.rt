@@ -11,14 +11,21 @@ ghost use Rattle.wl_session.specs.Agreeing.{SeeAlike, HaveSeen, IsQuiet};
 /// written, and the first fault.
 #[tactic(auto, using(crate::proofs::Agreements::cut_anywhere))]
 pub fn cut_anywhere()
-    ensures { (ending : End) (bytes more : List ℕ) (talk : Talking) → feed_said (reading_from ending (bytes ++ more)) talk ≡ then_ (feed_said (reading_from ending bytes) talk) (feed_said (reading_from (reading_from ending bytes).ending more)) }
+    ensures { (ending : End) (bytes more : List ℕ) (talk : Talking)
+        → feed_said (reading_from ending (bytes ++ more)) talk
+        ≡ then_ (feed_said (reading_from ending bytes) talk)
+        (feed_said (reading_from (reading_from ending bytes).ending more)) }
 {}
 
 /// Two publications that show each ready call the same view are answered alike; a turn on views that were all seen writes
 /// nothing and changes nothing; a turn twice is a turn once.
 #[tactic(auto, using(crate::proofs::Agreements::alike, crate::proofs::Agreements::again, crate::proofs::Agreements::twice))]
 pub fn turns_agree()
-    ensures alike { (one other : Publication) (talk : Talking) → SeeAlike one other talk.served → turn_said one talk ≡ turn_said other talk }
-    ensures again { (publication : Publication) (talk : Talking) → IsQuiet talk → HaveSeen publication talk.served → turn_said publication talk ≡ silent talk }
-    ensures twice { (publication : Publication) (talk : Talking) → turn_said publication (turn_said publication talk).after ≡ silent (turn_said publication talk).after }
+    ensures alike { (one other : Publication) (talk : Talking) → SeeAlike one other talk.served
+        → turn_said one talk ≡ turn_said other talk }
+    ensures again { (publication : Publication) (talk : Talking) → IsQuiet talk
+        → HaveSeen publication talk.served → turn_said publication talk ≡ silent talk }
+    ensures twice { (publication : Publication) (talk : Talking)
+        → turn_said publication (turn_said publication talk).after
+        ≡ silent (turn_said publication talk).after }
 {}

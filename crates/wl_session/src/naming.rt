@@ -82,7 +82,8 @@ pub fn name_first(
     served: Row<ServedCall>,
     selectors: Option<Selectors>,
 ) -> Result<Row<ServedCall>, Memory>
-    ensures { IfOk result (λ kept. name_first selectors served conn.old ≡ record { phase = conn.new; kept = kept }) }
+    ensures { IfOk result
+        (λ kept. name_first selectors served conn.old ≡ record { phase = conn.new; kept = kept }) }
 {
     let served = served.into_vec();
     let Some(place) = place_of(served.as_slice()) else {

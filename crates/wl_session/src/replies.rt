@@ -31,7 +31,8 @@ pub fn framed_message(
     message: Octets,
 ) -> Result<(), Memory>
     requires { 0 < length message }
-    ensures { OnOk result ((bare : List ℕ) → message ≡ framed bare → conn.new ≡ with_message stream headed bare conn.old) }
+    ensures { OnOk result
+        ((bare : List ℕ) → message ≡ framed bare → conn.new ≡ with_message stream headed bare conn.old) }
 {
     head(alloc, conn, stream, headed)?;
     conn.offer(stream, message);

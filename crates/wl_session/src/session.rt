@@ -264,9 +264,12 @@ fn advance(
 ) -> Result<Option<ConnFault>, Memory>
     ensures ending { OnOk result (parser.new ≡ (reading_from parser.old piece.now).ending) }
     ensures after { OnOk result (talk.new ≡ (feed_said (reading_from parser.old piece.now) talk.old).after) }
-    ensures bytes { OnOk result (out.new ≡ out.old ++ (feed_said (reading_from parser.old piece.now) talk.old).bytes) }
-    ensures fault { IfOk result (λ fault. fault ≡ (feed_said (reading_from parser.old piece.now) talk.old).fault) }
-    ensures front { GainsFront (feed_said (reading_from parser.old piece.now) talk.old).bytes out.old out.new }
+    ensures bytes { OnOk result
+        (out.new ≡ out.old ++ (feed_said (reading_from parser.old piece.now) talk.old).bytes) }
+    ensures fault { IfOk result
+        (λ fault. fault ≡ (feed_said (reading_from parser.old piece.now) talk.old).fault) }
+    ensures front { GainsFront
+        (feed_said (reading_from parser.old piece.now) talk.old).bytes out.old out.new }
 {
     let Heard { frames, fault } = read(alloc, parser, piece)?;
     let first = talk.frames(frames, out)?;

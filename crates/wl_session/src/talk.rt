@@ -233,8 +233,10 @@ impl Talk {
     #[tactic(auto, unfolding(crate::specs::Talks::written), using(crate::proofs::Running::greet_front, crate::proofs::Running::flush_front))]
     fn write(&mut self, out: &mut Octets) -> Result<(), Memory>
         ensures after { OnOk result ((fault : Option ConnFault) → self.new ≡ (written fault self.old).after) }
-        ensures bytes { OnOk result ((fault : Option ConnFault) → out.new ≡ out.old ++ (written fault self.old).bytes) }
-        ensures front { (fault : Option ConnFault) → GainsFront (written fault self.old).bytes out.old out.new }
+        ensures bytes { OnOk result
+            ((fault : Option ConnFault) → out.new ≡ out.old ++ (written fault self.old).bytes) }
+        ensures front { (fault : Option ConnFault)
+            → GainsFront (written fault self.old).bytes out.old out.new }
     {
         self.greet(out)?;
         self.conn.flush(out)
@@ -290,7 +292,8 @@ impl Talk {
     /// The connection fails by bytes that are no frames.
     fn take_fault(&mut self, why: FrameFault) -> Result<ConnFault, Memory>
         requires { why ≡ frame_faults.Memory → ⊥ }
-        ensures after { OnOk result (self.new ≡ record self.old { phase = after_frame_fault why self.old.phase }) }
+        ensures after { OnOk result
+            (self.new ≡ record self.old { phase = after_frame_fault why self.old.phase }) }
         ensures fault { IfOk result (λ fault. frame_fault_on why self.old.phase ≡ Some fault) }
     {
         self.conn.fail(why)
@@ -312,7 +315,8 @@ impl Talk {
 
     fn take_turn(&mut self, snapshot: &Snapshot, index: Option<&Index>) -> Result<(), Memory>
         requires { IfSome index (λ i. i.now ≡ snapshot.now.entries) }
-        ensures { OnOk result (self.new ≡ with_turned self.old (calls_turn snapshot.now self.old.served self.old.phase)) }
+        ensures { OnOk result
+            (self.new ≡ with_turned self.old (calls_turn snapshot.now self.old.served self.old.phase)) }
     {
         let served = mem::replace(&mut self.served, Row::empty(self.alloc));
         self.served = turn_all(self.alloc, &mut self.conn, served, snapshot, index)?;
@@ -337,7 +341,8 @@ impl Talk {
     }
 
     fn take_name(&mut self, selectors: Option<Selectors>) -> Result<(), Memory>
-        ensures { OnOk result (self.new ≡ with_turned self.old (name_first selectors self.old.served self.old.phase)) }
+        ensures { OnOk result
+            (self.new ≡ with_turned self.old (name_first selectors self.old.served self.old.phase)) }
     {
         let served = mem::replace(&mut self.served, Row::empty(self.alloc));
         self.served = name_first(self.alloc, &mut self.conn, served, selectors)?;
@@ -361,7 +366,8 @@ impl Talk {
     }
 
     fn take_outcome(&mut self, outcome: JwtOutcome) -> Result<(), Memory>
-        ensures { OnOk result (self.new ≡ with_turned self.old (give_first outcome self.old.served self.old.phase)) }
+        ensures { OnOk result
+            (self.new ≡ with_turned self.old (give_first outcome self.old.served self.old.phase)) }
     {
         let served = mem::replace(&mut self.served, Row::empty(self.alloc));
         self.served = give_first(self.alloc, &mut self.conn, served, outcome)?;

@@ -62,7 +62,8 @@ fn answer_stream(
     headed: bool,
     view: View,
 ) -> Result<Option<Stage>, Memory>
-    ensures { Gives result stream conn.new (stream_answer stream method selectors view headed (answer_of method view) conn.old) }
+    ensures { Gives result stream conn.new
+        (stream_answer stream method selectors view headed (answer_of method view) conn.old) }
 {
     let answer = framed_answer(alloc, method, &view)?;
     let headed = match answer {
@@ -257,7 +258,8 @@ pub fn turn_all(
     index: Option<&Index>,
 ) -> Result<Row<ServedCall>, Memory>
     requires { IfSome index (λ i. i.now ≡ snapshot.now.entries) }
-    ensures { IfOk result (λ kept. calls_turn snapshot.now served conn.old ≡ record { phase = conn.new; kept = kept }) }
+    ensures { IfOk result
+        (λ kept. calls_turn snapshot.now served conn.old ≡ record { phase = conn.new; kept = kept }) }
 {
     let mut kept = Row::empty(alloc);
     for call in served.into_vec() {

@@ -30,7 +30,8 @@ fn must_wait(method: Method3, view: &View) -> bool
 /// The size of the message that the call is answered; or, as an error, what it is answered in place of one.
 #[tactic(auto, unfolding(crate::specs::Answers::answer_of))]
 fn message_size(method: Method3, view: &View) -> Result<u64, Answer>
-    ensures message { IfOk result (λ size. answer_of method view.now ≡ answers.Message (message_of method view.now)) }
+    ensures message { IfOk result
+        (λ size. answer_of method view.now ≡ answers.Message (message_of method view.now)) }
     ensures size { IfOk result (λ size. size ≡ length (message_of method view.now)) }
     ensures within { IfOk result (λ size. size ≤ MAX_RESPONSE_LEN) }
     ensures other { IfErr result (λ a. a ≡ answer_of method view.now) }

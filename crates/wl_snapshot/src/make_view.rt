@@ -192,7 +192,8 @@ fn pick(
     place: usize,
     chosen: &mut Vec<Shared<Entry>>,
 ) -> Result<(), Memory>
-    ensures { OnOk result (chosen.new.items ≡ chosen.old.items ++ option_to_list (slice_get entries.now place)) }
+    ensures { OnOk result
+        (chosen.new.items ≡ chosen.old.items ++ option_to_list (slice_get entries.now place)) }
 {
     match entry_at(entries, place) {
         Some(entry) => Ok(chosen.push(entry.share()?)?),

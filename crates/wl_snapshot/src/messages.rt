@@ -29,7 +29,8 @@ pub(crate) fn own_bundle(view: &View) -> &[u8]
 #[tactic(auto, unfolding(crate::specs::Answers::x509_items))]
 fn put_svid(out: &mut Vec<u8>, own: &[u8], held: &Held) -> Result<(), Memory>
     requires { length (flat_map x509_field (x509_items own.now held.now)) ≤ 2 ^ 31 }
-    ensures { OnOk result (out.new.items ≡ out.old.items ++ flat_map x509_field (x509_items own.now held.now)) }
+    ensures { OnOk result
+        (out.new.items ≡ out.old.items ++ flat_map x509_field (x509_items own.now held.now)) }
 {
     let Some(svid) = &held.svid else {
         return Ok(());
@@ -48,7 +49,8 @@ fn put_svid(out: &mut Vec<u8>, own: &[u8], held: &Held) -> Result<(), Memory>
 
 fn put_svids(out: &mut Vec<u8>, own: &[u8], held: &[Held]) -> Result<(), Memory>
     requires { length (flat_map x509_field (flat_map (x509_items own.now) held.now)) ≤ 2 ^ 31 }
-    ensures { OnOk result (out.new.items ≡ out.old.items ++ flat_map x509_field (flat_map (x509_items own.now) held.now)) }
+    ensures { OnOk result
+        (out.new.items ≡ out.old.items ++ flat_map x509_field (flat_map (x509_items own.now) held.now)) }
 {
     for one in held {
         put_svid(out, own, one)?;
@@ -76,7 +78,8 @@ fn put_item(
     requires least { 1 ≤ number }
     requires most { number ≤ 3 }
     requires size { length (flat_map (map_field number) (map_item domain.now value.now)) ≤ 2 ^ 31 }
-    ensures { OnOk result (out.new.items ≡ out.old.items ++ flat_map (map_field number) (map_item domain.now value.now)) }
+    ensures { OnOk result
+        (out.new.items ≡ out.old.items ++ flat_map (map_field number) (map_item domain.now value.now)) }
 {
     if value.is_empty() {
         return Ok(());
@@ -88,8 +91,13 @@ fn put_item(
 /// Writes a foreign domain's X.509 bundle.
 #[tactic(auto, unfolding(crate::specs::Answers::federated_item))]
 fn put_foreign(alloc: Global, out: &mut Vec<u8>, own: &[u8], bundle: &Bundle) -> Result<(), Memory>
-    requires { length (flat_map (map_field X509_RESPONSE_FEDERATED_BUNDLES) (federated_item own.now bundle.now)) ≤ 2 ^ 31 }
-    ensures { OnOk result (out.new.items ≡ out.old.items ++ flat_map (map_field X509_RESPONSE_FEDERATED_BUNDLES) (federated_item own.now bundle.now)) }
+    requires { length
+        (flat_map (map_field X509_RESPONSE_FEDERATED_BUNDLES) (federated_item own.now bundle.now))
+        ≤ 2 ^ 31 }
+    ensures { OnOk result
+        (out.new.items
+        ≡ out.old.items
+        ++ flat_map (map_field X509_RESPONSE_FEDERATED_BUNDLES) (federated_item own.now bundle.now)) }
 {
     if bundle.domain.as_bytes() == own {
         return Ok(());
@@ -110,8 +118,14 @@ fn put_federated(
     own: &[u8],
     bundles: &[Shared<Bundle>],
 ) -> Result<(), Memory>
-    requires { length (flat_map (map_field X509_RESPONSE_FEDERATED_BUNDLES) (flat_map (federated_item own.now) bundles.now)) ≤ 2 ^ 31 }
-    ensures { OnOk result (out.new.items ≡ out.old.items ++ flat_map (map_field X509_RESPONSE_FEDERATED_BUNDLES) (flat_map (federated_item own.now) bundles.now)) }
+    requires { length
+        (flat_map (map_field X509_RESPONSE_FEDERATED_BUNDLES) (flat_map (federated_item own.now) bundles.now))
+        ≤ 2 ^ 31 }
+    ensures { OnOk result
+        (out.new.items
+        ≡ out.old.items
+        ++ flat_map (map_field X509_RESPONSE_FEDERATED_BUNDLES)
+        (flat_map (federated_item own.now) bundles.now)) }
 {
     for bundle in bundles {
         put_foreign(alloc, out, own, bundle.part())?;
@@ -122,7 +136,9 @@ fn put_federated(
 #[tactic(auto, unfolding(crate::specs::Answers::x509_map_item))]
 fn put_x509_part(alloc: Global, out: &mut Vec<u8>, bundle: &Bundle) -> Result<(), Memory>
     requires { length (flat_map (map_field X509_BUNDLES_BUNDLES) (x509_map_item bundle.now)) ≤ 2 ^ 31 }
-    ensures { OnOk result (out.new.items ≡ out.old.items ++ flat_map (map_field X509_BUNDLES_BUNDLES) (x509_map_item bundle.now)) }
+    ensures { OnOk result
+        (out.new.items
+        ≡ out.old.items ++ flat_map (map_field X509_BUNDLES_BUNDLES) (x509_map_item bundle.now)) }
 {
     let domain = bundle.domain.as_bytes();
     put_item(
@@ -139,8 +155,11 @@ fn put_x509_bundles(
     out: &mut Vec<u8>,
     bundles: &[Shared<Bundle>],
 ) -> Result<(), Memory>
-    requires { length (flat_map (map_field X509_BUNDLES_BUNDLES) (flat_map x509_map_item bundles.now)) ≤ 2 ^ 31 }
-    ensures { OnOk result (out.new.items ≡ out.old.items ++ flat_map (map_field X509_BUNDLES_BUNDLES) (flat_map x509_map_item bundles.now)) }
+    requires { length (flat_map (map_field X509_BUNDLES_BUNDLES) (flat_map x509_map_item bundles.now))
+        ≤ 2 ^ 31 }
+    ensures { OnOk result
+        (out.new.items
+        ≡ out.old.items ++ flat_map (map_field X509_BUNDLES_BUNDLES) (flat_map x509_map_item bundles.now)) }
 {
     for bundle in bundles {
         put_x509_part(alloc, out, bundle.part())?;
@@ -151,7 +170,9 @@ fn put_x509_bundles(
 #[tactic(auto, unfolding(crate::specs::Answers::jwks_map_item))]
 fn put_jwks_part(alloc: Global, out: &mut Vec<u8>, bundle: &Bundle) -> Result<(), Memory>
     requires { length (flat_map (map_field JWT_BUNDLES_BUNDLES) (jwks_map_item bundle.now)) ≤ 2 ^ 31 }
-    ensures { OnOk result (out.new.items ≡ out.old.items ++ flat_map (map_field JWT_BUNDLES_BUNDLES) (jwks_map_item bundle.now)) }
+    ensures { OnOk result
+        (out.new.items
+        ≡ out.old.items ++ flat_map (map_field JWT_BUNDLES_BUNDLES) (jwks_map_item bundle.now)) }
 {
     let domain = bundle.domain.as_bytes();
     put_item(
@@ -168,8 +189,11 @@ fn put_jwks_bundles(
     out: &mut Vec<u8>,
     bundles: &[Shared<Bundle>],
 ) -> Result<(), Memory>
-    requires { length (flat_map (map_field JWT_BUNDLES_BUNDLES) (flat_map jwks_map_item bundles.now)) ≤ 2 ^ 31 }
-    ensures { OnOk result (out.new.items ≡ out.old.items ++ flat_map (map_field JWT_BUNDLES_BUNDLES) (flat_map jwks_map_item bundles.now)) }
+    requires { length (flat_map (map_field JWT_BUNDLES_BUNDLES) (flat_map jwks_map_item bundles.now))
+        ≤ 2 ^ 31 }
+    ensures { OnOk result
+        (out.new.items
+        ≡ out.old.items ++ flat_map (map_field JWT_BUNDLES_BUNDLES) (flat_map jwks_map_item bundles.now)) }
 {
     for bundle in bundles {
         put_jwks_part(alloc, out, bundle.part())?;

@@ -58,7 +58,9 @@ fn item_size(number: u32, domain: &[u8], value: &[u8]) -> u64
 
 #[tactic(auto, unfolding(crate::specs::Answers::federated_item))]
 fn federated_item_size(own: &[u8], bundle: &Bundle) -> u64
-    ensures { result ≡ capped (length (flat_map (map_field X509_RESPONSE_FEDERATED_BUNDLES) (federated_item own.now bundle.now))) }
+    ensures { result
+        ≡ capped
+        (length (flat_map (map_field X509_RESPONSE_FEDERATED_BUNDLES) (federated_item own.now bundle.now))) }
 {
     if bundle.domain.as_bytes() == own {
         0
@@ -72,7 +74,11 @@ fn federated_item_size(own: &[u8], bundle: &Bundle) -> u64
 }
 
 fn federated_size(own: &[u8], bundles: &[Shared<Bundle>]) -> u64
-    ensures { result ≡ capped (length (flat_map (map_field X509_RESPONSE_FEDERATED_BUNDLES) (flat_map (federated_item own.now) bundles.now))) }
+    ensures { result
+        ≡ capped
+        (length
+        (flat_map (map_field X509_RESPONSE_FEDERATED_BUNDLES)
+        (flat_map (federated_item own.now) bundles.now))) }
 {
     let mut size: u64 = 0;
     for bundle in bundles {
@@ -83,7 +89,8 @@ fn federated_size(own: &[u8], bundles: &[Shared<Bundle>]) -> u64
 
 #[tactic(auto, unfolding(crate::specs::Answers::x509_map_item))]
 fn x509_part_size(bundle: &Bundle) -> u64
-    ensures { result ≡ capped (length (flat_map (map_field X509_BUNDLES_BUNDLES) (x509_map_item bundle.now))) }
+    ensures { result
+        ≡ capped (length (flat_map (map_field X509_BUNDLES_BUNDLES) (x509_map_item bundle.now))) }
 {
     item_size(
         field_number::X509_BUNDLES_BUNDLES,
@@ -93,7 +100,8 @@ fn x509_part_size(bundle: &Bundle) -> u64
 }
 
 fn x509_bundles_size(bundles: &[Shared<Bundle>]) -> u64
-    ensures { result ≡ capped (length (flat_map (map_field X509_BUNDLES_BUNDLES) (flat_map x509_map_item bundles.now))) }
+    ensures { result
+        ≡ capped (length (flat_map (map_field X509_BUNDLES_BUNDLES) (flat_map x509_map_item bundles.now))) }
 {
     let mut size: u64 = 0;
     for bundle in bundles {
@@ -114,7 +122,8 @@ fn jwks_part_size(bundle: &Bundle) -> u64
 }
 
 fn jwks_bundles_size(bundles: &[Shared<Bundle>]) -> u64
-    ensures { result ≡ capped (length (flat_map (map_field JWT_BUNDLES_BUNDLES) (flat_map jwks_map_item bundles.now))) }
+    ensures { result
+        ≡ capped (length (flat_map (map_field JWT_BUNDLES_BUNDLES) (flat_map jwks_map_item bundles.now))) }
 {
     let mut size: u64 = 0;
     for bundle in bundles {

@@ -77,7 +77,8 @@ impl<V: Voucher> Store<V> {
     /// The tickets in flight with one for each of these asks, numbered from the last one on.
     fn more_flights(&self, alloc: Global, asks: &[Ask]) -> Result<InFlight, Memory>
         requires { self.now.store.last_ticket + length asks.now < 2 ^ 64 }
-        ensures { IfOk result (λ f. f ≡ self.now.store.in_flight ++ flights_from self.now.store.last_ticket asks.now) }
+        ensures { IfOk result
+            (λ f. f ≡ self.now.store.in_flight ++ flights_from self.now.store.last_ticket asks.now) }
     {
         if asks.is_empty() {
             return self.copy_flights(alloc);
@@ -110,13 +111,17 @@ impl<V: Voucher> Store<V> {
         requires cached { cache.asks ≡ asks_of self.now.store.entries }
         requires trusted { AllTrusted V.signed self.now.store.strict cache.svids }
         requires same { is_same ≡ pointwise same_svid self.now.store.svids cache.svids }
-        ensures next { IfOk result (λ p. p.next ≡ stored_after (with_parts self.now.store.entries self.now.store.bundles cache.svids
+        ensures next { IfOk result
+            (λ p. p.next ≡ stored_after (with_parts self.now.store.entries self.now.store.bundles cache.svids
             (self.now.store.in_flight ++ flights_from self.now.store.last_ticket asks.now)
             (self.now.store.last_ticket + length asks.now) self.now.store) self.now) }
-        ensures change { IfOk result (λ p. p.answer.change ≡ change_to (with_parts self.now.store.entries self.now.store.bundles cache.svids
+        ensures change { IfOk result
+            (λ p. p.answer.change
+            ≡ change_to (with_parts self.now.store.entries self.now.store.bundles cache.svids
             (self.now.store.in_flight ++ flights_from self.now.store.last_ticket asks.now)
             (self.now.store.last_ticket + length asks.now) self.now.store) self.now) }
-        ensures tickets { IfOk result (λ p. flights_of p.answer.tickets ≡ flights_from self.now.store.last_ticket asks.now) }
+        ensures tickets { IfOk result
+            (λ p. flights_of p.answer.tickets ≡ flights_from self.now.store.last_ticket asks.now) }
         ensures installed { IfOk result (λ p. p.answer.installed ≡ None) }
         ensures touched { IfOk result (λ p. p.answer.touched ≡ touched) }
     {
@@ -143,7 +148,8 @@ impl<V: Voucher> Store<V> {
     #[tactic(auto, unfolding(crate::specs::Stores::after_claim))]
     pub fn prepare_claim(&self, alloc: Global, now: u64) -> Result<Prepared<V>, Memory>
         ensures next { IfOk result (λ p. p.next ≡ stored_after (after_claim now self.now.store) self.now) }
-        ensures change { IfOk result (λ p. p.answer.change ≡ change_to (after_claim now self.now.store) self.now) }
+        ensures change { IfOk result
+            (λ p. p.answer.change ≡ change_to (after_claim now self.now.store) self.now) }
         ensures tickets { IfOk result (λ p. flights_of p.answer.tickets
             ≡ flights_from self.now.store.last_ticket (asks_to_claim now self.now.store)) }
         ensures installed { IfOk result (λ p. p.answer.installed ≡ None) }

@@ -75,7 +75,8 @@ fn push_ticket(
     number: u64,
     ask: &Ask,
 ) -> Result<(), Memory>
-    ensures { OnOk result (flights_of tickets.new ≡ flights_of tickets.old ++ record { number = number; ask = ask.now } ∷ []) }
+    ensures { OnOk result
+        (flights_of tickets.new ≡ flights_of tickets.old ++ record { number = number; ask = ask.now } ∷ []) }
 {
     let ask = ask.copy(alloc)?;
     match tickets.push(Ticket { number, ask }) {

@@ -31,7 +31,9 @@ fn group_one(alloc: Global, groups: &mut Groups, flight: &Flight) -> Result<(), 
 
 /// The flights by entry. It takes memory only where there is a flight.
 pub(crate) fn group_all(alloc: Global, in_flight: &[Flight]) -> Result<Groups, Memory>
-    ensures { IfOk result (λ groups. (q : List ℕ) → unwrap_or (btree.get (slice_cmp nat_cmp) groups q) [] ≡ asks_under q in_flight.now) }
+    ensures { IfOk result
+        (λ groups. (q : List ℕ)
+        → unwrap_or (btree.get (slice_cmp nat_cmp) groups q) [] ≡ asks_under q in_flight.now) }
 {
     let mut groups = BTreeMap::new(alloc);
     for flight in in_flight {
@@ -49,7 +51,9 @@ fn is_among(asks: &[Shared<Ask>], ask: &Ask) -> bool
 
 /// Whether the ask is one of its entry's.
 pub(crate) fn has_flight(groups: &Groups, ask: &Ask) -> bool
-    ensures { result ≡ list_any (λ b. same_ask b ask.now) (unwrap_or (btree.get (slice_cmp nat_cmp) groups.now ask.now.entry_id) []) }
+    ensures { result
+        ≡ list_any (λ b. same_ask b ask.now)
+        (unwrap_or (btree.get (slice_cmp nat_cmp) groups.now ask.now.entry_id) []) }
 {
     match groups.get(&ask.entry_id) {
         Some(asks) => is_among(asks.as_slice(), ask),

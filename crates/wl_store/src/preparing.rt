@@ -51,7 +51,8 @@ impl<V: Voucher> Store<V> {
         last_ticket: u64,
     ) -> Result<Store<V>, Memory>
         requires { cache ≡ cached_in self.now.published }
-        ensures { IfOk result (λ m. m ≡ stored_of self.now.store.strict self.now.published in_flight last_ticket) }
+        ensures { IfOk result
+            (λ m. m ≡ stored_of self.now.store.strict self.now.published in_flight last_ticket) }
     {
         Ok(Store {
             strict: self.strict,

@@ -18,8 +18,11 @@ pub(crate) fn publication(
     svids: Row<Shared<Svid>>,
     bundles: Shared<Row<Shared<Bundle>>>,
 ) -> Result<Shared<Snapshot>, Memory>
-    requires { IsPublication (record { number = number; domain = domain; entries = entries; svids = svids; bundles = bundles }) }
-    ensures { IfOk result (λ p. p ≡ record { number = number; domain = domain; entries = entries; svids = svids; bundles = bundles }) }
+    requires { IsPublication
+        (record { number = number; domain = domain; entries = entries; svids = svids; bundles = bundles }) }
+    ensures { IfOk result
+        (λ p. p
+        ≡ record { number = number; domain = domain; entries = entries; svids = svids; bundles = bundles }) }
 {
     Ok(Shared::new(
         alloc,

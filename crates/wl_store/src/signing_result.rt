@@ -41,7 +41,8 @@ impl<V: Voucher> Store<V> {
     /// The first reason that the leaf gives, in a strict store.
     fn judge_leaf(&self, alloc: Global, ask: &Ask, signed: &Signed) -> Result<Option<Unfit>, Memory>
         ensures value { IfOk result (λ u. u ≡ leaf_judged self.now.store.strict ask.now signed.now) }
-        ensures named { IfOk result (λ u. u ≡ None → self.now.store.strict ≡ true → NamesAsk ask.now signed.now) }
+        ensures named { IfOk result
+            (λ u. u ≡ None → self.now.store.strict ≡ true → NamesAsk ask.now signed.now) }
     {
         if self.strict {
             let unfit = leaf_unfit(alloc, ask, signed)?;
@@ -61,7 +62,8 @@ impl<V: Voucher> Store<V> {
         now: u64,
     ) -> Result<Option<Installed>, Memory>
         ensures value { IfOk result (λ r. r ≡ refusal now ask.now signed.now self.now.store) }
-        ensures named { IfOk result (λ r. r ≡ None → self.now.store.strict ≡ true → NamesAsk ask.now signed.now) }
+        ensures named { IfOk result
+            (λ r. r ≡ None → self.now.store.strict ≡ true → NamesAsk ask.now signed.now) }
     {
         if !self.lists(ask) {
             return Ok(Some(Installed::NoSuchAsk));
@@ -145,10 +147,15 @@ impl<V: Voucher> Store<V> {
         now: u64,
     ) -> Result<Prepared<V>, Memory>
         requires { V.signed svid.ask svid.signed }
-        ensures next { IfOk result (λ p. p.next ≡ stored_after (after_signed now number svid.ask svid.signed self.now.store) self.now) }
-        ensures change { IfOk result (λ p. p.answer.change ≡ change_to (after_signed now number svid.ask svid.signed self.now.store) self.now) }
+        ensures next { IfOk result
+            (λ p. p.next
+            ≡ stored_after (after_signed now number svid.ask svid.signed self.now.store) self.now) }
+        ensures change { IfOk result
+            (λ p. p.answer.change
+            ≡ change_to (after_signed now number svid.ask svid.signed self.now.store) self.now) }
         ensures tickets { IfOk result (λ p. p.answer.tickets ≡ []) }
-        ensures installed { IfOk result (λ p. p.answer.installed ≡ Some (install now svid.ask svid.signed self.now.store)) }
+        ensures installed { IfOk result
+            (λ p. p.answer.installed ≡ Some (install now svid.ask svid.signed self.now.store)) }
         ensures touched { IfOk result (λ p. SameBut p.answer.touched self.now.published p.next.published) }
     {
         // a field that is read tells the proof what the type keeps
@@ -226,11 +233,14 @@ impl<V: Voucher> Store<V> {
             IfOk result (λ p. (p.next ≡ self.now) × (p.answer.change ≡ Change.Same) × (p.answer.installed ≡ Some Installed.Spent)) }
 
         // The ticket leaves, and the answer is that of Install.
-        ensures next { has_ticket ticket.now.number ticket.now.ask self.now.store.in_flight ≡ true → IfOk result (λ p. p.next
+        ensures next { has_ticket ticket.now.number ticket.now.ask self.now.store.in_flight ≡ true
+            → IfOk result (λ p. p.next
             ≡ stored_after (after_signed now ticket.now.number ticket.now.ask signed.now self.now.store) self.now) }
-        ensures change { has_ticket ticket.now.number ticket.now.ask self.now.store.in_flight ≡ true → IfOk result (λ p. p.answer.change
+        ensures change { has_ticket ticket.now.number ticket.now.ask self.now.store.in_flight ≡ true
+            → IfOk result (λ p. p.answer.change
             ≡ change_to (after_signed now ticket.now.number ticket.now.ask signed.now self.now.store) self.now) }
-        ensures installed { has_ticket ticket.now.number ticket.now.ask self.now.store.in_flight ≡ true → IfOk result (λ p. p.answer.installed
+        ensures installed { has_ticket ticket.now.number ticket.now.ask self.now.store.in_flight ≡ true
+            → IfOk result (λ p. p.answer.installed
             ≡ Some (install now ticket.now.ask signed.now self.now.store)) }
         ensures tickets { IfOk result (λ p. p.answer.tickets ≡ []) }
         ensures touched { IfOk result (λ p. SameBut p.answer.touched self.now.published p.next.published) }

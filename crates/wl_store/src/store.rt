@@ -53,7 +53,8 @@ impl<V: Voucher> Store<V> {
     /// A store that begins with a document, in which no SVID is kept. Leaves are not judged in it. The first check of
     /// the document that fails is the fault.
     pub fn start(alloc: Global, document: &[u8]) -> Result<Store<V>, DocFault>
-        ensures ok { IfOk result (λ m. IsOkAnd (document_state None document.now) (λ d. m ≡ first_stored false d)) }
+        ensures ok { IfOk result
+            (λ m. IsOkAnd (document_state None document.now) (λ d. m ≡ first_stored false d)) }
         ensures fault { IfErr result (λ e. Faults e (document_state None document.now)) }
     {
         let state = read_state(alloc, document, None)?;
@@ -66,7 +67,8 @@ impl<V: Voucher> Store<V> {
     /// As `start`, and the store is strict for good: no SVID is kept whose leaf names another id than its ask's, or has
     /// other times.
     pub fn start_strict(alloc: Global, document: &[u8]) -> Result<Store<V>, DocFault>
-        ensures ok { IfOk result (λ m. IsOkAnd (document_state None document.now) (λ d. m ≡ first_stored true d)) }
+        ensures ok { IfOk result
+            (λ m. IsOkAnd (document_state None document.now) (λ d. m ≡ first_stored true d)) }
         ensures fault { IfErr result (λ e. Faults e (document_state None document.now)) }
     {
         let state = read_state(alloc, document, None)?;
@@ -99,7 +101,10 @@ impl<V: Voucher> Store<V> {
         bundles: Row<Bundle>,
     ) -> Result<Store<V>, Memory>
         requires { IsStock entries bundles }
-        ensures { IfOk result (λ m. m ≡ first_stored strict (record { domain = domain; bundles = bundles; entries = entries; svids = [] })) }
+        ensures { IfOk result
+            (λ m. m
+            ≡ first_stored strict
+            (record { domain = domain; bundles = bundles; entries = entries; svids = [] })) }
     {
         let cache = cache_of(alloc, entries.as_slice())?;
         let entries = share_entries(alloc, &[], entries)?;
@@ -159,8 +164,11 @@ impl<V: Voucher> Store<V> {
     /// The places, rising, of exactly the entries of the last publication to which a caller with these selectors is
     /// entitled.
     pub fn entitled(&self, alloc: Global, selectors: &Selectors) -> Result<Row<u32>, Memory>
-        ensures value { IfOk result (λ places. places ≡ entitled_places selectors.now self.now.published.entries) }
-        ensures chosen { IfOk result (λ places. items_at self.now.published.entries places ≡ filter (is_entitled selectors.now) self.now.published.entries) }
+        ensures value { IfOk result
+            (λ places. places ≡ entitled_places selectors.now self.now.published.entries) }
+        ensures chosen { IfOk result
+            (λ places. items_at self.now.published.entries places
+            ≡ filter (is_entitled selectors.now) self.now.published.entries) }
         ensures rising { IfOk result (IsStrictlySortedBy nat_cmp) }
         ensures there { IfOk result (All (λ place. place < length self.now.published.entries)) }
     {
@@ -201,8 +209,10 @@ impl<V: Voucher> Store<V> {
     /// It takes no memory.
     #[tactic(auto, unfolding(crate::specs::Stores::without_ticket))]
     pub fn failed(&mut self, ticket: Ticket)
-        ensures left { has_ticket ticket.number ticket.ask self.old.store.in_flight ≡ true → self.new ≡ after_failed ticket.number self.old }
-        ensures other { has_ticket ticket.number ticket.ask self.old.store.in_flight ≡ false → self.new ≡ self.old }
+        ensures left { has_ticket ticket.number ticket.ask self.old.store.in_flight ≡ true
+            → self.new ≡ after_failed ticket.number self.old }
+        ensures other { has_ticket ticket.number ticket.ask self.old.store.in_flight ≡ false
+            → self.new ≡ self.old }
     {
         if self.in_flight.has_ticket(&ticket) {
             self.in_flight.remove(ticket.number);

@@ -134,8 +134,10 @@ impl<V: Voucher> Store<V> {
         bundles: Row<Bundle>,
     ) -> Result<Prepared<V>, Memory>
         requires { IsStock entries bundles }
-        ensures next { IfOk result (λ p. p.next ≡ stored_after (with_entries entries bundles self.now.store) self.now) }
-        ensures change { IfOk result (λ p. p.answer.change ≡ change_to (with_entries entries bundles self.now.store) self.now) }
+        ensures next { IfOk result
+            (λ p. p.next ≡ stored_after (with_entries entries bundles self.now.store) self.now) }
+        ensures change { IfOk result
+            (λ p. p.answer.change ≡ change_to (with_entries entries bundles self.now.store) self.now) }
         ensures tickets { IfOk result (λ p. p.answer.tickets ≡ []) }
         ensures installed { IfOk result (λ p. p.answer.installed ≡ None) }
         ensures touched { IfOk result (λ p. SameBut p.answer.touched self.now.published p.next.published) }
@@ -193,14 +195,17 @@ impl<V: Voucher> Store<V> {
 
     /// Prepares the step that a document is read. Its own domain has to be the store's.
     pub fn prepare_sync(&self, alloc: Global, document: &[u8]) -> Result<Prepared<V>, DocFault>
-        ensures next { IfOk result (λ p. IsOkAnd (document_state (Some self.now.published.domain) document.now)
+        ensures next { IfOk result
+            (λ p. IsOkAnd (document_state (Some self.now.published.domain) document.now)
             (λ d. p.next ≡ stored_after (after_sync d self.now) self.now)) }
-        ensures change { IfOk result (λ p. IsOkAnd (document_state (Some self.now.published.domain) document.now)
+        ensures change { IfOk result
+            (λ p. IsOkAnd (document_state (Some self.now.published.domain) document.now)
             (λ d. p.answer.change ≡ change_to (after_sync d self.now) self.now)) }
         ensures tickets { IfOk result (λ p. p.answer.tickets ≡ []) }
         ensures installed { IfOk result (λ p. p.answer.installed ≡ None) }
         ensures touched { IfOk result (λ p. SameBut p.answer.touched self.now.published p.next.published) }
-        ensures fault { IfErr result (λ e. Faults e (document_state (Some self.now.published.domain) document.now)) }
+        ensures fault { IfErr result
+            (λ e. Faults e (document_state (Some self.now.published.domain) document.now)) }
     {
         let state = read_state(alloc, document, Some(&self.published.part().domain))?;
         match self.resync(alloc, state) {

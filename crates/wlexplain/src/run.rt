@@ -26,7 +26,8 @@ pub const OUT_OF_MEMORY: u8 = 8;
 
 /// What is due for the text that the source has.
 fn explained<I: Source>(alloc: Global, input: &mut I) -> Result<Octets, ReadFault>
-    ensures text { IfOk result (λ o. IfSome (I.left input.old) (λ text. o ≡ explained_text (take READ_LIMIT text))) }
+    ensures text { IfOk result
+        (λ o. IfSome (I.left input.old) (λ text. o ≡ explained_text (take READ_LIMIT text))) }
     ensures failed { IsErrOf result ReadFault.Failed → Rose (I.faults input.old) (I.faults input.new) }
 {
     let text = match read_all(alloc, input, READ_LIMIT) {
@@ -42,7 +43,8 @@ fn explained<I: Source>(alloc: Global, input: &mut I) -> Result<Octets, ReadFaul
 
 /// Reads the source to its end and writes what it has, explained. The status is one of the four above.
 pub fn explain<I: Source, O: Sink>(alloc: Global, input: &mut I, output: &mut O) -> u8
-    ensures { Ends (I.left input.old) (O.taken output.old) (O.taken output.new) (I.faults input.old) (I.faults input.new)
+    ensures { Ends (I.left input.old) (O.taken output.old) (O.taken output.new) (I.faults input.old)
+        (I.faults input.new)
         (O.faults output.old) (O.faults output.new) result }
 {
     match explained(alloc, input) {
