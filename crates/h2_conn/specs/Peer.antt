@@ -50,7 +50,7 @@ abbrev pub with_control_frame : ℕ → Body → State → State
 with_control_frame n body q = record q { outbox = with_control (frame_encoding (record { stream = n; body = body })) q.outbox }
 
 -- the stream is live no more, and what waits for it is dropped
-unfoldable pub closed : ℕ → State → State
+unfoldable pub without_live_stream : ℕ → State → State
 without_live_stream n q = record q { streams = without n q.streams; outbox = without_stream n q.outbox }
 
 -- RFC 9113, section 5.4.2: a stream error queues RST_STREAM, and a live stream closes and is gone

@@ -26,7 +26,7 @@ step_on n (Came f told early) = if n == f.stream then window_step f.body else 0
 step_on n _ = 0
 
 -- the bytes of DATA that a flush wrote, and those on this stream
-abbrev pub written : Step → ℕ
+abbrev pub data_written : Step → ℕ
 data_written (Wrote sent ends) = sum_by data_of sent
 data_written _ = 0
 

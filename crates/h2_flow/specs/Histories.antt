@@ -58,7 +58,7 @@ data_on n (headers stream block ended) = 0
 data_on n (content stream bytes) = if n == stream then length bytes else 0
 
 -- the bytes of DATA that a call wrote
-abbrev pub written : Step → ℕ
+abbrev pub data_written : Step → ℕ
 data_written (Pull sent) = sum_by data_of sent
 data_written _ = 0
 

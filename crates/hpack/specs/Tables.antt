@@ -107,7 +107,7 @@ with_item table header = record table { items = evict_to_fit table.most (header 
 abbrev pub with_maximum : Table → ℕ → Table
 with_maximum table most = record { items = evict_to_fit most table.items; most = most }
 
-abbrev pub found : Option Header → Result Header HpackFault
+abbrev pub entry_or_fault : Option Header → Result Header HpackFault
 entry_or_fault None = Err faults.Index
 entry_or_fault (Some header) = Ok header
 

@@ -65,7 +65,7 @@ on_branch (Symbol symbol) go_on = (symbol ∷ (go_on 0).0, (go_on 0).1)
 on_branch End go_on = ([], End)
 
 -- the text that the bits spell from a node on, and where they end
-unfoldable pub read : ℕ → List Bool → List ℕ × Branch
+unfoldable pub walk : ℕ → List Bool → List ℕ × Branch
 walk node [] = ([], Node node)
 walk node (bit ∷ bits) = on_branch (branch_at node bit) (λ next. walk next bits)
 

@@ -42,7 +42,7 @@ abbrev pub field_bytes_at : Header → Option ℕ → List ℕ
 field_bytes_at header (Some place) = integer_bytes 128 127 (place + 1)
 field_bytes_at header None = name_bytes header (position (same_name header) static_table) ++ plain_string header.value
 
-unfoldable pub spelled : Header → List ℕ
+unfoldable pub field_bytes : Header → List ℕ
 field_bytes header = field_bytes_at header (position (same_field header) static_table)
 
 -- the block of some headers
