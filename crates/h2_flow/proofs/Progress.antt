@@ -290,7 +290,7 @@ known n (step ∷ before) = known_next n step before (progress_on n before) (kno
 pub reached_progress : (n : ℕ) (steps : List Step) (o : Out) → Reaches steps o → WritesWhatBegan n steps o
 reached_progress n steps o e =
     let k = keeps_reached n steps o e in
-    record { front = k.front; with_message = (known n steps).begun; there = k.there }
+    record { front = k.front; offered = (known n steps).begun; there = k.there }
 
 -- the bare prefix
 pub reached_prefix : (n : ℕ) (steps : List Step) (o : Out) → Reaches steps o → BeginsWith (all_messages (progress_on n steps).begun) (progress_on n steps).written
