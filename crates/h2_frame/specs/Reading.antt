@@ -99,6 +99,12 @@ Steps (Ok None) b = first_frame b ≡ partial
 Steps (Ok (Some found)) b = (first_frame b ≡ whole found.0 (drop found.1 b)) × (0 < found.1) × (found.1 ≤ length b)
 Steps (Err fault) b = Refuses fault (first_frame b ≡ wrong fault)
 
+-- the bytes of the frame that isn't whole
+abbrev pub rest_of : End → List ℕ
+rest_of (Opening left) = []
+rest_of (Rest rest) = rest
+rest_of (Fault fault) = []
+
 abbrev pub IsOpen : End → Type 0
 IsOpen (Opening left) = Unit {0}
 IsOpen (Rest rest) = Unit {0}

@@ -1,9 +1,9 @@
 //! A parser that is fed pieces of a stream.
 
-ghost use Rattle.std.specs.Prelude.{◌≡◌, ℕ, List, [], ◌++◌, OnOk, IfErr, Err};
+ghost use Rattle.std.specs.Prelude.{◌≡◌, ℕ, List, [], ◌++◌, length, OnOk, IfErr, Err};
 ghost use Rattle.h2_frame.specs.declared.fault.FrameFault.{FrameFault};
 ghost use Rattle.h2_frame.specs.declared.stage.Stage.TheVariants.{Frames};
-ghost use Rattle.h2_frame.specs.Reading.{End, Opening, Rest, Fault, preface, frames_of, reading_from, Refuses, Feeds, StandsFor};
+ghost use Rattle.h2_frame.specs.Reading.{End, Opening, Rest, Fault, preface, frames_of, reading_from, Refuses, Feeds, StandsFor, rest_of};
 ghost use Rattle.h2_frame.specs.Parsing.{ending_of, IsWithin};
 ghost use Rattle.list_laws.specs.Lists.{GainsFront};
 
@@ -55,6 +55,16 @@ impl Parser {
         Parser {
             stage: Stage::Frames,
             pending: Vec::new(alloc),
+        }
+    }
+
+    /// How many bytes have come of the frame that isn't whole; 0 within the preface and after a fault. It takes no memory.
+    pub fn rest(&self) -> usize
+        ensures { result ≡ length (rest_of self.now) }
+    {
+        match self.stage {
+            Stage::Frames => self.pending.len(),
+            Stage::Preface(_) | Stage::Failed(_) => 0,
         }
     }
 
