@@ -242,24 +242,24 @@ r_continuation P Q c i go new q n bytes whole h =
 -- ---- windows
 
 -- a stream's credit with a step on stream n
-abbrev pub with_step : ℕ → ℕ → flow.Stream → flow.Stream
-with_step n step s = record s { credit = s.credit +ℤ pos (cond (s.number == n) step 0) }
+abbrev pub with_credit_step : ℕ → ℕ → flow.Stream → flow.Stream
+with_credit_step n step s = record s { credit = s.credit +ℤ pos (cond (s.number == n) step 0) }
 
 -- what was said before holds with the step
 abbrev pub Steps : ℕ → ℕ → (flow.Stream → Type 0) → (Option Happening → flow.Stream → Type 0) → Type 0
-Steps n step P Q = (told : Option Happening) (s : flow.Stream) → P s → Q told (with_step n step s)
+Steps n step P Q = (told : Option Happening) (s : flow.Stream) → P s → Q told (with_credit_step n step s)
 
 no_step : (c : ℤ) → c +ℤ pos 0 ≡ c
 no_step c = omega (arith, ints)
 
-unstepped : (n step : ℕ) (s : flow.Stream) → (s.number == n) ≡ false → with_step n step s ≡ s
+unstepped : (n step : ℕ) (s : flow.Stream) → (s.number == n) ≡ false → with_credit_step n step s ≡ s
 unstepped n step s off = ap (λ (d : ℤ). record s { credit = d }) (ap (λ (b : Bool). s.credit +ℤ pos (cond b step 0)) off ∙ no_step s.credit)
 
-stepped : (n step : ℕ) (s : flow.Stream) → (s.number == n) ≡ true → with_step n step s ≡ record s { credit = s.credit +ℤ pos step }
+stepped : (n step : ℕ) (s : flow.Stream) → (s.number == n) ≡ true → with_credit_step n step s ≡ record s { credit = s.credit +ℤ pos step }
 stepped n step s on = ap (λ (b : Bool). record s { credit = s.credit +ℤ pos (cond b step 0) }) on
 
 -- streams of other numbers
-others_step : (n step : ℕ) (P R : flow.Stream → Type 0) → ((s : flow.Stream) → P s → R (with_step n step s)) → (ss : List flow.Stream) → list_any (is_number n) ss ≡ false → AllByRecursion P ss → AllByRecursion R ss
+others_step : (n step : ℕ) (P R : flow.Stream → Type 0) → ((s : flow.Stream) → P s → R (with_credit_step n step s)) → (ss : List flow.Stream) → list_any (is_number n) ss ≡ false → AllByRecursion P ss → AllByRecursion R ss
 others_step n step P R go [] none h = tt
 others_step n step P R go (s ∷ ss) none h =
     let both = apart (s.number == n) (list_any (is_number n) ss) none in
@@ -269,7 +269,7 @@ others_step n step P R go (s ∷ ss) none h =
     apart true b e = absurd (cc e)
     apart false b e = (refl, e)
 
-rest_step : (n step : ℕ) (P R : flow.Stream → Type 0) → ((s : flow.Stream) → P s → R (with_step n step s)) → (ss : List flow.Stream) → AllByRecursion P ss → AllByRecursion R (filter (λ s. not (is_number n s)) ss)
+rest_step : (n step : ℕ) (P R : flow.Stream → Type 0) → ((s : flow.Stream) → P s → R (with_credit_step n step s)) → (ss : List flow.Stream) → AllByRecursion P ss → AllByRecursion R (filter (λ s. not (is_number n s)) ss)
 rest_step n step P R go [] h = tt
 rest_step n step P R go (s ∷ ss) h =
     elim (cases_Bool (s.number == n)) [
@@ -282,7 +282,7 @@ above_apart n [] rises = refl
 above_apart n (s ∷ ss) rises =
     rw (ne_eqb s.number n (λ e. absurd (omega (arith, rises.0, e)))) (above_apart n ss (rises_from n s.number (map (λ s. s.number) ss) (omega (arith, rises.0)) rises.1))
 
-changed_step : (m n step : ℕ) (P R : flow.Stream → Type 0) → ((s : flow.Stream) → P s → R (with_step n step s)) → (ss : List flow.Stream) → RisesFrom m (map (λ s. s.number) ss) → AllByRecursion P ss → AllByRecursion R (update_stream n (λ s. record s { credit = s.credit +ℤ pos step }) ss)
+changed_step : (m n step : ℕ) (P R : flow.Stream → Type 0) → ((s : flow.Stream) → P s → R (with_credit_step n step s)) → (ss : List flow.Stream) → RisesFrom m (map (λ s. s.number) ss) → AllByRecursion P ss → AllByRecursion R (update_stream n (λ s. record s { credit = s.credit +ℤ pos step }) ss)
 changed_step m n step P R go [] rises h = tt
 changed_step m n step P R go (s ∷ ss) rises h =
     elim (cases_Bool (s.number == n)) [

@@ -25,7 +25,7 @@ use Rattle.h2_conn.specs.Counts.{Step, Came, Wrote, Head, Finish, Offer, Withdra
 use Rattle.h2_conn.specs.Naming.{NamesTold}
 use Rattle.h2_conn.specs.Sound.{Sound}
 use Rattle.h2_conn.specs.Windows.{window_step, step_on, data_written, data_written_on, initial_of, last_initial, is_head_of, opens, since_opening, stream_sum, HasWindows, HasLowStream}
-use Rattle.h2_conn.proofs.Carries.{Has, h_closed, with_step, on_connection, frame_carries}
+use Rattle.h2_conn.proofs.Carries.{Has, h_closed, with_credit_step, on_connection, frame_carries}
 use Rattle.h2_conn.proofs.Sounds.{s_outbox, s_closed, s_answering, s_headed_on, s_finished_on, s_offered_on, s_withdrawn_on, s_reset_by, peer_sound, peer_names}
 
 -- ---- credits as sums
@@ -190,7 +190,7 @@ Before last before s = (s.credit ≡ credit_sum s.number before) × (s.number < 
 abbrev After : ℕ → Frame → Bool → List Step → Option Happening → flow.Stream → Type 0
 After last f early before told s = Above last told → s.credit ≡ credit_sum s.number (Came f told early ∷ before)
 
-moves : (last : ℕ) (f : Frame) (early : Bool) (before : List Step) (told : Option Happening) (s : flow.Stream) → Before last before s → After last f early before told (with_step f.stream (window_step f.body) s)
+moves : (last : ℕ) (f : Frame) (early : Bool) (before : List Step) (told : Option Happening) (s : flow.Stream) → Before last before s → After last f early before told (with_credit_step f.stream (window_step f.body) s)
 moves last f early before told s h = λ above.
     ap (λ (c : ℤ). c +ℤ pos (step_on s.number (Came f told early))) h.0
     ∙ sym (credit_next s.number (Came f told early) before (not_opened last s.number told h.1 above) ∙ omega (arith, ints))
