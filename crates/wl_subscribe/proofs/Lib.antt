@@ -1,0 +1,5 @@
+mod ByKey
+mod Untouched
+mod Filings
+mod Numbering
+mod Reasons

@@ -1,0 +1,3 @@
+pub mod Subscribed
+pub mod Differing
+pub mod Filed
