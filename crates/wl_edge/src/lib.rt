@@ -5,18 +5,31 @@
 //! real streams tell nothing, and are the trusted edge.
 #![tactic(auto)]
 
+mod attestor;
 mod drain;
+mod fault;
+mod memory_attestor;
+mod memory_signer;
 mod memory_sink;
 mod memory_source;
 mod real;
+mod recording;
+mod script;
+mod signer;
 mod sink;
 mod source;
 #[cfg(test)]
 mod tests;
 
+pub use attestor::{Attestor, AttestorCall};
 pub use drain::{ReadFault, read_all, write_all};
+pub use fault::EdgeFault;
+pub use memory_attestor::MemoryAttestor;
+pub use memory_signer::MemorySigner;
 pub use memory_sink::MemorySink;
 pub use memory_source::MemorySource;
 pub use real::{RealSink, RealSource};
+pub use script::Script;
+pub use signer::{Signer, SignerCall};
 pub use sink::{Sent, Sink};
 pub use source::{Source, Taken};
