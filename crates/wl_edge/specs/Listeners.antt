@@ -1,5 +1,5 @@
 -- Listeners: the kinds of their answers, and the links that were finished (own rules).
-use Rattle.std.specs.Prelude.{◌≡◌, ◌⊎◌, ⊤, ℕ, ◌+◌, ◌<◌, ◌≤◌, ◌^◌, Bool, true, false, List, [], ◌∷◌, ◌++◌, length, count_by, Option, Some, IfSome}
+use Rattle.std.specs.Prelude.{◌≡◌, ◌⊎◌, ⊤, ℕ, ◌+◌, ◌<◌, ◌≤◌, ◌^◌, Bool, true, false, List, [], ◌∷◌, ◌++◌, length, count_by, replicate, Option, Some, IfSome}
 use Rattle.wl_edge.specs.Edge.{Rose}
 use Rattle.wl_edge.specs.Links.{LinkLog}
 use Rattle.wl_edge.specs.declared.listener.AcceptKind.{AcceptKind}
@@ -73,3 +73,7 @@ HasOpenLink told = IfSome told (λ log. length log.finished < links_given log.ki
 -- a link is finished
 abbrev pub Finishes : Option ListenerLog → Option ListenerLog → FinishedLink → Type 0
 Finishes old new link = IfSome old (λ log. new ≡ Some (record log { finished = log.finished ++ link ∷ [] }))
+
+-- What a listener in memory tells that it answered: what it keeps, and a failure for each accept past its room.
+abbrev pub kinds_in_memory : List AcceptKind → ℕ → List AcceptKind
+kinds_in_memory kept past = kept ++ replicate past kind.Failed

@@ -1,6 +1,9 @@
 -- Where documents come from: the calls that are told, and their number (own rules).
-use Rattle.std.specs.Prelude.{◌≡◌, ℕ, ◌+◌, ◌-◌, ◌≤◌, ◌^◌, List, [], ◌∷◌, ◌++◌, length, min, Option, Some, None, IfSome, Result, Ok, Err}
+use Rattle.std.specs.Prelude.{◌≡◌, ℕ, ◌+◌, ◌-◌, ◌≤◌, ◌^◌, List, [], ◌∷◌, ◌++◌, length, min, take, Option, Some, None, IfSome, IsSomeAnd, Result, Ok, Err}
 use Rattle.wl_edge.specs.Edge.{Rose}
+use Rattle.wl_edge.specs.Scripts.{due_answer, made_once_more}
+use Rattle.wl_octets.specs.declared.octets.Octets.{Octets}
+use Rattle.wl_edge.specs.declared.script.Script.{Script}
 use Rattle.wl_edge.specs.declared.fault.EdgeFault.{EdgeFault}
 use Rattle.wl_edge.specs.declared.fault.EdgeFault.TheVariants.{Failed, Memory}
 use Rattle.wl_edge.specs.declared.upstream.PullCall.{PullCall}
@@ -30,3 +33,10 @@ PullGives old new before now into after (Err Memory) = (after ≡ into) × IfSom
 pub record Pulls (old new : Option UpstreamLog) (before now : ℕ) (into after : List ℕ) (answer : Result (Unit {0}) EdgeFault) : Type 0 where
   pub gives : PullGives old new before now into after answer
   pub later : before ≤ now
+
+-- A pull in memory appends as much of the document that was due as a pull appends. One that found no memory leaves the
+-- same document due.
+abbrev pub FollowsPull : Script Octets → Script Octets → List ℕ → List ℕ → Result (Unit {0}) EdgeFault → Type 0
+FollowsPull old new into after (Ok done) = IsSomeAnd (due_answer old) (λ document. after ≡ into ++ take MAX_PULLED document) × (new ≡ made_once_more old)
+FollowsPull old new into after (Err Failed) = (due_answer old ≡ None) × (new ≡ made_once_more old)
+FollowsPull old new into after (Err Memory) = new ≡ old

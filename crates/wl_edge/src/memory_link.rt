@@ -1,6 +1,6 @@
 //! A link in memory.
 
-ghost use Rattle.std.specs.Prelude.{◌≡◌, ◌+◌, ◌-◌, ◌^◌, ◌≤◌, ◌++◌, Some, IfOk, min, length, take};
+ghost use Rattle.std.specs.Prelude.{◌≡◌, ◌+◌, ◌-◌, ◌^◌, ◌≤◌, ◌++◌, [], Some, IfOk, min, length, take};
 ghost use Rattle.wl_edge.specs.Links.{IsFresh, gave_in_memory};
 
 use crate::link::{Heard, Link, Received, TrySent};
@@ -64,13 +64,20 @@ pub struct MemoryLink {
     pub(crate) stalls: u64,
 }
 
-impl MemoryLink {
-    /// A link that was not used yet.
-    pub fn start(alloc: Global, plan: LinkPlan) -> Result<MemoryLink, Memory>
-        ensures { IfOk result (λ l. IsFresh (⟦<MemoryLink as Link>⟧.told l) (⟦<MemoryLink as Link>⟧.failed_receives l)
-            (⟦<MemoryLink as Link>⟧.failed_sends l) (⟦<MemoryLink as Link>⟧.stalls l)) }
-    {
-        Ok(MemoryLink {
+/// A link that was not used yet.
+#[derive(Drop)]
+pub(crate) struct FreshLink {
+    link: MemoryLink,
+    ghost nothing: { (link.gave ≡ []) × (link.took ≡ []) },
+    ghost counts: { (link.failed_kept ≡ 0) × (link.failed_past ≡ 0) × (link.failed_sends ≡ 0) × (link.stalls ≡ 0) },
+}
+
+impl FreshLink {
+    /// A link that follows this plan.
+    pub(crate) fn start(alloc: Global, plan: LinkPlan) -> Result<FreshLink, Memory> {
+        let gave = Row::from_vec(Vec::with_capacity(alloc, plan.answers)?);
+        let took = Octets::from_vec(Vec::with_capacity(alloc, plan.room)?);
+        let link = MemoryLink {
             alloc,
             feed: Feed::start(plan.gives, plan.failing_receives),
             failing_sends: plan.failing_sends,
@@ -78,14 +85,33 @@ impl MemoryLink {
             answers: plan.answers,
             room: plan.room,
             piece: plan.piece,
-            gave: Row::from_vec(Vec::with_capacity(alloc, plan.answers)?),
+            gave,
             failed_kept: 0,
             failed_past: 0,
-            took: Octets::from_vec(Vec::with_capacity(alloc, plan.room)?),
+            took,
             sends: 0,
             failed_sends: 0,
             stalls: 0,
-        })
+        };
+        Ok(FreshLink { link })
+    }
+
+    /// The link, to be used.
+    pub(crate) fn into_link(self) -> MemoryLink
+        ensures { IsFresh (⟦<MemoryLink as Link>⟧.told result) (⟦<MemoryLink as Link>⟧.failed_receives result)
+            (⟦<MemoryLink as Link>⟧.failed_sends result) (⟦<MemoryLink as Link>⟧.stalls result) }
+    {
+        self.link
+    }
+}
+
+impl MemoryLink {
+    /// A link that was not used yet.
+    pub fn start(alloc: Global, plan: LinkPlan) -> Result<MemoryLink, Memory>
+        ensures { IfOk result (λ l. IsFresh (⟦<MemoryLink as Link>⟧.told l) (⟦<MemoryLink as Link>⟧.failed_receives l)
+            (⟦<MemoryLink as Link>⟧.failed_sends l) (⟦<MemoryLink as Link>⟧.stalls l)) }
+    {
+        Ok(FreshLink::start(alloc, plan)?.into_link())
     }
 
     /// Its answers to receives within its room, with the bytes that came.
