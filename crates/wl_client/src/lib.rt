@@ -12,8 +12,11 @@ mod decode_tests;
 mod fault;
 mod headers;
 mod items;
+mod laws;
 mod listener;
 mod opening;
+#[cfg(test)]
+mod recorded_tests;
 mod reply;
 #[cfg(test)]
 mod tests;
@@ -21,4 +24,5 @@ mod tests;
 pub use client::Client;
 pub use decode::{decode_jwt, decode_state, decode_x509};
 pub use fault::ClientFault;
+pub use laws::cut_anywhere;
 pub use reply::Heard;

@@ -39,7 +39,7 @@ fn join(alloc: Global, front: &[u8], rest: &[u8]) -> Result<Octets, Memory> {
 }
 
 /// What was told, in one text.
-fn text_of(alloc: Global, told: &[Heard]) -> Result<Octets, Memory> {
+pub(crate) fn text_of(alloc: Global, told: &[Heard]) -> Result<Octets, Memory> {
     let mut text = Octets::empty(alloc);
     for heard in told {
         match heard {
@@ -62,7 +62,7 @@ fn text_of(alloc: Global, told: &[Heard]) -> Result<Octets, Memory> {
 }
 
 /// Feeds pieces of this length, up to the first fault.
-fn hear(
+pub(crate) fn hear(
     alloc: Global,
     bytes: &[u8],
     piece: usize,
