@@ -70,3 +70,8 @@ SendGives old new before now text false = Rose before now × GainedPrefix old ne
 pub record Sends (old new : Option (List ℕ)) (before now : ℕ) (text : List ℕ) (answer : Bool) : Type 0 where
   pub gives : SendGives old new before now text answer
   pub later : before ≤ now
+
+-- a count rose at a failure, and never falls
+abbrev pub FailsOrStays : ℕ → ℕ → Bool → Type 0
+FailsOrStays before now true = Rose before now × (before ≤ now)
+FailsOrStays before now false = now ≡ before

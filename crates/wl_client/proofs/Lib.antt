@@ -1,0 +1,6 @@
+pub mod Heads
+pub mod Hearings
+pub mod Steps
+pub mod Cuts
+pub mod Arrivals
+pub mod Fields

@@ -1,0 +1,19 @@
+use Rattle.std.proofs.Common.{map, List, [], ℕ, subst}
+use Rattle.list_laws.specs.Lists.{GainsFront}
+use Rattle.list_laws.proofs.Fronts.{gains_all}
+use Rattle.grpc_wire.specs.Messages.{reading_from}
+use Rattle.wl_client.specs.declared.reply.Heard.TheVariants.{Message}
+use Rattle.wl_client.proofs.Steps.{told_found}
+use Rattle.wl_client.proofs.listener.Listener.cut.Goals as goal
+
+pub returns-in_err-tell_messages-clause-front : goal.returns-in_err-tell_messages-clause-front
+returns-in_err-tell_messages-clause-front c =
+    let m = c.args.self.now.messages in
+    let due = (reading_from m.limit m.ending c.args.bytes.now).messages in
+    told_found due c.feed-cut.new.into c.args.into.now c.tell_messages.new.into (subst (λ (xs : List (List ℕ)). GainsFront due xs c.feed-cut.new.into) c.empty-found.ensures c.feed-cut.ensures.front) c.tell_messages.ensures.front
+
+pub returns-in-Err-Memory-clause-front : goal.returns-in-Err-Memory-clause-front
+returns-in-Err-Memory-clause-front c =
+    let m = c.args.self.now.messages in
+    let due = (reading_from m.limit m.ending c.args.bytes.now).messages in
+    told_found due c.feed-cut.new.into c.args.into.now c.tell_messages.new.into (subst (λ (xs : List (List ℕ)). GainsFront due xs c.feed-cut.new.into) c.empty-found.ensures c.feed-cut.ensures.front) c.tell_messages.ensures.front

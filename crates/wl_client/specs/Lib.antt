@@ -1,0 +1,6 @@
+pub mod Faults
+pub mod Statuses
+pub mod Openings
+pub mod Hearing
+pub mod Clients
+pub mod Messages

@@ -1,0 +1,28 @@
+//! What a client of the Workload API hears in the bytes of a server.
+//!
+//! A [`Client`] calls one method. It gives the bytes that open the call, is fed what the server sends, cut anywhere, and
+//! tells the head, each message and the status as they become whole, or the first fault, after which it tells nothing
+//! more. The `decode_` calls read the messages.
+#![tactic(auto)]
+
+mod client;
+mod decode;
+#[cfg(test)]
+mod decode_tests;
+mod fault;
+mod headers;
+mod items;
+mod laws;
+mod listener;
+mod opening;
+#[cfg(test)]
+mod recorded_tests;
+mod reply;
+#[cfg(test)]
+mod tests;
+
+pub use client::Client;
+pub use decode::{decode_jwt, decode_state, decode_x509};
+pub use fault::ClientFault;
+pub use laws::cut_anywhere;
+pub use reply::Heard;
