@@ -1,0 +1,25 @@
+//! The outside as the operating system has it: Unix sockets, a poll and its waker, the clock.
+//!
+//! Each thing keeps the counts that its trait asks for and tells no content. What a socket gives or takes, and when a
+//! wait ends, is the operating system's: this crate is the trusted edge, and each thing has a test of its own.
+#![tactic(auto)]
+
+mod bell;
+mod binding;
+mod clock;
+mod dialed;
+mod gate;
+mod link;
+mod listener;
+mod ready;
+mod upstream;
+
+pub use bell::RealBell;
+pub use binding::{BindFault, bind, bind_all};
+pub use clock::RealClock;
+pub use dialed::DialedLink;
+pub use gate::RealGate;
+pub use link::RealLink;
+pub use listener::RealListener;
+pub use ready::RealReady;
+pub use upstream::RealUpstream;

@@ -1,0 +1,93 @@
+//! Listeners at Unix sockets.
+
+ghost use Rattle.std.specs.Prelude.{◌≡◌, None, IfOk};
+ghost use Rattle.wl_edge.specs.Links.{IsFresh};
+
+use crate::link::RealLink;
+use std::io;
+use std::io::ErrorKind;
+use std::os::fd::{AsRawFd, RawFd};
+use std::os::unix::net::UnixListener;
+use wl_edge::{Accepted, Link, Listener};
+
+/// Errors of Linux that say that there is no room for one more connection for now (`accept(2)`).
+const ENOMEM: i32 = 12;
+const ENFILE: i32 = 23;
+const EMFILE: i32 = 24;
+const ENOBUFS: i32 = 105;
+
+/// A listener at a Unix socket. It tells no content.
+#[derive(Drop)]
+pub struct RealListener {
+    listener: UnixListener,
+    faults: u64,
+}
+
+/// Whether an accept found no connection, or one that was gone already.
+fn is_nothing(error: &io::Error) -> bool {
+    matches!(
+        error.kind(),
+        ErrorKind::WouldBlock | ErrorKind::Interrupted | ErrorKind::ConnectionAborted
+    )
+}
+
+/// Whether an accept found no room for one more connection. Room comes as others end.
+fn is_full(error: &io::Error) -> bool {
+    matches!(
+        error.raw_os_error(),
+        Some(ENOMEM | ENFILE | EMFILE | ENOBUFS)
+    )
+}
+
+impl RealListener {
+    /// A listener that, from now on, does not block.
+    pub fn start(listener: UnixListener) -> io::Result<RealListener>
+        ensures untold { IfOk result (λ l. ⟦<RealListener as Listener>⟧.told l ≡ None) }
+        ensures fresh { IfOk result (λ l. ⟦<RealListener as Listener>⟧.faults l ≡ 0) }
+    {
+        listener.set_nonblocking(true)?;
+        Ok(RealListener {
+            listener,
+            faults: 0,
+        })
+    }
+
+    /// The socket.
+    pub(crate) fn descriptor(&self) -> RawFd {
+        self.listener.as_raw_fd()
+    }
+
+    /// The next connection as a link.
+    fn next_link(&self) -> io::Result<RealLink>
+        ensures { IfOk result (λ l. IsFresh (⟦<RealLink as Link>⟧.told l) (⟦<RealLink as Link>⟧.failed_receives l)
+            (⟦<RealLink as Link>⟧.failed_sends l) (⟦<RealLink as Link>⟧.stalls l)) }
+    {
+        let (stream, _) = self.listener.accept()?;
+        RealLink::start(stream)
+    }
+}
+
+impl Listener for RealListener {
+    type L = RealLink;
+
+    ghost told = { λ l. None };
+
+    ghost faults = { λ l. l.faults };
+
+    fn accept(&mut self) -> Accepted<RealLink> {
+        match self.next_link() {
+            Ok(link) => Accepted::Link(link),
+            Err(error) if is_nothing(&error) => Accepted::Idle,
+            Err(error) => {
+                self.faults = self.faults.saturating_add(1);
+                if is_full(&error) {
+                    Accepted::Idle
+                } else {
+                    Accepted::Failed
+                }
+            }
+        }
+    }
+
+    fn finish(&mut self, _link: RealLink) {}
+}
