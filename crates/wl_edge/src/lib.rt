@@ -5,18 +5,48 @@
 //! real streams tell nothing, and are the trusted edge.
 #![tactic(auto)]
 
+mod attestor;
+mod clock;
 mod drain;
+mod fault;
+mod gate;
+mod link;
+mod listener;
+mod memory_attestor;
+mod memory_clock;
+mod memory_feed;
+mod memory_link;
+mod memory_signer;
 mod memory_sink;
 mod memory_source;
+mod ready;
 mod real;
+mod recording;
+mod script;
+mod signer;
 mod sink;
 mod source;
 #[cfg(test)]
 mod tests;
+mod upstream;
 
+pub use attestor::{Attestor, AttestorCall};
+pub use clock::Clock;
 pub use drain::{ReadFault, read_all, write_all};
+pub use fault::EdgeFault;
+pub use gate::{BEFORE_TURN, BEFORE_UPKEEP, Gate};
+pub use link::{Heard, Link, Received, TrySent};
+pub use listener::{AcceptKind, Accepted, Listener};
+pub use memory_attestor::MemoryAttestor;
+pub use memory_clock::MemoryClock;
+pub use memory_link::{LinkPlan, MemoryLink};
+pub use memory_signer::MemorySigner;
 pub use memory_sink::MemorySink;
 pub use memory_source::MemorySource;
+pub use ready::{Bell, Ready};
 pub use real::{RealSink, RealSource};
+pub use script::Script;
+pub use signer::{Signer, SignerCall};
 pub use sink::{Sent, Sink};
 pub use source::{Source, Taken};
+pub use upstream::{MAX_PULLED, PullCall, Upstream};

@@ -57,7 +57,7 @@ impl Source for MemorySource {
 }
 
 /// Copies a prefix of the bytes, as long as it may be, and says how long it is.
-fn copy_front(bytes: &[u8], into: &mut [u8], most: usize) -> usize
+pub(crate) fn copy_front(bytes: &[u8], into: &mut [u8], most: usize) -> usize
     requires bytes { 0 < length bytes.now }
     requires room { 0 < length into.old }
     requires most { 0 < most }
