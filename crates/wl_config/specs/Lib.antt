@@ -5,3 +5,4 @@ pub mod Arrays
 pub mod Members
 pub mod Sockets
 pub mod Configs
+pub mod Attested

@@ -4,6 +4,7 @@
 //! [`Config`] is within its limits, and no two of its sockets have the same path.
 #![tactic(auto)]
 
+mod attestor;
 mod config;
 mod fault;
 mod limits;
@@ -15,6 +16,7 @@ mod sockets;
 #[cfg(test)]
 mod tests;
 
+pub use attestor::SocketAttestor;
 pub use config::{Config, SocketFact};
 pub use fault::ConfigFault;
 pub use limits::{CONFIG_LIMIT, MAX_SOCKET_SELECTORS, MAX_SOCKETS, MAX_WORKERS};

@@ -5,6 +5,7 @@ use std::alloc::{AllocError, Global};
 use std::process::Abort;
 use std::test::Fail;
 use wl_document::Place;
+use wl_edge::Attestor;
 
 /// A fault by its numbers: its own, its place as part, index, field and item, and its count; 0 where there is none.
 type Numbers = [usize; 6];
@@ -288,6 +289,9 @@ fn config_calls(rt: HostRuntime) -> Result<(), Fail> {
         return Err("one socket".into());
     };
     is_socket(&rt, web, "/run/web.sock", 4, &["unix:uid:1000"]);
+    let mut attestor = SocketAttestor::start(rt.alloc(), &config)?;
+    let selectors = attestor.attest(0)?;
+    assert!(rt; selectors == web.selectors);
     Ok(())
 }
 
@@ -303,5 +307,21 @@ fn defaults_and_order(rt: HostRuntime) -> Result<(), Fail> {
     };
     is_socket(&rt, first, "/b\n", 4, &["a:1", "b:2"]);
     is_socket(&rt, second, "/a", 28, &["a:1"]);
+    Ok(())
+}
+
+#[test]
+fn attested_by_socket(rt: HostRuntime) -> Result<(), Fail> {
+    let alloc = rt.alloc();
+    let text = r#"{"version":1,"upstream":"u","signer":"s","sockets":[{"path":"a","selectors":["a:1"]},{"path":"b","selectors":["b:2","b:1"]}]}"#;
+    let mut attestor = SocketAttestor::start(alloc, &read_config(alloc, text.as_bytes())?)?;
+    let wanted: [&[&[u8]]; 3] = [&[b"a:1"], &[b"b:1", b"b:2"], &[]];
+    for (number, texts) in wanted.iter().enumerate() {
+        let selectors = attestor.attest(number as u32)?;
+        assert_eq!(rt; selectors.as_slice().len(), texts.len());
+        for (selector, text) in selectors.as_slice().iter().zip(texts.iter()) {
+            assert_eq!(rt; selector.as_bytes(), *text);
+        }
+    }
     Ok(())
 }
