@@ -313,7 +313,8 @@ fn defaults_and_order(rt: HostRuntime) -> Result<(), Fail> {
 #[test]
 fn attested_by_socket(rt: HostRuntime) -> Result<(), Fail> {
     let alloc = rt.alloc();
-    let text = r#"{"version":1,"upstream":"u","signer":"s","sockets":[{"path":"a","selectors":["a:1"]},{"path":"b","selectors":["b:2","b:1"]}]}"#;
+    let text =
+        r#"{"version":1,"upstream":"u","signer":"s","sockets":[{"path":"a","selectors":["a:1"]},{"path":"b","selectors":["b:2","b:1"]}]}"#;
     let mut attestor = SocketAttestor::start(alloc, &read_config(alloc, text.as_bytes())?)?;
     let wanted: [&[&[u8]]; 3] = [&[b"a:1"], &[b"b:1", b"b:2"], &[]];
     for (number, texts) in wanted.iter().enumerate() {
