@@ -1,0 +1,4 @@
+mod Texts
+mod Arrays
+mod Walks
+mod Distinct

@@ -1,0 +1,6 @@
+use Rattle.wl_config.proofs.Walks.{Reached}
+use Rattle.wl_config.specs.Sockets.{selector_of}
+use Rattle.wl_config.proofs.selectors.selector_list.Given as goal
+
+abbrev pub invariant-loop-value : goal.invariant-loop-value
+invariant-loop-value l = Reached (λ k before d. selector_of l.place k d) l.values l.index l.value-index l.done.items

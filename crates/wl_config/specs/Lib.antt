@@ -1,0 +1,8 @@
+-- What the contracts cite, in the order in which a reader wants it.
+pub mod Places
+pub mod Checks
+pub mod Arrays
+pub mod Members
+pub mod Sockets
+pub mod Configs
+pub mod Attested

@@ -1,0 +1,23 @@
+//! The configuration of a serving agent: JSON of version 1, with the sockets on which it listens.
+//!
+//! [`read_config`] tries the checks in their order; the first that fails is the [`ConfigFault`], with its place. A
+//! [`Config`] is within its limits, and no two of its sockets have the same path.
+#![tactic(auto)]
+
+mod attestor;
+mod config;
+mod fault;
+mod limits;
+mod members;
+mod places;
+mod read;
+mod selectors;
+mod sockets;
+#[cfg(test)]
+mod tests;
+
+pub use attestor::SocketAttestor;
+pub use config::{Config, SocketFact};
+pub use fault::ConfigFault;
+pub use limits::{CONFIG_LIMIT, MAX_SOCKET_SELECTORS, MAX_SOCKETS, MAX_WORKERS};
+pub use read::read_config;

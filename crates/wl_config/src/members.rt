@@ -1,0 +1,157 @@
+//! The members of an object: whether one has to be there, and what kind it is.
+
+ghost use Rattle.std.specs.Prelude.{◌≡◌, ℕ, ◌<◌, ◌≤◌, length, map, IfOk};
+ghost use Rattle.serde_json.specs.View.{view};
+ghost use Rattle.wl_config.specs.Checks.{Gives};
+ghost use Rattle.wl_config.specs.Members.{required, object_at, text_at, number_at, number_within, number_or, path_at, path_of, list_at, list_of};
+
+use crate::fault::ConfigFault;
+use serde_json::Value;
+use std::alloc::Global;
+use wl_document::Place;
+use wl_octets::Octets;
+
+/// The member of this name, which has to be there.
+#[tactic(auto, unfolding(crate::specs::Members::required))]
+pub(crate) fn required<'a>(
+    place: Place,
+    name: &str,
+    value: &'a Value,
+) -> Result<&'a Value, ConfigFault>
+    ensures { Gives (λ v. view v.now) result (required place name.now (view value.now)) }
+{
+    match value.get(name) {
+        Some(member) => Ok(member),
+        None => Err(ConfigFault::Missing(place)),
+    }
+}
+
+/// An object.
+#[tactic(auto, unfolding(crate::specs::Members::object_at))]
+pub(crate) fn object_at(place: Place, value: &Value) -> Result<(), ConfigFault>
+    ensures { Gives (λ x. x) result (object_at place (view value.now)) }
+{
+    match value.as_object() {
+        Some(_) => Ok(()),
+        None => Err(ConfigFault::Kind(place)),
+    }
+}
+
+/// A text.
+#[tactic(auto, unfolding(crate::specs::Members::text_at))]
+pub(crate) fn text_at(place: Place, value: &Value) -> Result<&str, ConfigFault>
+    ensures { Gives (λ s. s.now) result (text_at place (view value.now)) }
+{
+    match value.as_str() {
+        Some(text) => Ok(text),
+        None => Err(ConfigFault::Kind(place)),
+    }
+}
+
+/// A whole number below 2^64.
+#[tactic(auto, unfolding(crate::specs::Members::number_at))]
+pub(crate) fn number_at(place: Place, value: &Value) -> Result<u64, ConfigFault>
+    ensures { Gives (λ n. n) result (number_at place (view value.now)) }
+{
+    match value.as_u64() {
+        Some(number) => Ok(number),
+        None => Err(ConfigFault::Kind(place)),
+    }
+}
+
+/// A whole number from 1 to the limit.
+#[tactic(auto, unfolding(crate::specs::Members::number_within))]
+fn number_within(limit: u32, place: Place, value: &Value) -> Result<u32, ConfigFault>
+    ensures value { Gives (λ n. n) result (number_within limit place (view value.now)) }
+    ensures some { IfOk result (λ n. 0 < n) }
+    ensures few { IfOk result (λ n. n ≤ limit) }
+{
+    let number = number_at(place, value)?;
+    if number == 0 || number > u64::from(limit) {
+        return Err(ConfigFault::Kind(place));
+    }
+    Ok(number as u32)
+}
+
+/// A whole number from 1 to the limit, or the default where it is absent.
+#[tactic(auto, unfolding(crate::specs::Members::number_or))]
+pub(crate) fn number_or(
+    default: u32,
+    limit: u32,
+    place: Place,
+    name: &str,
+    value: &Value,
+) -> Result<u32, ConfigFault>
+    requires some { 0 < default }
+    requires few { default ≤ limit }
+    ensures value { Gives (λ n. n) result (number_or default limit place name.now (view value.now)) }
+    ensures some { IfOk result (λ n. 0 < n) }
+    ensures few { IfOk result (λ n. n ≤ limit) }
+{
+    match value.get(name) {
+        Some(member) => number_within(limit, place, member),
+        None => Ok(default),
+    }
+}
+
+/// A path, which is not empty.
+#[tactic(auto, unfolding(crate::specs::Members::path_at))]
+fn path_at(alloc: Global, place: Place, value: &Value) -> Result<Octets, ConfigFault>
+    ensures value { Gives (λ o. o) result (path_at place (view value.now)) }
+    ensures some { IfOk result (λ o. 0 < length o) }
+{
+    let text = text_at(place, value)?.as_bytes();
+    if text.is_empty() {
+        return Err(ConfigFault::EmptyText(place));
+    }
+    Ok(Octets::from_slice(alloc, text)?)
+}
+
+/// A path, which has to be there and is not empty.
+#[tactic(auto, unfolding(crate::specs::Members::path_of))]
+pub(crate) fn path_of(
+    alloc: Global,
+    place: Place,
+    name: &str,
+    value: &Value,
+) -> Result<Octets, ConfigFault>
+    ensures value { Gives (λ o. o) result (path_of place name.now (view value.now)) }
+    ensures some { IfOk result (λ o. 0 < length o) }
+{
+    path_at(alloc, place, required(place, name, value)?)
+}
+
+/// An array of at least one item and at most so many.
+#[tactic(auto, unfolding(crate::specs::Members::list_at))]
+fn list_at(limit: usize, place: Place, value: &Value) -> Result<&[Value], ConfigFault>
+    ensures value { Gives (λ v. map view v.now) result (list_at limit place (view value.now)) }
+    ensures some { IfOk result (λ v. 0 < length v.now) }
+    ensures few { IfOk result (λ v. length v.now ≤ limit) }
+{
+    let items = match value.as_array() {
+        Some(items) => items.as_slice(),
+        None => return Err(ConfigFault::Kind(place)),
+    };
+    if items.is_empty() {
+        return Err(ConfigFault::Kind(place));
+    }
+    if items.len() > limit {
+        return Err(ConfigFault::TooMany(place, items.len()));
+    }
+    Ok(items)
+}
+
+/// An array of at least one item and at most so many, which has to be there.
+#[tactic(auto, unfolding(crate::specs::Members::list_of))]
+pub(crate) fn list_of<'a>(
+    limit: usize,
+    place: Place,
+    name: &str,
+    value: &'a Value,
+) -> Result<&'a [Value], ConfigFault>
+    ensures value { Gives (λ v. map view v.now) result (list_of limit place name.now (view value.now)) }
+    ensures some { IfOk result (λ v. 0 < length v.now) }
+    ensures few { IfOk result (λ v. length v.now ≤ limit) }
+{
+    list_at(limit, place, required(place, name, value)?)
+}
