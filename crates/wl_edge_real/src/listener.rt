@@ -10,10 +10,16 @@ use std::os::fd::{AsRawFd, RawFd};
 use std::os::unix::net::UnixListener;
 use wl_edge::{Accepted, Link, Listener};
 
-/// Errors of Linux that say that there is no room for one more connection for now (`accept(2)`).
+/// There is no memory for one more connection (errors of `accept(2)`, by their numbers on Linux).
 const ENOMEM: i32 = 12;
+
+/// The system has no descriptor left.
 const ENFILE: i32 = 23;
+
+/// The process has no descriptor left.
 const EMFILE: i32 = 24;
+
+/// The network has no buffer left.
 const ENOBUFS: i32 = 105;
 
 /// A listener at a Unix socket. It tells no content.

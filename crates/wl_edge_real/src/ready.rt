@@ -17,8 +17,10 @@ use std::time::Duration;
 use wl_edge::{EdgeFault, Ready};
 use wl_octets::Row;
 
-/// The tokens of the poll that are no number of a link.
+/// The listener's token, which is no number of a link.
 const LISTENER: Token = Token(usize::MAX);
+
+/// The bell's token, which is no number of a link.
 const BELL: Token = Token(usize::MAX - 1);
 
 /// How many seconds a wait takes at most.
@@ -140,7 +142,12 @@ impl Ready<RealLink> for RealReady {
         let socket = link.descriptor();
         let token = Token(number as usize);
         let both = Interest::READABLE | Interest::WRITABLE;
-        if self.poll.registry().register(&mut SourceFd(&socket), token, both).is_err() {
+        if self
+            .poll
+            .registry()
+            .register(&mut SourceFd(&socket), token, both)
+            .is_err()
+        {
             self.watched.pop();
             self.faults = self.faults.saturating_add(1);
             return Err(EdgeFault::Failed);
@@ -151,7 +158,12 @@ impl Ready<RealLink> for RealReady {
 
     fn remove(&mut self, number: u32, link: &mut RealLink) {
         let socket = link.descriptor();
-        if self.poll.registry().deregister(&mut SourceFd(&socket)).is_err() {
+        if self
+            .poll
+            .registry()
+            .deregister(&mut SourceFd(&socket))
+            .is_err()
+        {
             self.faults = self.faults.saturating_add(1);
         }
         link.share(None);
@@ -160,7 +172,11 @@ impl Ready<RealLink> for RealReady {
 
     fn wait(&mut self, into: &mut Row<u32>) -> Result<(), EdgeFault> {
         let at_once = self.rung || self.watched.iter().any(|link| link.is_ready());
-        let most = if at_once { Duration::ZERO } else { Duration::from_secs(SHORT_WHILE_SECONDS) };
+        let most = if at_once {
+            Duration::ZERO
+        } else {
+            Duration::from_secs(SHORT_WHILE_SECONDS)
+        };
         if self.poll.poll(&mut self.events, Some(most)).is_err() {
             self.faults = self.faults.saturating_add(1);
             return Err(EdgeFault::Failed);
