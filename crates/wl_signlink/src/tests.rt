@@ -273,11 +273,11 @@ fn first_lines(rt: HostRuntime) -> Result<(), Fail> {
     }
     reads(&rt, alloc, b"abc\nd\n", 4, Some((b"abc", true)))?;
     reads(&rt, alloc, b"abc\nd\n", 5, Some((b"abc", false)))?;
+    let line = padded(alloc, REPLY_LIMIT)?;
+    reads(&rt, alloc, &line, 4_000, None)?;
     let mut long = padded(alloc, REPLY_LIMIT)?;
-    reads(&rt, alloc, &long, 4_000, None)?;
     long.push(b'\n')?;
-    let (line, _) = long.split_at(REPLY_LIMIT);
-    reads(&rt, alloc, &long, 4_000, Some((line, true)))?;
+    reads(&rt, alloc, &long, 4_000, Some((line.as_slice(), true)))?;
     let mut longer = padded(alloc, REPLY_LIMIT + 1)?;
     longer.push(b'\n')?;
     reads(&rt, alloc, &longer, 4_000, None)
