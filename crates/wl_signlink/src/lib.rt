@@ -11,8 +11,6 @@ mod limits;
 mod link;
 mod replies;
 mod requests;
-#[cfg(test)]
-mod tests;
 mod texts;
 
 pub use asks::{Answer, ask_jwt, ask_x509};
