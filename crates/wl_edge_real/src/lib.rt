@@ -1,7 +1,7 @@
 //! The outside as the operating system has it: Unix sockets, a poll and its waker, the clock.
 //!
 //! Each thing keeps the counts that its trait asks for and tells no content. What a socket gives or takes, and when a
-//! wait ends, is the operating system's: this crate is the trusted edge, and each thing has a test of its own.
+//! wait ends, is the operating system's: this crate is the trusted edge.
 #![tactic(auto)]
 
 mod bell;
