@@ -1,9 +1,11 @@
 pub mod Running
 pub mod Agreements
-mod Serving
+pub mod Serving
 mod Turning
-mod Settling
+pub mod Settling
 mod Views
 mod Sizes
 mod Framing
 mod Feeding
+pub mod Following
+mod Refusals

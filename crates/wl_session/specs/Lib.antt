@@ -6,3 +6,4 @@ pub mod Talks
 pub mod Sessions
 pub mod Agreeing
 pub mod Settled
+pub mod Refusing

@@ -123,6 +123,12 @@ is_done_in (Running e t x) = is_going t.phase && (live_on t.phase == 0)
 is_done_in (Fallen f begun) = false
 is_done_in OutOfMemory = false
 
+-- how the session has failed
+abbrev pub failure_in : SessionState → Option SessionFault
+failure_in (Running e t x) = None
+failure_in (Fallen f begun) = Some (faults.Protocol f)
+failure_in OutOfMemory = Some faults.Memory
+
 -- how many messages began; out of memory it is not said
 abbrev pub Began : SessionState → ℕ → Type 0
 Began (Running e t x) n = n ≡ begun_on t.phase

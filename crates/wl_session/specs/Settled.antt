@@ -1,5 +1,5 @@
 -- What holds of a session between its calls.
-use Rattle.std.specs.Prelude.{◌≡◌, ℕ, ◌≤◌, ◌==◌, Bool, true, false, List, [], ◌∷◌, Option, Some, None}
+use Rattle.std.specs.Prelude.{◌≡◌, ℕ, ◌≤◌, ◌==◌, Bool, true, false, List, [], ◌∷◌, Option, Some, None, Result, IsSome}
 use Rattle.h2_conn.specs.Conns.{flush_of}
 use Rattle.wl_snapshot.specs.Same.{same_sight}
 use Rattle.wl_snapshot.specs.Snapshots.{Publication}
@@ -9,7 +9,8 @@ use Rattle.wl_session.specs.declared.served.Stage.{Stage}
 use Rattle.wl_session.specs.declared.served.Stage.TheVariants.{Unnamed, Ready, Asking}
 use Rattle.wl_session.specs.declared.served.ServedCall.{ServedCall}
 use Rattle.wl_session.specs.Talks.{Talking}
-use Rattle.wl_session.specs.Sessions.{SessionState, Running, Fallen, OutOfMemory}
+use Rattle.wl_session.specs.declared.asks.JwtOutcome.{JwtOutcome}
+use Rattle.wl_session.specs.Sessions.{SessionState, Running, Fallen, OutOfMemory, fresh_session, Feeds, Turns, Names, GivesOutcome, unnamed_in, asks_in}
 
 -- a call that no turn answered yet
 abbrev pub is_new_view : Option Sight → Bool
@@ -62,3 +63,23 @@ abbrev pub MayTurn : Publication → SessionState → Type 0
 MayTurn x (Running e t last) = MayFollow x last
 MayTurn x (Fallen f begun) = Unit {0}
 MayTurn x OutOfMemory = Unit {0}
+
+-- ---- a turn may be taken (laws)
+
+-- on a session of which nothing came, on any publication
+abbrev pub FirstMayTurn : Type 0
+FirstMayTurn = (x : Publication) → MayTurn x fresh_session
+
+-- bytes, a name and a token leave it as it was
+abbrev pub FeedKeepsTurn : Type 0
+FeedKeepsTurn = (x : Publication) (piece : List ℕ) (old new : SessionState) (r : Result (Unit {0}) SessionFault) (before after : List ℕ) → Feeds piece old r before after new → MayTurn x old → MayTurn x new
+
+abbrev pub NameKeepsTurn : Type 0
+NameKeepsTurn = (x : Publication) (sel : Option (List (List ℕ))) (old new : SessionState) (r : Result (Unit {0}) SessionFault) (before after : List ℕ) → IsSome (unnamed_in old) → Names sel old r before after new → MayTurn x old → MayTurn x new
+
+abbrev pub TokenKeepsTurn : Type 0
+TokenKeepsTurn = (x : Publication) (o : JwtOutcome) (old new : SessionState) (r : Result (Unit {0}) SessionFault) (before after : List ℕ) → IsSome (asks_in old) → GivesOutcome o old r before after new → MayTurn x old → MayTurn x new
+
+-- after a turn on a publication, on the same one and on each with a higher number
+abbrev pub TurnMayFollow : Type 0
+TurnMayFollow = (x y : Publication) (old new : SessionState) (r : Result (Unit {0}) SessionFault) (before after : List ℕ) → Turns y old r before after new → MayFollow x (Some y) → MayTurn x new

@@ -6,6 +6,8 @@ ghost use Rattle.wl_snapshot.specs.Snapshots.{Publication};
 ghost use Rattle.wl_session.specs.Talks.{Talking, then_, silent};
 ghost use Rattle.wl_session.specs.Sessions.{feed_said, turn_said};
 ghost use Rattle.wl_session.specs.Agreeing.{SeeAlike, HaveSeen, IsQuiet};
+ghost use Rattle.wl_session.specs.Refusing.{RefusedCallEnds, NoIdentityExactly, UnknownServiceExactly, MessageIsOfView, HealthIsOfView};
+ghost use Rattle.wl_session.specs.Settled.{FirstMayTurn, FeedKeepsTurn, NameKeepsTurn, TokenKeepsTurn, TurnMayFollow};
 
 /// A talk is the same however its bytes are cut: from any state, two pieces are what their join is, in what is left, what is
 /// written, and the first fault.
@@ -28,4 +30,26 @@ pub fn turns_agree()
     ensures twice { (publication : Publication) (talk : Talking)
         → turn_said publication (turn_said publication talk).after
         ≡ silent (turn_said publication talk).after }
+{}
+
+/// A ready call that is refused on a view ends so: with status 7 exactly where it is no health call and its caller sees no
+/// entry, or none that it asks a token for; with status 5 exactly where it is a Check of a service that is not known. Else
+/// a streaming call is offered its method's message on that view, in its encoding, and a health call the state of its
+/// service there.
+pub fn answers_are_of_views()
+    ensures refused { RefusedCallEnds }
+    ensures no_identity { NoIdentityExactly }
+    ensures unknown_service { UnknownServiceExactly }
+    ensures message { MessageIsOfView }
+    ensures health { HealthIsOfView }
+{}
+
+/// On which publications a turn may be taken: on a session of which nothing came, on any; after a turn, on the same one and
+/// on each with a higher number. Bytes, names and tokens leave that as it was.
+pub fn turns_may_follow()
+    ensures first { FirstMayTurn }
+    ensures fed { FeedKeepsTurn }
+    ensures named { NameKeepsTurn }
+    ensures given { TokenKeepsTurn }
+    ensures turned { TurnMayFollow }
 {}

@@ -4,7 +4,7 @@ ghost use Rattle.std.specs.Prelude.{◌≡◌, ◌++◌, IfOk, OnOk, IsSome, IfS
 ghost use Rattle.list_laws.specs.Lists.{GainsFront};
 ghost use Rattle.h2_frame.specs.declared.fault.FrameFault.TheVariants as frame_faults;
 ghost use Rattle.h2_frame.specs.Reading.{reading_from};
-ghost use Rattle.wl_session.specs.Sessions.{fresh_session, Feeds, Turns, Names, GivesOutcome, unnamed_in, asks_in, is_done_in, Began, fault_in, feed_said};
+ghost use Rattle.wl_session.specs.Sessions.{fresh_session, Feeds, Turns, Names, GivesOutcome, unnamed_in, asks_in, is_done_in, failure_in, Began, fault_in, feed_said};
 ghost use Rattle.wl_session.specs.Settled.{MayTurn, is_number};
 
 use crate::asks::{JwtAsk, JwtOutcome, SessionFault};
@@ -204,6 +204,13 @@ impl Session {
             None => self.talk.is_done(),
             Some(_) => false,
         }
+    }
+
+    /// How the session has failed, which is what each later call that can be refused gives. It takes no memory.
+    pub fn failure(&self) -> Option<SessionFault>
+        ensures { result ≡ failure_in self.now }
+    {
+        self.failed
     }
 
     /// How many messages began. It takes no memory.
