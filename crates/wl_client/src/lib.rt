@@ -7,13 +7,19 @@
 
 mod client;
 mod decode;
+#[cfg(test)]
+mod decode_tests;
 mod fault;
 mod headers;
 mod items;
 mod laws;
 mod listener;
 mod opening;
+#[cfg(test)]
+mod recorded_tests;
 mod reply;
+#[cfg(test)]
+mod tests;
 
 pub use client::Client;
 pub use decode::{decode_jwt, decode_state, decode_x509};

@@ -1,3 +1,5 @@
+mod memory;
+
 use crate::{
     MemorySink, MemorySource, ReadFault, RealSink, RealSource, Sent, Sink, Source, Taken, read_all,
     write_all,
