@@ -1,5 +1,5 @@
 -- What goes on between two moments, and then between two more.
-use Rattle.std.proofs.Common.{◌≡◌, ℕ, true, false, option_map, ◌+◌, ◌<◌, ◌≤◌, ◌^◌, ◌⊎◌, inl, inr, List, [], ◌∷◌, ◌++◌, take, drop, Option, Some, None, IfSome, refl, sym, ap, subst, ◌∙◌, append_assoc, arith}
+use Rattle.std.proofs.Common.{◌≡◌, ℕ, true, false, option_map, ◌≤◌, inl, inr, List, [], ◌∷◌, ◌++◌, take, drop, Option, Some, None, IfSome, refl, sym, ap, subst, ◌∙◌, append_assoc, arith}
 use Rattle.std.proofs.lemmas.List.{append-nil, take-append-drop}
 use Rattle.list_laws.specs.Lists.{BeginsWith}
 use Rattle.wl_edge.specs.Edge.{Rose, Gained, Sends}

@@ -1,7 +1,7 @@
 -- Where a call stands, and what a further answer of its link makes of that.
 use borrow.Author.Count.{below_more}
-use Rattle.std.proofs.Common.{◌≡◌, ℕ, ◌+◌, ◌-◌, ◌^◌, ◌<◌, ◌≤◌, ◌⊎◌, inl, inr, ◌==◌, ◌||◌, Bool, true, false, if◌then◌else◌, List, [], ◌∷◌, ◌++◌, length, take, Option, Some, None, Result, Ok, Err, IfOk, IfSome, refl, sym, ap, subst, ◌∙◌, append_assoc, arith, option_map}
-use Rattle.std.specs.List.{flat_map, list_any}
+use Rattle.std.proofs.Common.{◌≡◌, ℕ, ◌+◌, ◌-◌, ◌^◌, ◌<◌, ◌≤◌, ◌⊎◌, inl, inr, ◌||◌, Bool, true, false, List, [], ◌∷◌, ◌++◌, length, take, Option, Some, None, Result, Ok, Err, IfOk, IfSome, refl, sym, ap, subst, ◌∙◌, append_assoc, arith, option_map}
+use Rattle.std.specs.List.{list_any}
 use Rattle.std.proofs.lemmas.Result.{IfOk-at_ok}
 use Rattle.std.proofs.lemmas.Grind.{flat_map-append, common_steps}
 use Rattle.std.proofs.lemmas.List.{append-nil, length-append, take-append-le}
@@ -15,7 +15,6 @@ use Rattle.wl_edge.specs.declared.link.Heard.{Heard as Answer}
 use Rattle.wl_edge.specs.declared.link.Heard.TheVariants as answer
 use Rattle.wl_client.specs.declared.fault.ClientFault.{ClientFault}
 use Rattle.wl_client.specs.declared.fault.ClientFault.TheVariants as faults
-use Rattle.wl_client.specs.declared.reply.Heard.{Heard}
 use Rattle.h2_frame.specs.Reading.{reading_from, frames_of, frames_in}
 use Rattle.wl_client.specs.Hearing.{frames_heard}
 use Rattle.wl_client.specs.Clients.{ClientState, Listening, Failed, Reply, fresh_state, heard, heard_in, heard_from, heard_on, IsListening, rest_in}
@@ -31,7 +30,7 @@ use Rattle.wl_control.specs.declared.status.TheConstants.{READ_FAILED, WRITE_FAI
 use Rattle.wl_control.specs.Courses.{Course, course}
 use Rattle.wl_control.specs.Calls.{method_of, message_of, asked_of}
 use Rattle.wl_control.specs.Runs.{bytes_of, bytes_in, is_end, idles_with, idles_after, idles_in, limit_fault, link_fault, bytes_verdict, or_fault, course_by, verdict_of, line_of, verdict_line, text_of, sent_of, AreAwaited}
-use Rattle.wl_control.specs.Ends.{Moment, LinkGains, Passes, WriteRose, status_of, BreaksOff, IsDecided, Ends, decided, fails_read, fails_write, lacks_memory, Breaks, Delivered, delivered, fails, Delivers, SendsAll}
+use Rattle.wl_control.specs.Ends.{Moment, LinkGains, Passes, BreaksOff, IsDecided, Ends, decided, fails_read, fails_write, Breaks, Delivered, delivered, fails, Delivers, SendsAll}
 use Rattle.wl_control.specs.Standings.{reply_to, run_on, verdict_on, GoesOn, Starts, Standing, StepEnds}
 use Rattle.wl_control.proofs.Courses.{course_on}
 use Rattle.wl_control.proofs.Passages.{link_same, sink_same, passes_nothing, passes_more, rose_wide, write_rose_wide, gives_one, gives_none}

@@ -1,7 +1,6 @@
 -- How the parts of an answer meet what was asked for (own rules).
-use Rattle.std.specs.Prelude.{◌≡◌, ℕ, zero, suc, ◌-◌, ◌==◌, ◌&&◌, Bool, true, false, not, if◌then◌else◌, List, [], ◌∷◌, ◌++◌, Result, Ok, Err, Option, Some, None}
+use Rattle.std.specs.Prelude.{ℕ, ◌-◌, ◌==◌, ◌&&◌, not, if◌then◌else◌, List, [], ◌∷◌, ◌++◌, Result, Ok, Err}
 use Rattle.pb_wire.specs.declared.fault.FieldFault.{FieldFault}
-use Rattle.wl_client.specs.declared.fault.ClientFault.{ClientFault}
 use Rattle.wl_client.specs.declared.fault.ClientFault.TheVariants as faults
 use Rattle.wl_client.specs.declared.reply.Heard.{Heard}
 use Rattle.wl_client.specs.declared.reply.Heard.TheVariants.{Head, Message, Status}

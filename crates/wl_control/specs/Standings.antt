@@ -1,11 +1,10 @@
 -- Where a call stands between two answers of its link, and what a step of it answers.
-use Rattle.std.specs.Prelude.{◌≡◌, ℕ, ◌+◌, false, List, [], ◌++◌, length, Result, Ok, Err, Option, Some, None}
+use Rattle.std.specs.Prelude.{◌≡◌, ℕ, ◌+◌, false, List, length, Result, Ok, Err, Option, Some, None}
 use Rattle.std.specs.List.{list_any}
 use Rattle.wl_octets.specs.declared.memory.Memory.{Memory}
 use Rattle.wl_edge.specs.declared.link.Heard.{Heard as Answer}
 use Rattle.wl_client.specs.Clients.{Reply, fresh_state, heard, heard_from, IsListening}
 use Rattle.wl_client.specs.Openings.{opening_of}
-use Rattle.wl_control.specs.declared.asked.Asked.{Asked}
 use Rattle.wl_control.specs.declared.asked.Verdict.{Verdict}
 use Rattle.wl_control.specs.declared.request.Request.{Request}
 use Rattle.wl_control.specs.declared.program.Call.{Call}

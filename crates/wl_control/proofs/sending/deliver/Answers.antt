@@ -1,5 +1,4 @@
-use Rattle.std.proofs.Common.{◌≡◌, ◌++◌, ◌∙◌}
-use Rattle.wl_control.specs.Runs.{verdict_line}
+use Rattle.std.proofs.Common.{◌∙◌}
 use Rattle.wl_control.proofs.Passages.{not_sent, all_delivered, not_written}
 use Rattle.wl_control.proofs.sending.deliver.Goals as goal
 
