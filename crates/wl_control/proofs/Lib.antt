@@ -1,0 +1,4 @@
+pub mod Courses
+pub mod Messages
+pub mod Passages
+pub mod Standings

@@ -1,0 +1,59 @@
+-- The lines that are written (own rules): hexadecimal is lower-case, and nothing stands for the empty byte string.
+use Rattle.std.specs.Prelude.{ℕ, ◌==◌, ◌+◌, ◌/◌, ◌%◌, nat_lt, if◌then◌else◌, List, [], ◌∷◌, ◌++◌, codes, Result, Ok, Err}
+use Rattle.std.specs.Fmt.{decimal}
+use Rattle.std.specs.List.{flat_map}
+use Rattle.pb_wire.specs.declared.fault.FieldFault.{FieldFault}
+use Rattle.workload_proto.specs.declared.message.X509Response.{X509Response}
+use Rattle.workload_proto.specs.declared.message.X509Item.{X509Item}
+use Rattle.workload_proto.specs.declared.message.JwtResponse.{JwtResponse}
+use Rattle.workload_proto.specs.declared.message.JwtItem.{JwtItem}
+use Rattle.wl_client.specs.declared.fault.ClientFault.{ClientFault}
+use Rattle.wl_client.specs.Faults.{number_of}
+use Rattle.wl_client.specs.Messages.{x509_of, jwt_of, state_of}
+use Rattle.wl_control.specs.declared.asked.Kind.{Kind}
+use Rattle.wl_control.specs.declared.asked.Kind.TheVariants.{X509, Jwt, State}
+
+abbrev pub hex_digit : ℕ → ℕ
+hex_digit n = if nat_lt n 10 then 48 + n else 87 + n
+
+abbrev pub hex_byte : ℕ → List ℕ
+hex_byte b = hex_digit (b / 16) ∷ hex_digit (b % 16) ∷ []
+
+unfoldable pub hex : List ℕ → List ℕ
+hex bytes = flat_map hex_byte bytes
+
+-- the end of a line
+abbrev pub line_end : List ℕ
+line_end = 10 ∷ []
+
+unfoldable pub svid_line : X509Item → List ℕ
+svid_line s = codes "svid " ++ s.spiffe_id ++ codes " chain=" ++ hex s.chain ++ codes " key=" ++ hex s.key ++ codes " bundle=" ++ hex s.bundle ++ codes " hint=" ++ hex s.hint ++ line_end
+
+unfoldable pub jwt_line : JwtItem → List ℕ
+jwt_line s = codes "jwt " ++ s.spiffe_id ++ codes " " ++ s.svid ++ codes " hint=" ++ hex s.hint ++ line_end
+
+-- grpc.health.v1: 1 is SERVING, 2 NOT_SERVING; own rule: any other is told as unknown
+unfoldable pub state_line : ℕ → List ℕ
+state_line state = if state == 1 then codes "serving\n" else if state == 2 then codes "not serving\n" else codes "service unknown\n"
+
+unfoldable pub status_line : ℕ → List ℕ → List ℕ
+status_line code text = codes "status " ++ decimal code ++ codes " " ++ text ++ line_end
+
+unfoldable pub fault_line : ClientFault → List ℕ
+fault_line fault = codes "fault client " ++ decimal (number_of fault) ++ line_end
+
+-- the lines of a message, or why it has none
+abbrev pub lines_by : {M : Type 0} → (M → List ℕ) → Result M FieldFault → Result (List ℕ) FieldFault
+lines_by lines (Ok m) = Ok (lines m)
+lines_by lines (Err fault) = Err fault
+
+abbrev pub svid_lines : X509Response → List ℕ
+svid_lines m = flat_map svid_line m.svids
+
+abbrev pub jwt_lines : JwtResponse → List ℕ
+jwt_lines m = flat_map jwt_line m.svids
+
+unfoldable pub lines_of : Kind → List ℕ → Result (List ℕ) FieldFault
+lines_of X509 message = lines_by svid_lines (x509_of message)
+lines_of Jwt message = lines_by jwt_lines (jwt_of message)
+lines_of State message = lines_by state_line (state_of message)

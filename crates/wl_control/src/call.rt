@@ -1,0 +1,95 @@
+//! The call that a request makes.
+
+ghost use Rattle.std.specs.Prelude.{◌≡◌, ◌≤◌, ◌++◌, length, IfOk, OnOk};
+ghost use Rattle.std.specs.List.{flat_map};
+ghost use Rattle.pb_wire.specs.Spelling.{field};
+ghost use Rattle.workload_proto.specs.declared.field_number.TheConstants.{JWT_REQUEST_AUDIENCE};
+ghost use Rattle.wl_control.specs.Words.{IsFit};
+ghost use Rattle.wl_control.specs.Calls.{method_of, message_of, asked_of};
+
+use crate::asked::{Asked, Kind};
+use crate::request::Request;
+use grpc_wire::Method;
+use pb_wire::put_bytes;
+use std::alloc::Global;
+use wl_client::Client;
+use wl_octets::{Memory, Octets};
+use workload_proto::field_number;
+
+/// The number of `service` in a `HealthCheckRequest` (grpc.health.v1).
+const HEALTH_REQUEST_SERVICE: u32 = 1;
+
+/// The method that is called.
+pub(crate) fn method_of(request: &Request) -> Method
+    ensures { result ≡ method_of request.now }
+{
+    match request {
+        Request::FetchX509 | Request::Watch(_) => Method::X509Svid,
+        Request::FetchJwt(_) => Method::JwtSvid,
+        Request::Health(_) => Method::HealthCheck,
+        Request::HealthWatch(_) => Method::HealthWatch,
+    }
+}
+
+/// What is asked for.
+pub(crate) fn asked_of(request: &Request) -> Asked
+    ensures { result ≡ asked_of request.now }
+{
+    match request {
+        Request::FetchX509 => Asked {
+            kind: Kind::X509,
+            left: 1,
+            awaits: false,
+        },
+        Request::FetchJwt(_) => Asked {
+            kind: Kind::Jwt,
+            left: 1,
+            awaits: true,
+        },
+        Request::Watch(count) => Asked {
+            kind: Kind::X509,
+            left: *count,
+            awaits: false,
+        },
+        Request::Health(_) => Asked {
+            kind: Kind::State,
+            left: 1,
+            awaits: true,
+        },
+        Request::HealthWatch(count) => Asked {
+            kind: Kind::State,
+            left: *count,
+            awaits: false,
+        },
+    }
+}
+
+/// A `JWTSVIDRequest` for these audiences, which names no id.
+fn put_audiences(out: &mut Vec<u8>, audiences: &[Octets]) -> Result<(), Memory>
+    ensures { OnOk result (out.new.items ≡ out.old.items ++ flat_map (field JWT_REQUEST_AUDIENCE) audiences.now) }
+{
+    for audience in audiences {
+        put_bytes(out, field_number::JWT_REQUEST_AUDIENCE, audience.as_slice())?;
+    }
+    Ok(())
+}
+
+/// The message with which the method is called.
+#[tactic(auto, using(crate::proofs::Messages::message_short), unfolding(crate::specs::Calls::message_of))]
+pub(crate) fn message_of(alloc: Global, request: &Request) -> Result<Vec<u8>, Memory>
+    requires { IsFit request.now }
+    ensures value { IfOk result (λ message. message.items ≡ message_of request.now) }
+    ensures short { IfOk result (λ message. length message.items ≤ 16000) }
+{
+    let mut message = Vec::new(alloc);
+    match request {
+        Request::FetchJwt(audiences) => put_audiences(&mut message, audiences.as_slice())?,
+        Request::Health(service) => {
+            if service.len() > 0 {
+                put_bytes(&mut message, HEALTH_REQUEST_SERVICE, service.as_slice())?;
+            }
+        }
+        Request::FetchX509 | Request::Watch(_) | Request::HealthWatch(_) => {}
+    }
+    Ok(message)
+}

@@ -1,0 +1,17 @@
+//! The client program's one call: words, a link and a sink in, a status out.
+//!
+//! [`control`] reads the words, opens the call over the link, hears what the server sends, and writes a line for each
+//! SVID, token or state. It ends with the status that its table gives.
+#![tactic(auto)]
+
+mod asked;
+mod call;
+mod limits;
+mod lines;
+mod program;
+mod request;
+mod sending;
+pub mod status;
+mod words;
+
+pub use program::control;

@@ -1,0 +1,183 @@
+//! The lines that are written.
+
+ghost use Rattle.std.specs.Prelude.{◌≡◌, ◌++◌, ◌<◌, codes, Ok, Err, IfOk, OnOk, MatchResult};
+ghost use Rattle.std.specs.Fmt.{decimal};
+ghost use Rattle.std.specs.List.{flat_map};
+ghost use Rattle.wl_client.specs.Messages.{x509_of, jwt_of, state_of};
+ghost use Rattle.wl_control.specs.Lines.{hex_digit, hex, line_end, svid_line, svid_lines, jwt_line, jwt_lines, state_line, status_line, fault_line, lines_of, lines_by};
+ghost use Rattle.wl_control.specs.Takings.{Writes};
+
+use crate::asked::Kind;
+use std::alloc::Global;
+use std::string::ToString;
+use wl_client::{ClientFault, decode_jwt, decode_state, decode_x509};
+use wl_octets::{Memory, Octets};
+use workload_proto::{JwtItem, ProtoFault, X509Item};
+
+/// A digit of lower-case hexadecimal.
+fn digit(value: u8) -> u8
+    requires { value < 16 }
+    ensures { result ≡ hex_digit value }
+{
+    if value < 10 { 48 + value } else { 87 + value }
+}
+
+/// The two digits of each byte.
+#[tactic(auto, unfolding(crate::specs::Lines::hex))]
+fn put_hex(out: &mut Vec<u8>, bytes: &[u8]) -> Result<(), Memory>
+    ensures { OnOk result (out.new.items ≡ out.old.items ++ hex bytes.now) }
+{
+    for byte in bytes {
+        out.push(digit(*byte / 16))?;
+        out.push(digit(*byte % 16))?;
+    }
+    Ok(())
+}
+
+/// A number in decimal.
+fn put_decimal(out: &mut Vec<u8>, number: u32) -> Result<(), Memory>
+    ensures { OnOk result (out.new.items ≡ out.old.items ++ decimal number) }
+{
+    let text = number.to_string(*out.allocator())?;
+    out.extend_from_slice(text.as_bytes())?;
+    Ok(())
+}
+
+/// A name and the hexadecimal of these bytes.
+fn put_part(out: &mut Vec<u8>, name: &[u8], bytes: &[u8]) -> Result<(), Memory>
+    ensures { OnOk result (out.new.items ≡ out.old.items ++ name.now ++ hex bytes.now) }
+{
+    out.extend_from_slice(name)?;
+    put_hex(out, bytes)?;
+    Ok(())
+}
+
+#[tactic(auto, unfolding(crate::specs::Lines::svid_line))]
+fn put_svid(out: &mut Vec<u8>, svid: &X509Item) -> Result<(), Memory>
+    ensures { OnOk result (out.new.items ≡ out.old.items ++ svid_line svid.now) }
+{
+    out.extend_from_slice(b"svid ")?;
+    out.extend_from_slice(svid.spiffe_id.as_slice())?;
+    put_part(out, b" chain=", svid.chain.as_slice())?;
+    put_part(out, b" key=", svid.key.as_slice())?;
+    put_part(out, b" bundle=", svid.bundle.as_slice())?;
+    put_part(out, b" hint=", svid.hint.as_slice())?;
+    out.push(b'\n')?;
+    Ok(())
+}
+
+fn put_svids(out: &mut Vec<u8>, svids: &[X509Item]) -> Result<(), Memory>
+    ensures { OnOk result (out.new.items ≡ out.old.items ++ flat_map svid_line svids.now) }
+{
+    for svid in svids {
+        put_svid(out, svid)?;
+    }
+    Ok(())
+}
+
+#[tactic(auto, unfolding(crate::specs::Lines::jwt_line))]
+fn put_jwt(out: &mut Vec<u8>, svid: &JwtItem) -> Result<(), Memory>
+    ensures { OnOk result (out.new.items ≡ out.old.items ++ jwt_line svid.now) }
+{
+    out.extend_from_slice(b"jwt ")?;
+    out.extend_from_slice(svid.spiffe_id.as_slice())?;
+    out.extend_from_slice(b" ")?;
+    out.extend_from_slice(svid.svid.as_slice())?;
+    put_part(out, b" hint=", svid.hint.as_slice())?;
+    out.push(b'\n')?;
+    Ok(())
+}
+
+fn put_jwts(out: &mut Vec<u8>, svids: &[JwtItem]) -> Result<(), Memory>
+    ensures { OnOk result (out.new.items ≡ out.old.items ++ flat_map jwt_line svids.now) }
+{
+    for svid in svids {
+        put_jwt(out, svid)?;
+    }
+    Ok(())
+}
+
+#[tactic(auto, unfolding(crate::specs::Lines::state_line))]
+fn put_state(out: &mut Vec<u8>, state: u64) -> Result<(), Memory>
+    ensures { OnOk result (out.new.items ≡ out.old.items ++ state_line state) }
+{
+    let line: &[u8] = match state {
+        1 => b"serving\n",
+        2 => b"not serving\n",
+        _ => b"service unknown\n",
+    };
+    out.extend_from_slice(line)?;
+    Ok(())
+}
+
+/// The line of a status.
+#[tactic(auto, unfolding(crate::specs::Lines::status_line))]
+pub(crate) fn put_status(out: &mut Vec<u8>, code: u32, text: &[u8]) -> Result<(), Memory>
+    ensures { OnOk result (out.new.items ≡ out.old.items ++ status_line code text.now) }
+{
+    out.extend_from_slice(b"status ")?;
+    put_decimal(out, code)?;
+    out.extend_from_slice(b" ")?;
+    out.extend_from_slice(text)?;
+    out.push(b'\n')?;
+    Ok(())
+}
+
+fn put_fault_number(out: &mut Vec<u8>, number: u8) -> Result<(), Memory>
+    ensures { OnOk result (out.new.items ≡ out.old.items ++ codes "fault client " ++ decimal number ++ line_end) }
+{
+    out.extend_from_slice(b"fault client ")?;
+    put_decimal(out, u32::from(number))?;
+    out.push(b'\n')?;
+    Ok(())
+}
+
+/// The line of a fault.
+#[tactic(auto, unfolding(crate::specs::Lines::fault_line))]
+pub(crate) fn put_fault(out: &mut Vec<u8>, fault: ClientFault) -> Result<(), Memory>
+    ensures { OnOk result (out.new.items ≡ out.old.items ++ fault_line fault) }
+{
+    let number = fault.number();
+    put_fault_number(out, number)
+}
+
+fn put_x509(alloc: Global, out: &mut Vec<u8>, message: &[u8]) -> Result<(), ProtoFault>
+    ensures { Writes (lines_by svid_lines (x509_of message.now)) result out.old.items out.new.items }
+{
+    let message = decode_x509(alloc, message)?;
+    put_svids(out, message.svids.as_slice())?;
+    Ok(())
+}
+
+fn put_jwt_message(alloc: Global, out: &mut Vec<u8>, message: &[u8]) -> Result<(), ProtoFault>
+    ensures { Writes (lines_by jwt_lines (jwt_of message.now)) result out.old.items out.new.items }
+{
+    let message = decode_jwt(alloc, message)?;
+    put_jwts(out, message.svids.as_slice())?;
+    Ok(())
+}
+
+fn put_health(out: &mut Vec<u8>, message: &[u8]) -> Result<(), ProtoFault>
+    ensures { Writes (lines_by state_line (state_of message.now)) result out.old.items out.new.items }
+{
+    let state = decode_state(message)?;
+    put_state(out, state)?;
+    Ok(())
+}
+
+/// The lines of a message of this kind, or the first fault in it.
+#[tactic(auto, unfolding(crate::specs::Lines::lines_of))]
+pub(crate) fn put_lines(
+    alloc: Global,
+    out: &mut Vec<u8>,
+    kind: Kind,
+    message: &[u8],
+) -> Result<(), ProtoFault>
+    ensures { Writes (lines_of kind message.now) result out.old.items out.new.items }
+{
+    match kind {
+        Kind::X509 => put_x509(alloc, out, message),
+        Kind::Jwt => put_jwt_message(alloc, out, message),
+        Kind::State => put_health(out, message),
+    }
+}
