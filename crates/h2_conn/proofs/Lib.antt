@@ -6,3 +6,5 @@ pub mod Fitting
 pub mod Sums
 pub mod Carries
 pub mod WindowSums
+pub mod Tellings
+pub mod Holding

@@ -135,7 +135,7 @@ sound_answers : (ns : List ℕ) (q : State) → Sound q → Sound (answers_end n
 sound_answers [] q s = s
 sound_answers (n ∷ ns) q s = sound_answers ns (answer_ends n q) (sound_answer n q s)
 
-sound_pull : (q : State) → Sound q → Sound (after_pull q (pull_of q.outbox))
+pub sound_pull : (q : State) → Sound q → Sound (after_pull q (pull_of q.outbox))
 unfolding after_pull
 sound_pull q s = sound_answers (pull_of q.outbox).ended (record q { outbox = (pull_of q.outbox).left; rapid_reset_count = cond (ends_reset_count q (pull_of q.outbox)) 0 q.rapid_reset_count }) (s_outbox q (pull_of q.outbox).left (numbers_pulled q.outbox) s)
 

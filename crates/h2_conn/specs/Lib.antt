@@ -7,3 +7,5 @@ pub mod Sound
 pub mod Naming
 pub mod Counts
 pub mod Windows
+pub mod Telling
+pub mod Holding

@@ -1,14 +1,20 @@
 //! What holds of the definitions alone.
 
-ghost use Rattle.std.specs.Prelude.{◌≡◌, ℕ, true, false, List, []};
+ghost use Rattle.std.specs.Prelude.{◌≡◌, ℕ, true, false, List, [], Option};
 ghost use Rattle.std.specs.List.{AllByRecursion};
 ghost use Rattle.h2_frame.specs.Reading.{End, reading_from};
 ghost use Rattle.h2_conn.specs.declared.fault.ConnFault.{ConnFault};
 ghost use Rattle.h2_conn.specs.declared.phase.Phase.{Phase};
 ghost use Rattle.h2_conn.specs.declared.phase.Totals.{Totals};
-ghost use Rattle.h2_conn.specs.declared.phase.Phase.TheVariants.{Failed};
+ghost use Rattle.h2_conn.specs.declared.phase.Phase.TheVariants.{Open, Failed};
 ghost use Rattle.h2_conn.specs.declared.state.State.{State};
+ghost use Rattle.h2_frame.specs.declared.frame.Frame.{Frame};
+ghost use Rattle.h2_conn.specs.declared.happening.Happening.{Happening};
 ghost use Rattle.h2_conn.specs.Kinds.{Fits};
+ghost use Rattle.h2_conn.specs.Peer.{goes, peer};
+ghost use Rattle.h2_conn.specs.Telling.{TellsStreams};
+ghost use Rattle.h2_conn.specs.Holding.{ClaimOn, IsHeld, OpensNot};
+ghost use Rattle.h2_conn.specs.Sound.{Sound, SoundPhase};
 ghost use Rattle.h2_conn.specs.Counts.{Step, Reaches, HasCounts};
 ghost use Rattle.h2_conn.specs.Windows.{HasLowStream, HasWindows};
 ghost use Rattle.h2_conn.specs.Conns.{is_live_on, on_open, with_head_on, with_trailers_on, with_message_on, without_waiting_on, after_reset, flush_of};
@@ -67,4 +73,27 @@ pub fn floods_are_counted()
 pub fn windows_are_sums()
     ensures { (steps : List Step) (state : State) → AllByRecursion HasLowStream steps → Reaches steps state
         → HasWindows steps state }
+{}
+
+/// What a frame told says what came of the live streams: a head opens its stream, a request that
+/// ends may close its stream, what is gone is live no more, and else no stream comes or goes.
+#[tactic(auto, using(crate::proofs::Tellings::frame_tells))]
+pub fn frames_tell_streams()
+    ensures { (old new : State) (told : Option Happening) (frame : Frame) → peer old frame ≡ goes new told
+        → TellsStreams old told new }
+{}
+
+/// A live stream holds the message that was offered to it last: it waits, or began last and none
+/// waits. Frames and flushes leave it so.
+#[tactic(auto, using(crate::proofs::Holding::offered_here, crate::proofs::Holding::flushed_held))]
+pub fn streams_hold_messages()
+    ensures offered { (stream : ℕ) (message : List ℕ) (phase : Phase) → SoundPhase phase
+        → ClaimOn stream (IsHeld message) (on_open (with_message_on stream message) phase) }
+    ensures frame { (stream : ℕ) (message : List ℕ) (frame : Frame) (told : Option Happening)
+        (old new : State) → Sound old → peer old frame ≡ goes new told → OpensNot stream told
+        → ClaimOn stream (IsHeld message) (Open old)
+        → ClaimOn stream (IsHeld message) (Open new) }
+    ensures flush { (stream : ℕ) (message : List ℕ) (phase : Phase)
+        → ClaimOn stream (IsHeld message) phase
+        → ClaimOn stream (IsHeld message) (flush_of phase).after }
 {}

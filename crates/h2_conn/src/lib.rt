@@ -40,5 +40,5 @@ pub use fault::{ConnCause, ConnError, ConnFault};
 pub use happening::Happening;
 pub use laws::{
     dead_streams_take_nothing, faults_end_all, floods_are_counted, flushes_once, frames_fit,
-    windows_are_sums,
+    frames_tell_streams, streams_hold_messages, windows_are_sums,
 };

@@ -1,5 +1,6 @@
 -- What was written on a stream is a prefix of the messages that began there, and each of them was offered.
 use Rattle.std.proofs.Common.{◌≡◌, inl, inr, ℕ, ◌+◌, ◌-◌, ◌<◌, ◌≤◌, ◌==◌, nat_lt, Bool, true, false, not, cond, pos, ◌+ℤ◌, bytes_eq, List, [], ◌∷◌, ◌++◌, length, drop, filter, map, Option, Some, None, option_map, Result, Ok, Err, refl, sym, ap, ◌∙◌, arith, eq-eqb, eqb-true, ne_eqb, append-nil, append_assoc, length-append, int_lt}
+use Rattle.std.specs.Cmp.Lexicographic.{bytes_decides}
 use Rattle.std.specs.List.{AllByRecursion}
 use Rattle.std.proofs.lemmas.Bool.{cases_Bool, le-ltb, lt-ltb}
 use Rattle.std.proofs.Math.Seq.{drop-append_seam}
@@ -9,9 +10,12 @@ use Rattle.h2_flow.specs.declared.stream.Stream.{Stream}
 use Rattle.h2_flow.specs.Streams.{Sent}
 use Rattle.h2_flow.specs.Outboxes.{Out, new_outbox, is_number, IsAbove, new_stream, RisesFrom, numbers, update_stream, with_stream, without_stream, with_control, with_size_update, with_head, with_offer, with_message, without_waiting, with_trailers, credit_of, with_connection_step, with_stream_step, with_step, first_over, with_initial, set_initial_window, pull_of}
 use Rattle.h2_flow.specs.Histories.{Step, Add, Remove, Initial, Grow, Control, Shrink, Give, Offer, Withdraw, Finish, Pull, Leads, Reaches}
-use Rattle.h2_flow.specs.Progress.{all_data_on, Progress, no_progress, last_of, all_messages, begin_with, IsMore, after_writing, after_offer, after_step, progress_on, IsOffer, WasOffered, find_stream, left_of, Matches, WritesWhatBegan, Finishes}
+use Rattle.h2_flow.specs.Progress.{all_data_on, Progress, no_progress, last_of, all_messages, begin_with, IsMore, after_writing, after_offer, after_step, progress_on, AllDiffer, IsOffer, WasOffered, find_stream, left_of, Matches, WritesWhatBegan, Finishes}
 use Rattle.h2_flow.proofs.Messages.{Stays, Begins, GoesOn, goes_pull}
 use Rattle.h2_flow.proofs.Sums.{reached_rises}
+
+differ : {P : Type 0} {b : Bool} → b ≡ true → b ≡ false → P
+differ on off = absurd (cc (on, off))
 
 -- ---- a pull
 
@@ -298,9 +302,6 @@ reached_prefix n steps o e = ((progress_on n steps).left, sym (keeps_reached n s
 
 -- ---- a message begins after the whole of the one before
 
-differ : {P : Type 0} {b : Bool} → b ≡ true → b ≡ false → P
-differ on off = absurd (cc (on, off))
-
 finish_on : (d : List ℕ) (p : Progress) (a b : Option Stream) → GoesOn d a b → Keeps p a → IsMore d p → Finishes d p
 finish_on d p None None h k is = differ is (rw h (not_more p.left [] p.left refl))
 finish_on d p None (Some t) h k is = absurd h
@@ -313,3 +314,57 @@ pull_finishes n sent before o e is =
     let old = e.0 in
     let goes : GoesOn (all_data_on n sent) (find_stream n old.streams) (find_stream n (pull_of old).left.streams) = rw e.2.0 (goes_pull n old (reached_rises before old e.1)) in
     finish_on (all_data_on n sent) (progress_on n before) (find_stream n old.streams) (find_stream n (pull_of old).left.streams) goes (keeps_reached n before old e.1) is
+
+-- ---- no message follows its like
+
+abbrev IfDiffers : List (List ℕ) → Option (List ℕ) → Type 0
+IfDiffers begun None = Unit {0}
+IfDiffers begun (Some m) = m ≡ last_of begun → ⊥
+
+-- so it is with the message that waits, if it begins
+record News (p : Progress) : Type 0 where
+  begun : AllDiffer p.begun
+  waiting : IfDiffers p.begun p.waiting
+
+news_writing : (bytes : List ℕ) (p : Progress) (w : Option (List ℕ)) → p.waiting ≡ w → News p → News (begin_with bytes p w)
+news_writing bytes p None e h = record { begun = h.begun; waiting = h.waiting }
+news_writing bytes p (Some m) e h =
+    let new : IfDiffers p.begun (Some m) = rw e at h.waiting in
+    record { begun = (new, h.begun); waiting = tt }
+
+news_pull : (bytes : List ℕ) (p : Progress) → News p → News (after_writing bytes p)
+unfolding after_writing
+news_pull bytes p h =
+    elim (cases_Bool (nat_lt (length p.left) (length bytes))) [
+      | inl begins ↦ rw begins (news_writing bytes p p.waiting refl h)
+      | inr stays ↦ rw stays (record { begun = h.begun; waiting = h.waiting })
+    ]
+
+news_cond : (b : Bool) (p q : Progress) → News q → News p → News (cond b q p)
+news_cond true p q h k = h
+news_cond false p q h k = k
+
+-- an offer equal to the one that began last waits not
+news_offer : (m : List ℕ) (p : Progress) (b : Bool) → bytes_eq m (last_of p.begun) ≡ b → IfDiffers p.begun (cond b None (Some m))
+news_offer m p true same = tt
+news_offer m p false other = λ e. differ ((bytes_decides m (last_of p.begun)).1 e) other
+
+news_next : (n : ℕ) (step : Step) (p : Progress) → News p → News (after_step n step p)
+news_next n (Add k) p h = news_cond (k == n) p no_progress (record { begun = tt; waiting = tt }) h
+news_next n (Remove k) p h = news_cond (k == n) p (record p { waiting = None }) (record { begun = h.begun; waiting = tt }) h
+news_next n (Initial value) p h = h
+news_next n (Grow k step) p h = h
+news_next n (Control frame) p h = h
+news_next n Shrink p h = h
+news_next n (Give k block) p h = h
+news_next n (Offer k m) p h = news_cond (k == n) p (after_offer m p) (record { begun = h.begun; waiting = news_offer m p (bytes_eq m (last_of p.begun)) refl }) h
+news_next n (Withdraw k) p h = news_cond (k == n) p (record p { waiting = None }) (record { begun = h.begun; waiting = tt }) h
+news_next n (Finish k block) p h = h
+news_next n (Pull sent) p h = news_pull (all_data_on n sent) p h
+
+news : (n : ℕ) (steps : List Step) → News (progress_on n steps)
+news n [] = record { begun = tt; waiting = tt }
+news n (step ∷ before) = news_next n step (progress_on n before) (news n before)
+
+pub messages_differ : (n : ℕ) (steps : List Step) → AllDiffer (progress_on n steps).begun
+messages_differ n steps = (news n steps).begun

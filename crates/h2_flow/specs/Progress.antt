@@ -78,6 +78,11 @@ abbrev pub progress_on : ℕ → List Step → Progress
 progress_on n [] = no_progress
 progress_on n (step ∷ before) = after_step n step (progress_on n before)
 
+-- no two messages that follow each other are equal, nor is the first one empty
+abbrev pub AllDiffer : List (List ℕ) → Type 0
+AllDiffer [] = Unit {0}
+AllDiffer (m ∷ ms) = (m ≡ last_of ms → ⊥) × AllDiffer ms
+
 -- ---- what was offered
 
 -- the message was offered to this stream

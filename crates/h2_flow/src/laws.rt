@@ -7,7 +7,7 @@ ghost use Rattle.h2_flow.specs.Windows.{room_of, window_of};
 ghost use Rattle.h2_flow.specs.Streams.{Sent};
 ghost use Rattle.h2_flow.specs.Outboxes.{Out, RisesFrom, numbers, without_stream, with_message, pull_of, IsQuiet};
 ghost use Rattle.h2_flow.specs.Histories.{Step, Pull, Reaches, HasSums, data_of, data_on};
-ghost use Rattle.h2_flow.specs.Progress.{all_data_on, count_all_begun, all_messages, IsMore, Finishes, progress_on, WritesWhatBegan};
+ghost use Rattle.h2_flow.specs.Progress.{AllDiffer, all_data_on, count_all_begun, all_messages, IsMore, Finishes, progress_on, WritesWhatBegan};
 
 /// A pull after a pull writes nothing, and changes nothing, also where streams were removed
 /// in between.
@@ -58,6 +58,12 @@ pub fn writes_what_began()
     ensures count { (outbox : Out)
         → (pull_of outbox).left.flow.begun
         ≡ outbox.flow.begun + count_all_begun outbox.streams (pull_of outbox).left.streams }
+{}
+
+/// No two messages that follow each other on a stream are equal.
+#[tactic(auto, using(crate::proofs::Progress::messages_differ))]
+pub fn messages_differ()
+    ensures { (stream : ℕ) (steps : List Step) → AllDiffer (progress_on stream steps).begun }
 {}
 
 /// A pull writes on a stream no more bytes of DATA than its window was, and none where that was

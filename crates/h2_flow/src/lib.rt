@@ -17,8 +17,8 @@ mod streams;
 mod tests;
 
 pub use laws::{
-    offers_once, pulls_keep_streams, pulls_once, pulls_stay_within_windows, windows_are_sums,
-    writes_what_began,
+    messages_differ, offers_once, pulls_keep_streams, pulls_once, pulls_stay_within_windows,
+    windows_are_sums, writes_what_began,
 };
 pub use outbox::Outbox;
 pub use overflow::Overflow;

@@ -9,3 +9,6 @@ mod Framing
 mod Feeding
 pub mod Following
 mod Refusals
+mod Streams
+mod Completing
+mod Answered

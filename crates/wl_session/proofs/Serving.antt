@@ -12,10 +12,10 @@ use Rattle.wl_session.specs.Talks.{with_served}
 abbrev pub is_above : ServedCall → ServedCall → Bool
 is_above c d = nat_lt c.stream d.stream
 
-place_here : {X : Type 0} (test : X → Bool) (x : X) (xs : List X) → test x ≡ true → position_or_len test (x ∷ xs) ≡ 0
+pub place_here : {X : Type 0} (test : X → Bool) (x : X) (xs : List X) → test x ≡ true → position_or_len test (x ∷ xs) ≡ 0
 place_here test x xs is = rw is refl
 
-place_later : {X : Type 0} (test : X → Bool) (x : X) (xs : List X) → test x ≡ false → position_or_len test (x ∷ xs) ≡ suc (position_or_len test xs)
+pub place_later : {X : Type 0} (test : X → Bool) (x : X) (xs : List X) → test x ≡ false → position_or_len test (x ∷ xs) ≡ suc (position_or_len test xs)
 place_later test x xs is = let e : 1 + position_or_len test xs ≡ suc (position_or_len test xs) = omega arith in rw is e
 
 here_go : (c d : ServedCall) (ds : List ServedCall) → nat_lt c.stream d.stream ≡ true → with_served c (d ∷ ds) ≡ c ∷ d ∷ ds

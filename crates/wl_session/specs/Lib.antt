@@ -7,3 +7,4 @@ pub mod Sessions
 pub mod Agreeing
 pub mod Settled
 pub mod Refusing
+pub mod Completing

@@ -4,13 +4,14 @@ ghost use Rattle.std.specs.Prelude.{◌≡◌, ◌++◌, ℕ, List};
 ghost use Rattle.h2_frame.specs.Reading.{End, reading_from};
 ghost use Rattle.wl_snapshot.specs.Snapshots.{Publication};
 ghost use Rattle.wl_session.specs.Talks.{Talking, then_, silent};
-ghost use Rattle.wl_session.specs.Sessions.{feed_said, turn_said};
+ghost use Rattle.wl_session.specs.Sessions.{fresh_session, feed_said, turn_said};
 ghost use Rattle.wl_session.specs.Agreeing.{SeeAlike, HaveSeen, IsQuiet};
 ghost use Rattle.wl_session.specs.Refusing.{RefusedCallEnds, NoIdentityExactly, UnknownServiceExactly, MessageIsOfView, HealthIsOfView};
+ghost use Rattle.wl_session.specs.Completing.{IsCompleteIn, FeedKeepsComplete, NameKeepsComplete, TokenKeepsComplete, TurnAnswersAll};
 ghost use Rattle.wl_session.specs.Settled.{FirstMayTurn, FeedKeepsTurn, NameKeepsTurn, TokenKeepsTurn, TurnMayFollow};
 
-/// A talk is the same however its bytes are cut: from any state, two pieces are what their join is, in what is left, what is
-/// written, and the first fault.
+/// A talk is the same however its bytes are cut: from any state, two pieces are what their join is, in what
+/// is left, what is written, and the first fault.
 #[tactic(auto, using(crate::proofs::Agreements::cut_anywhere))]
 pub fn cut_anywhere()
     ensures { (ending : End) (bytes more : List ℕ) (talk : Talking)
@@ -19,8 +20,8 @@ pub fn cut_anywhere()
         (feed_said (reading_from (reading_from ending bytes).ending more)) }
 {}
 
-/// Two publications that show each ready call the same view are answered alike; a turn on views that were all seen writes
-/// nothing and changes nothing; a turn twice is a turn once.
+/// Two publications that show each ready call the same view are answered alike; a turn on views that were all
+/// seen writes nothing and changes nothing; a turn twice is a turn once.
 #[tactic(auto, using(crate::proofs::Agreements::alike, crate::proofs::Agreements::again, crate::proofs::Agreements::twice))]
 pub fn turns_agree()
     ensures alike { (one other : Publication) (talk : Talking) → SeeAlike one other talk.served
@@ -32,10 +33,10 @@ pub fn turns_agree()
         ≡ silent (turn_said publication talk).after }
 {}
 
-/// A ready call that is refused on a view ends so: with status 7 exactly where it is no health call and its caller sees no
-/// entry, or none that it asks a token for; with status 5 exactly where it is a Check of a service that is not known. Else
-/// a streaming call is offered its method's message on that view, in its encoding, and a health call the state of its
-/// service there.
+/// A ready call that is refused on a view ends so: with status 7 exactly where it is no health call and its
+/// caller sees no entry, or none that it asks a token for; with status 5 exactly where it is a Check of a
+/// service that is not known. Else a streaming call is offered its method's message on that view, in its
+/// encoding, and a health call the state of its service there.
 pub fn answers_are_of_views()
     ensures refused { RefusedCallEnds }
     ensures no_identity { NoIdentityExactly }
@@ -44,12 +45,23 @@ pub fn answers_are_of_views()
     ensures health { HealthIsOfView }
 {}
 
-/// On which publications a turn may be taken: on a session of which nothing came, on any; after a turn, on the same one and
-/// on each with a higher number. Bytes, names and tokens leave that as it was.
+/// On which publications a turn may be taken: on a session of which nothing came, on any; after a turn, on
+/// the same one and on each with a higher number. Bytes, names and tokens leave that as it was.
 pub fn turns_may_follow()
     ensures first { FirstMayTurn }
     ensures fed { FeedKeepsTurn }
     ensures named { NameKeepsTurn }
     ensures given { TokenKeepsTurn }
     ensures turned { TurnMayFollow }
+{}
+
+/// After a turn each ready streaming call, Watch included, has its answer on its view of that publication on
+/// its stream, as long as that is live: the message waits there, or began last and none waits; or none waits,
+/// where the answer is to wait. So it is on each session that the calls of this type lead to.
+pub fn turns_answer_all()
+    ensures first { IsCompleteIn fresh_session }
+    ensures fed { FeedKeepsComplete }
+    ensures named { NameKeepsComplete }
+    ensures given { TokenKeepsComplete }
+    ensures turned { TurnAnswersAll }
 {}

@@ -19,5 +19,7 @@ mod tests;
 mod turn;
 
 pub use asks::{JwtAsk, JwtOutcome, SessionFault};
-pub use laws::{answers_are_of_views, cut_anywhere, turns_agree, turns_may_follow};
+pub use laws::{
+    answers_are_of_views, cut_anywhere, turns_agree, turns_answer_all, turns_may_follow,
+};
 pub use session::Session;

@@ -1,0 +1,5 @@
+use Rattle.h2_conn.proofs.Holding.{framed_held}
+use Rattle.h2_conn.proofs.laws.streams_hold_messages.Goals as goal
+
+pub returns-clause-frame : goal.returns-clause-frame
+returns-clause-frame c = framed_held
