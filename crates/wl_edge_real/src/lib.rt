@@ -12,6 +12,8 @@ mod gate;
 mod link;
 mod listener;
 mod ready;
+#[cfg(test)]
+mod tests;
 mod upstream;
 
 pub use bell::RealBell;
