@@ -1,6 +1,6 @@
 //! One ask of a signer, over any sink and source.
 
-ghost use Rattle.std.specs.Prelude.{◌≡◌, ◌⊎◌, true, Bool, IfOk, MatchOption, Ok, Err};
+ghost use Rattle.std.specs.Prelude.{◌≡◌, true, IfOk, MatchOption, Ok, Err};
 ghost use Rattle.wl_signlink.specs.Requests.{are_texts, is_text_ask, x509_line, jwt_line};
 ghost use Rattle.wl_signlink.specs.Replies.{signed_of, token_of};
 ghost use Rattle.wl_signlink.specs.Exchanges.{NotAnswered, Answered};

@@ -1,19 +1,12 @@
 //! One request and the line that answers it, over any sink and source.
 
-ghost use Rattle.std.specs.Prelude.{◌≡◌, ◌≤◌, ◌<◌, ◌==◌, ◌⊎◌, true, position, length, vec_len, IfOk, IfSome, OnOk, MatchOption, Ok, Err};
+ghost use Rattle.std.specs.Prelude.{◌≡◌, ◌≤◌, ◌<◌, ◌==◌, ◌⊎◌, position, length, IfOk, IfSome, MatchOption};
 ghost use Rattle.wl_edge.specs.Edge.{Rose};
-ghost use Rattle.wl_signlink.specs.Requests.{are_texts, is_text_ask, x509_line, jwt_line};
-ghost use Rattle.wl_signlink.specs.Replies.{signed_of, token_of};
-ghost use Rattle.wl_signlink.specs.Exchanges.{PieceGives, ReadsLine, NoLine, NoReply, Exchanged, Answered};
-ghost use Rattle.wl_signlink.specs.declared.fault.LineFault.TheVariants.{Wrong};
+ghost use Rattle.wl_signlink.specs.Exchanges.{PieceGives, ReadsLine, NoLine, NoReply, Exchanged};
 
-use crate::fault::LineFault;
 use crate::limits::REPLY_LIMIT;
-use crate::replies::{read_signed, read_token};
-use crate::requests::{put_jwt, put_x509};
 use std::alloc::Global;
 use wl_edge::{Sink, Source, Taken, write_all};
-use wl_entry::{Ask, JwtToken, Signed};
 use wl_octets::{Memory, Octets};
 
 /// A line that was read.

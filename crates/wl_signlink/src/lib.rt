@@ -11,6 +11,8 @@ mod limits;
 mod link;
 mod replies;
 mod requests;
+#[cfg(test)]
+mod tests;
 mod texts;
 
 pub use asks::{Answer, ask_jwt, ask_x509};

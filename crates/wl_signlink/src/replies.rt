@@ -1,6 +1,5 @@
 //! The lines that answer.
 
-ghost use Rattle.std.specs.Prelude.{◌≡◌, ℕ};
 ghost use Rattle.serde_json.specs.View.{view};
 ghost use Rattle.wl_document.specs.Documents.{value_of};
 ghost use Rattle.wl_signlink.specs.Replies.{Gives, or_wrong, member_of, text_of, bytes_of, number_of, value_in, signed_in, token_in, signed_of, token_of};
