@@ -1,0 +1,13 @@
+pub mod Attesting
+pub mod Counting
+pub mod Reading
+pub mod Keeping
+pub mod Telling
+pub mod Rooms
+pub mod Readiness
+pub mod Holding
+pub mod Standing
+pub mod Blinding
+pub mod Following
+pub mod Transcribing
+pub mod Tracing

@@ -1,0 +1,5 @@
+use Rattle.wl_core.proofs.Tracing.{bytes_of_trace}
+use Rattle.wl_core.proofs.laws.bytes_of_trace.Goals as goal
+
+pub returns : goal.returns
+returns c = bytes_of_trace

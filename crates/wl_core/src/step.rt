@@ -1,0 +1,100 @@
+//! One event.
+
+ghost use Rattle.std.specs.Prelude.{◌≡◌, ◌<◌, IfOk, OnOk, length};
+ghost use Rattle.wl_core.specs.Events.{IsWithin};
+ghost use Rattle.wl_core.specs.Moments.{Moment, with_told};
+ghost use Rattle.wl_core.specs.Seats.{seat_at, turn_seat, IsReady};
+ghost use Rattle.wl_core.specs.Lines.{told_lines};
+ghost use Rattle.wl_core.specs.Worlds.{Holds, Steps, WorksOn};
+
+use crate::events::Event;
+use crate::lines::Line;
+use crate::seats::Seats;
+use crate::{documents, tokens};
+use std::alloc::Global;
+use wl_entry::Free;
+use wl_manager::Manager;
+use wl_octets::{Memory, Row};
+
+/// A turn on the last publication.
+fn turn(
+    alloc: Global,
+    manager: &Manager<Free>,
+    seats: &mut Seats,
+    conn: u32,
+) -> Result<Row<Line>, Memory>
+    requires room { conn < length seats.old.seats.items }
+    requires ready { IsReady manager.now.stored.published (seat_at seats.old.seats.items conn) }
+    ensures seats { OnOk result (seats.new.seats.items ≡ with_told conn (turn_seat manager.now.stored.published) seats.old.seats.items) }
+    ensures lines { IfOk result (λ l. l ≡ told_lines conn (turn_seat manager.now.stored.published) (seat_at seats.old.seats.items conn)) }
+    ensures begun { seats.new.begun_before ≡ seats.old.begun_before }
+{
+    let lines = seats.turn(
+        alloc,
+        conn,
+        manager.snapshot().part(),
+        manager.index().part(),
+    )?;
+    Ok(lines)
+}
+
+/// Takes an event, and tells what is to be said of it.
+#[tactic(auto, using(crate::proofs::Holding::sync_steps, crate::proofs::Holding::claim_steps, crate::proofs::Holding::signed_steps, crate::proofs::Holding::failed_steps, crate::proofs::Holding::join_steps, crate::proofs::Holding::name_steps, crate::proofs::Holding::feed_steps, crate::proofs::Holding::turn_steps, crate::proofs::Holding::token_steps, crate::proofs::Holding::close_steps))]
+pub fn step(
+    alloc: Global,
+    manager: &mut Manager<Free>,
+    seats: &mut Seats,
+    event: Event,
+) -> Result<Row<Line>, Memory>
+    requires within { IsWithin event }
+    requires works { WorksOn manager.old seats.old.seats.items }
+    ensures { (m : Moment) → Holds manager.old seats.old.seats.items seats.old.begun_before m
+        → IfOk result (λ l. Steps event manager.new seats.new.seats.items seats.new.begun_before l m) }
+{
+    match event {
+        Event::Sync { document } => {
+            let lines = documents::sync(alloc, manager, document.as_slice())?;
+            Ok(lines)
+        }
+        Event::Claim { now } => {
+            let lines = documents::claim(alloc, manager, now)?;
+            Ok(lines)
+        }
+        Event::Signed {
+            ticket,
+            signed,
+            now,
+        } => {
+            let lines = documents::signed(alloc, manager, ticket, signed, now)?;
+            Ok(lines)
+        }
+        Event::Failed { ticket } => {
+            let lines = documents::failed(alloc, manager, ticket)?;
+            Ok(lines)
+        }
+        Event::Join { conn, selectors } => {
+            let lines = seats.join(alloc, conn, selectors)?;
+            Ok(lines)
+        }
+        Event::Name { conn, selectors } => {
+            let lines = seats.name(alloc, conn, selectors)?;
+            Ok(lines)
+        }
+        Event::Feed { conn, piece } => {
+            let lines = seats.feed(alloc, conn, piece.as_slice())?;
+            Ok(lines)
+        }
+        Event::Turn { conn } => {
+            let lines = turn(alloc, manager, seats, conn)?;
+            Ok(lines)
+        }
+        Event::Token { conn, now, signed } => {
+            let lines = tokens::token(alloc, manager, seats, conn, now, signed)?;
+            Ok(lines)
+        }
+        Event::Close { conn } => {
+            let lines = seats.close(alloc, conn)?;
+            Ok(lines)
+        }
+    }
+}

@@ -1,0 +1,141 @@
+//! What an ask for a token gets.
+
+ghost use Rattle.std.specs.Prelude.{◌≡◌, ◌<◌, List, IfOk, OnOk, length};
+ghost use Rattle.jwt_cache.specs.Rings.{StandsFor};
+ghost use Rattle.jwt_cache.specs.declared.rings.CachedToken.{CachedToken};
+ghost use Rattle.wl_store.specs.Stores.{asks_of};
+ghost use Rattle.wl_session.specs.Sessions.{asks_in};
+ghost use Rattle.wl_core.specs.Tokens.{kept_token, outcome_by, outcome_of, history_after_token};
+ghost use Rattle.wl_core.specs.Seats.{seat_at};
+ghost use Rattle.wl_core.specs.Moments.{token_seat, with_told, ask_of_seat, history_answered};
+ghost use Rattle.wl_core.specs.Lines.{ask_lines, token_lines};
+ghost use Rattle.wl_entry.specs.Fitness.{token_unfit};
+ghost use Rattle.std.specs.Prelude.{None, Some};
+
+use crate::lines::{Line, idle_lines, one_line, session_lines};
+use crate::seats::{Seat, Seats};
+use std::alloc::Global;
+use wl_entry::{Free, JwtToken};
+use wl_manager::Manager;
+use wl_octets::{Memory, Octets, Row};
+use wl_session::{JwtAsk, JwtOutcome};
+
+/// The manager of a world, in which everything is vouched for.
+type Keeper = Manager<Free>;
+
+/// A token that was given for an ask is offered to the manager, and goes to the ask where it is fit.
+#[tactic(auto, using(crate::proofs::Keeping::keeps_by))]
+fn offer(
+    alloc: Global,
+    manager: &mut Keeper,
+    ask: &JwtAsk,
+    token: JwtToken,
+    now: u64,
+) -> Result<JwtOutcome, Memory>
+    ensures value { IfOk result (λ o. o ≡ outcome_by (token_unfit now token) token) }
+    ensures stored { OnOk result (manager.new.stored ≡ manager.old.stored) }
+    ensures history { (history : List CachedToken) → StandsFor manager.old.tokens history
+        → OnOk result (StandsFor manager.new.tokens (history_after_token (asks_of manager.old.stored.store.entries) ask.now now None (Some token) history)) }
+{
+    let copy = token.copy(alloc)?;
+    manager.keep_token(alloc, &ask.ask, ask.audience.as_slice(), copy, now)?;
+    match token.unfit(now) {
+        None => Ok(JwtOutcome::Token(token)),
+        Some(unfit) => Ok(JwtOutcome::Unfit(unfit)),
+    }
+}
+
+/// The kept token of an ask, or else the one that is given.
+#[tactic(auto, using(crate::proofs::Keeping::outcome_kept, crate::proofs::Keeping::outcome_failed, crate::proofs::Keeping::outcome_given, crate::proofs::Keeping::history_found))]
+fn outcome_of(
+    alloc: Global,
+    manager: &mut Keeper,
+    ask: &JwtAsk,
+    now: u64,
+    given: Option<JwtToken>,
+) -> Result<JwtOutcome, Memory>
+    ensures value { (history : List CachedToken) → StandsFor manager.old.tokens history
+        → IfOk result (λ o. o ≡ outcome_of (kept_token history ask.now now) given now) }
+    ensures stored { OnOk result (manager.new.stored ≡ manager.old.stored) }
+    ensures history { (history : List CachedToken) → StandsFor manager.old.tokens history
+        → OnOk result (StandsFor manager.new.tokens (history_after_token (asks_of manager.old.stored.store.entries) ask.now now (kept_token history ask.now now) given history)) }
+{
+    match manager.token(alloc, &ask.ask, ask.audience.as_slice(), now)? {
+        Some(kept) => Ok(JwtOutcome::Token(kept)),
+        None => match given {
+            None => Ok(JwtOutcome::Failed),
+            Some(token) => {
+                let outcome = offer(alloc, manager, ask, token, now)?;
+                Ok(outcome)
+            }
+        },
+    }
+}
+
+/// The first waiting ask of a session gets a token, or none.
+#[tactic(auto, using(crate::proofs::Keeping::none_told, crate::proofs::Keeping::none_said, crate::proofs::Keeping::some_told, crate::proofs::Keeping::some_said, crate::proofs::Keeping::answers_found))]
+fn answer(
+    alloc: Global,
+    manager: &mut Keeper,
+    seat: &mut Seat,
+    conn: u32,
+    now: u64,
+    given: Option<JwtToken>,
+) -> Result<Row<Line>, Memory>
+    ensures after { (history : List CachedToken) → StandsFor manager.old.tokens history
+        → OnOk result (seat.new.session ≡ (token_seat history now given seat.old).after) }
+    ensures caller { seat.new.caller ≡ seat.old.caller }
+    ensures lines { (history : List CachedToken) → StandsFor manager.old.tokens history
+        → IfOk result (λ l. l ≡ ask_lines conn seat.old.session (asks_in seat.old.session) (token_seat history now given seat.old)) }
+    ensures stored { OnOk result (manager.new.stored ≡ manager.old.stored) }
+    ensures history { (history : List CachedToken) → StandsFor manager.old.tokens history
+        → OnOk result (StandsFor manager.new.tokens (history_answered (asks_in seat.old.session) manager.old.stored now given history)) }
+{
+    match seat.session.asks() {
+        None => {
+            let lines = idle_lines(alloc, conn, seat.session.failure())?;
+            Ok(lines)
+        }
+        Some(ask) => {
+            let outcome = outcome_of(alloc, manager, ask, now, given)?;
+            let mut out = Octets::empty(alloc);
+            seat.give(outcome, &mut out)?;
+            let lines = session_lines(alloc, conn, out, seat.session.failure())?;
+            Ok(lines)
+        }
+    }
+}
+
+/// The signer answers the first waiting ask of a connection with a token, or with none.
+#[tactic(auto, using(crate::proofs::Telling::told_set, crate::proofs::Telling::none_set, crate::proofs::Keeping::token_lines_of, crate::proofs::Keeping::token_history_of))]
+pub fn token(
+    alloc: Global,
+    manager: &mut Keeper,
+    seats: &mut Seats,
+    conn: u32,
+    now: u64,
+    given: Option<JwtToken>,
+) -> Result<Row<Line>, Memory>
+    requires { conn < length seats.old.seats.items }
+    ensures seats { (history : List CachedToken) → StandsFor manager.old.tokens history
+        → OnOk result (seats.new.seats.items ≡ with_told conn (token_seat history now given) seats.old.seats.items) }
+    ensures lines { (history : List CachedToken) → StandsFor manager.old.tokens history
+        → IfOk result (λ l. l ≡ token_lines conn (token_seat history now given) (seat_at seats.old.seats.items conn)) }
+    ensures begun { seats.new.begun_before ≡ seats.old.begun_before }
+    ensures stored { OnOk result (manager.new.stored ≡ manager.old.stored) }
+    ensures history { (history : List CachedToken) → StandsFor manager.old.tokens history
+        → OnOk result (StandsFor manager.new.tokens (history_answered (ask_of_seat (seat_at seats.old.seats.items conn)) manager.old.stored now given history)) }
+{
+    match seats.take(conn) {
+        None => {
+            let lines = one_line(alloc, Line::Absent(conn))?;
+            Ok(lines)
+        }
+        Some(seat) => {
+            let mut seat = seat;
+            let lines = answer(alloc, manager, &mut seat, conn, now, given)?;
+            seats.put(conn, seat);
+            Ok(lines)
+        }
+    }
+}
