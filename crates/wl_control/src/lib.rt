@@ -12,6 +12,8 @@ mod program;
 mod request;
 mod sending;
 pub mod status;
+#[cfg(test)]
+mod tests;
 mod words;
 
 pub use program::control;
