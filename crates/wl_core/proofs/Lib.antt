@@ -11,3 +11,4 @@ pub mod Blinding
 pub mod Following
 pub mod Transcribing
 pub mod Tracing
+mod Samples

@@ -1,5 +1,8 @@
 //! What can happen.
 
+ghost use Rattle.std.specs.Prelude.{◌≡◌, true};
+ghost use Rattle.wl_core.specs.Events.{IsWithin};
+
 use wl_entry::{JwtToken, Signed};
 use wl_octets::Octets;
 use wl_selector::Selectors;
@@ -57,4 +60,33 @@ pub enum Event {
     Close {
         conn: u32,
     },
+}
+
+impl Event {
+    /// Whether the connection that the event names, if it names one, is below [`CONNS`].
+    pub fn is_within(&self) -> bool
+        ensures within { result ≡ true → IsWithin self.now }
+        ensures each { IsWithin self.now → result ≡ true }
+    {
+        match self {
+            Event::Sync { document: _ } => true,
+            Event::Claim { now: _ } => true,
+            Event::Signed {
+                ticket: _,
+                signed: _,
+                now: _,
+            } => true,
+            Event::Failed { ticket: _ } => true,
+            Event::Join { conn, selectors: _ } => *conn < CONNS,
+            Event::Name { conn, selectors: _ } => *conn < CONNS,
+            Event::Feed { conn, piece: _ } => *conn < CONNS,
+            Event::Turn { conn } => *conn < CONNS,
+            Event::Token {
+                conn,
+                now: _,
+                signed: _,
+            } => *conn < CONNS,
+            Event::Close { conn } => *conn < CONNS,
+        }
+    }
 }

@@ -12,6 +12,8 @@ mod lines;
 mod naming;
 mod seats;
 mod step;
+#[cfg(test)]
+mod tests;
 mod tokens;
 mod world;
 
