@@ -1,6 +1,6 @@
 //! A client that is fed what a server sends.
 
-ghost use Rattle.std.specs.Prelude.{◌≡◌, ◌≤◌, ◌++◌, ℕ, List, [], length, Some, None, Err, IfOk, OnOk};
+ghost use Rattle.std.specs.Prelude.{◌≡◌, ◌≤◌, ◌++◌, ℕ, List, length, Some, None, Err, IfOk, OnOk};
 ghost use Rattle.list_laws.specs.Lists.{GainsFront};
 ghost use Rattle.h2_frame.specs.declared.fault.FrameFault.TheVariants as frame_faults;
 ghost use Rattle.h2_frame.specs.Reading.{reading_from};

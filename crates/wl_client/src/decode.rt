@@ -4,7 +4,7 @@ ghost use Rattle.std.specs.Prelude.{◌≡◌, ℕ, Ok, Err, IfOk, MatchResult, 
 ghost use Rattle.pb_wire.specs.Strings.{Gives};
 ghost use Rattle.workload_proto.specs.declared.message.X509Response.{X509Response};
 ghost use Rattle.workload_proto.specs.declared.message.JwtResponse.{JwtResponse};
-ghost use Rattle.wl_client.specs.Messages.{x509_of, SpellsX509, jwt_of, SpellsJwt, state_of, state_wrong, state_more, SpellsState, Takes};
+ghost use Rattle.wl_client.specs.Messages.{x509_of, SpellsX509, jwt_of, SpellsJwt, state_of, state_wrong, state_more, SpellsState};
 
 use crate::items::read_fields;
 use pb_wire::{Field, Value, read_field};

@@ -1,6 +1,6 @@
 //! What the header lists of an answer say.
 
-ghost use Rattle.std.specs.Prelude.{◌≡◌, ◌∷◌, [], ◌<◌, ◌^◌, codes, IfSome};
+ghost use Rattle.std.specs.Prelude.{◌≡◌, ◌∷◌, [], ◌<◌, ◌^◌, codes};
 ghost use Rattle.std.specs.Option.{option_copied};
 ghost use Rattle.grpc_wire.specs.Heads.{values_of, only_value};
 ghost use Rattle.wl_client.specs.Statuses.{digits_after, number_in, http_fault, http_fault_of, grpc_code, grpc_text, first_value};

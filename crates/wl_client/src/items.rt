@@ -1,11 +1,11 @@
 //! Messages, and the messages in them, one field after another.
 
-ghost use Rattle.std.specs.Prelude.{◌≡◌, ◌<◌, ℕ, List, Option, length, IfOk, option_map, MatchResult, Ok, Err};
+ghost use Rattle.std.specs.Prelude.{◌≡◌, ◌<◌, ℕ, List, Option, MatchResult, Ok, Err};
 ghost use Rattle.pb_wire.specs.declared.fault.FieldFault.{FieldFault};
 ghost use Rattle.pb_wire.specs.declared.field.Field.{Field};
 ghost use Rattle.pb_wire.specs.Message.{text_of};
 ghost use Rattle.pb_wire.specs.Strings.{fault_of, Gives};
-ghost use Rattle.wl_client.specs.Messages.{message_of, bytes_of, inner_of, replaced, with_more, no_x509_item, no_map_item, no_jwt_item, x509_item_wrong, x509_item_more, x509_item_of, map_item_wrong, map_item_more, map_item_of, jwt_item_wrong, jwt_item_more, jwt_item_of, x509_wrong, x509_more, jwt_wrong, jwt_more, Takes};
+ghost use Rattle.wl_client.specs.Messages.{message_of, bytes_of, inner_of, replaced, with_more, x509_item_wrong, x509_item_more, x509_item_of, map_item_wrong, map_item_more, map_item_of, jwt_item_wrong, jwt_item_more, jwt_item_of, x509_wrong, x509_more, jwt_wrong, jwt_more, Takes};
 
 use pb_wire::{Field, FieldFault, read_field};
 use std::alloc::Global;

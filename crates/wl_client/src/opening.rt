@@ -1,7 +1,6 @@
 //! What a client sends first.
 
 ghost use Rattle.std.specs.Prelude.{◌≡◌, ◌≤◌, ◌++◌, ◌∷◌, [], length, IfOk, OnOk};
-ghost use Rattle.hpack.specs.Writing.{block_bytes};
 ghost use Rattle.h2_frame.specs.Writing.{frame_encoding, payload_of};
 ghost use Rattle.h2_wire.specs.declared.limit.TheConstants.{MAX_FRAME_SIZE};
 ghost use Rattle.grpc_wire.specs.Answers.{field};

@@ -3,7 +3,7 @@ use Rattle.std.proofs.Common.{◌≡◌, ℕ, ◌+◌, arith, List, ◌++◌, su
 use Rattle.std.proofs.lemmas.List.Sums.{sum-map, sum_by-append}
 use Rattle.wl_session.specs.Sessions.{SessionState, Running, Fallen, OutOfMemory, Began}
 use Rattle.wl_core.specs.declared.lines.Line.{Line}
-use Rattle.wl_core.specs.Seats.{begun_in, HasMemory}
+use Rattle.wl_session.specs.Steps.{begun_in, HasMemory}
 use Rattle.wl_core.specs.Counts.{counted, octets_in, octets_of}
 
 pub began_is : (s : SessionState) (n : ℕ) → HasMemory s → Began s n → n ≡ begun_in s

@@ -15,7 +15,7 @@ use Rattle.wl_session.specs.declared.asks.JwtOutcome.TheVariants as outcomes
 use Rattle.wl_session.specs.Sessions.{SessionState, failure_in}
 use Rattle.wl_core.specs.declared.lines.Line.{Line}
 use Rattle.wl_core.specs.declared.seats.Seat.{Seat}
-use Rattle.wl_core.specs.Seats.{Told, outcome_told}
+use Rattle.wl_session.specs.Steps.{Told, outcome_told}
 use Rattle.wl_core.specs.Tokens.{kept_token, outcome_by, outcome_of, history_by, history_after_token}
 use Rattle.wl_core.specs.Moments.{answer_ask, ask_of_seat, history_answered}
 use Rattle.wl_core.specs.Lines.{idle_lines, session_lines, ask_lines, token_lines}

@@ -1,4 +1,3 @@
-pub mod Attesting
 pub mod Counting
 pub mod Reading
 pub mod Keeping
@@ -7,8 +6,6 @@ pub mod Rooms
 pub mod Readiness
 pub mod Holding
 pub mod Standing
-pub mod Blinding
-pub mod Following
 pub mod Transcribing
 pub mod Tracing
 mod Samples

@@ -38,11 +38,12 @@ use Rattle.wl_session.specs.Settled.{MayFollow, MayTurn}
 use Rattle.wl_core.specs.declared.events.Event.{Event}
 use Rattle.wl_core.specs.declared.events.Event.TheVariants as events
 use Rattle.wl_core.specs.declared.seats.Seat.{Seat}
-use Rattle.wl_core.specs.Seats.{fed_by, feed_told, turn_told, outcome_told, unnamed_count, seat_at, joined_seat, named_seat, told_seat, feed_seat, turn_seat, with_session, Told, HasMemory, IsReady, AreReady}
+use Rattle.wl_session.specs.Steps.{fed_by, feed_told, turn_told, outcome_told, unnamed_count, Told, HasMemory}
+use Rattle.wl_core.specs.Seats.{seat_at, joined_seat, named_seat, told_seat, feed_seat, turn_seat, with_session, IsReady, AreReady}
 use Rattle.wl_core.specs.Tokens.{kept_token, outcome_of}
 use Rattle.wl_core.specs.Moments.{Moment, reading_of, after_reading, signed_with, failed_with, flight_in, answer_ask, token_seat, moment_after}
 use Rattle.wl_core.specs.Worlds.{Holds, WorksOn}
-use Rattle.wl_core.proofs.Attesting.{first_here, first_later, first_of_none, left_among, none_left, left_none, names_leave_none}
+use Rattle.wl_session.proofs.Attesting.{first_here, first_later, first_of_none, left_among, none_left, left_none, names_leave_none}
 
 -- ---- no call is left without a name
 

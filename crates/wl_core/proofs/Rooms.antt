@@ -6,7 +6,8 @@ use Rattle.wl_session.specs.Sessions.{SessionState, fresh_session, failure_in}
 use Rattle.wl_core.specs.declared.lines.Line.{Line}
 use Rattle.wl_core.specs.declared.lines.Line.TheVariants as lines
 use Rattle.wl_core.specs.declared.seats.Seat.{Seat}
-use Rattle.wl_core.specs.Seats.{IsTold, Told, seat_at, joined_seat, named_seat}
+use Rattle.wl_session.specs.Steps.{IsTold, Told}
+use Rattle.wl_core.specs.Seats.{seat_at, joined_seat, named_seat}
 use Rattle.wl_core.specs.Lines.{join_lines, caller_line, name_lines, told_lines, out_lines, failure_lines}
 use Rattle.wl_core.proofs.Telling.{seat_set, seat_left, seat_said, told_said, told_lines_of}
 

@@ -12,7 +12,8 @@ use Rattle.wl_session.specs.Talks.{Said, then_}
 use Rattle.wl_session.specs.Sessions.{SessionState, Running, Fallen, OutOfMemory, asks_in, failure_in, state_of_fault, state_after, feed_said, Feeds, Turns, GivesOutcome}
 use Rattle.wl_core.specs.declared.lines.Line.{Line}
 use Rattle.wl_core.specs.declared.seats.Seat.{Seat}
-use Rattle.wl_core.specs.Seats.{IsTold, Told, goes_on, all_named, names_told, fed_by, fed_to, feed_told, turn_told, outcome_told, seat_at, told_seat}
+use Rattle.wl_session.specs.Steps.{IsTold, Told, runs_on, all_named, names_told, fed_by, fed_to, feed_told, turn_told, outcome_told}
+use Rattle.wl_core.specs.Seats.{seat_at, told_seat}
 use Rattle.wl_core.specs.Moments.{with_told}
 use Rattle.wl_core.specs.Lines.{out_lines, failure_lines, told_lines, session_lines}
 
@@ -22,7 +23,7 @@ fed_on : (e : End) (shown : Option Publication) (caller : Option (List (List ℕ
 unfolding names_told
 fed_on e shown caller due old mid now s1 none wrote is named =
     let running : s1 ≡ Running e due.after shown = is ∙ ap (λ (f : Option ConnFault). state_of_fault f e due.after shown) none in
-    let went : fed_to e shown caller due ≡ goes_on e shown (then_ due (all_named caller)) = ap (λ (f : Option ConnFault). fed_by f e shown caller due) none in
+    let went : fed_to e shown caller due ≡ runs_on e shown (then_ due (all_named caller)) = ap (λ (f : Option ConnFault). fed_by f e shown caller due) none in
     record {
       after = ap (λ (s : SessionState). (names_told caller s).after) running ∙ sym (ap (λ (t : Told). t.after) went);
       bytes = named ∙ ap (λ (s : SessionState). mid ++ (names_told caller s).bytes) running

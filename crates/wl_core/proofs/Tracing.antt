@@ -12,15 +12,17 @@ use Rattle.wl_core.specs.declared.events.Event.{Event}
 use Rattle.wl_core.specs.declared.events.Event.TheVariants as events
 use Rattle.wl_core.specs.declared.lines.Line.{Line}
 use Rattle.wl_core.specs.declared.seats.Seat.{Seat}
-use Rattle.wl_core.specs.Seats.{Told, seat_at, joined_seat, named_seat, told_seat, feed_seat, turn_seat}
+use Rattle.wl_session.specs.Steps.{Told}
+use Rattle.wl_core.specs.Seats.{seat_at, joined_seat, named_seat, told_seat, feed_seat, turn_seat}
 use Rattle.wl_core.specs.Tokens.{kept_token, outcome_of}
 use Rattle.wl_core.specs.Moments.{Beginning, Moment, moment, moment_after, reading_of, after_document, flight_in, answer_ask, token_seat, with_told, seat}
 use Rattle.wl_store.specs.Stores.{after_claim, asks_to_claim, flights_from}
 use Rattle.wl_store.specs.Steps.{stored_after}
 use Rattle.wl_core.specs.Lines.{transcript, lines_at, join_lines, told_lines, ask_lines, token_lines}
-use Rattle.wl_core.specs.Traces.{Item, items_said, talk, feed_items, turn_items, ask_items, gain, joined_trace, trace_after, trace, told_from, told_to}
+use Rattle.wl_session.specs.Items.{Item, items_said, talk, feed_items, turn_items}
+use Rattle.wl_core.specs.Traces.{ask_items, gain, joined_trace, trace_after, trace, told_from, told_to}
 use Rattle.wl_core.proofs.Readiness.{room_after}
-use Rattle.wl_core.proofs.Following.{Follows, FollowsOn, stays, feed_follows, turn_follows, outcome_follows}
+use Rattle.wl_session.proofs.Traces.{Follows, FollowsOn, stays, feed_follows, turn_follows, outcome_follows}
 use Rattle.wl_core.proofs.Transcribing.{told_append, reading_tell, claim_tell, identity_tell, no_identity_tell, name_tell, close_tell, idle_tell, session_here, session_elsewhere}
 
 -- a session, its trace, and what was written to it

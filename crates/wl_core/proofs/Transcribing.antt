@@ -16,7 +16,7 @@ use Rattle.wl_session.specs.Sessions.{failure_in}
 use Rattle.wl_core.specs.declared.lines.Line.{Line}
 use Rattle.wl_core.specs.declared.lines.Line.TheVariants as lines
 use Rattle.wl_core.specs.declared.seats.Seat.{Seat}
-use Rattle.wl_core.specs.Seats.{Told}
+use Rattle.wl_session.specs.Steps.{Told}
 use Rattle.wl_core.specs.Lines.{published_lines, reading_lines, ticket_line, installed_line, identity_lines_by, no_identity_lines, name_lines, out_lines, failure_lines, session_lines, idle_lines, close_lines}
 use Rattle.wl_core.specs.Moments.{after_identity}
 use Rattle.wl_core.specs.Traces.{told_from}

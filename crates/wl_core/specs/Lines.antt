@@ -18,7 +18,8 @@ use Rattle.wl_core.specs.declared.events.Event.TheVariants as events
 use Rattle.wl_core.specs.declared.lines.Line.{Line}
 use Rattle.wl_core.specs.declared.lines.Line.TheVariants as lines
 use Rattle.wl_core.specs.declared.seats.Seat.{Seat}
-use Rattle.wl_core.specs.Seats.{Told, seat_at, feed_seat, turn_seat}
+use Rattle.wl_session.specs.Steps.{Told}
+use Rattle.wl_core.specs.Seats.{seat_at, feed_seat, turn_seat}
 use Rattle.wl_core.specs.Moments.{Beginning, Moment, moment, reading_of, after_document, flight_in, after_identity, token_seat}
 
 -- ---- the store

@@ -17,7 +17,8 @@ use Rattle.wl_core.specs.declared.events.Event.{Event}
 use Rattle.wl_core.specs.declared.events.Event.TheVariants as events
 use Rattle.wl_core.specs.declared.events.TheConstants.{CONNS}
 use Rattle.wl_core.specs.declared.seats.Seat.{Seat}
-use Rattle.wl_core.specs.Seats.{Told, quiet, begun_at, seat_at, joined_seat, named_seat, told_seat, feed_seat, turn_seat, outcome_told}
+use Rattle.wl_session.specs.Steps.{Told, quiet, outcome_told}
+use Rattle.wl_core.specs.Seats.{begun_at, seat_at, joined_seat, named_seat, told_seat, feed_seat, turn_seat}
 use Rattle.wl_core.specs.Tokens.{kept_token, outcome_of, history_after_token}
 
 -- with what the world begins: the state of its first document, and whether its store is strict

@@ -2,7 +2,7 @@
 
 ghost use Rattle.std.specs.Prelude.{◌≡◌, ◌++◌, None, Ok, IfOk, OnOk, IsSome};
 ghost use Rattle.wl_session.specs.Sessions.{unnamed_in, Names};
-ghost use Rattle.wl_core.specs.Seats.{names_told};
+ghost use Rattle.wl_session.specs.Steps.{names_told};
 
 use std::alloc::Global;
 use wl_octets::{Memory, Octets};

@@ -4,7 +4,8 @@ ghost use Rattle.std.specs.Prelude.{◌≡◌, ℕ, ◌+◌, ◌<◌, ◌++◌, 
 ghost use Rattle.wl_session.specs.Sessions.{unnamed_in, asks_in};
 ghost use Rattle.wl_session.specs.Settled.{MayTurn};
 ghost use Rattle.wl_core.specs.declared.events.TheConstants.{CONNS};
-ghost use Rattle.wl_core.specs.Seats.{seat_at, IsTold, joined_seat, named_seat, feed_seat, turn_seat, outcome_told, begun_in, begun_at, HasMemory, HasMemoryAt, IsReady};
+ghost use Rattle.wl_session.specs.Steps.{IsTold, outcome_told, begun_in, HasMemory};
+ghost use Rattle.wl_core.specs.Seats.{seat_at, joined_seat, named_seat, feed_seat, turn_seat, begun_at, HasMemoryAt, IsReady};
 ghost use Rattle.wl_core.specs.Counts.{counted};
 ghost use Rattle.wl_core.specs.Moments.{with_told};
 ghost use Rattle.wl_core.specs.Lines.{join_lines, name_lines, told_lines, close_lines};

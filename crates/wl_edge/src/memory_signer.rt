@@ -1,7 +1,6 @@
 //! A signer in memory.
 
 ghost use Rattle.std.specs.Prelude.{◌≡◌, [], Some, IfOk};
-ghost use Rattle.wl_selector.specs.Selectors.{sorted_texts};
 ghost use Rattle.wl_edge.specs.Calls.{Answers};
 ghost use Rattle.wl_edge.specs.Scripts.{Follows, due_answer};
 

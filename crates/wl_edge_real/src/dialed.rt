@@ -1,6 +1,6 @@
 //! A link of a client, which connects when it has something to say.
 
-ghost use Rattle.std.specs.Prelude.{◌≡◌, None, ◌<◌, ◌≤◌, length, IfOk};
+ghost use Rattle.std.specs.Prelude.{None, ◌<◌, ◌≤◌, length, IfOk};
 ghost use Rattle.wl_edge.specs.Links.{IsFresh};
 
 use crate::link::is_pause;

@@ -1,6 +1,6 @@
 //! Waiting for links with the operating system's poll.
 
-ghost use Rattle.std.specs.Prelude.{◌≡◌, ◌++◌, OnOk, IfOk, IfErr};
+ghost use Rattle.std.specs.Prelude.{◌≡◌, IfOk, IfErr};
 ghost use Rattle.list_laws.specs.Lists.{BeginsWith};
 
 use crate::bell::RealBell;

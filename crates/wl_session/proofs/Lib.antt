@@ -12,3 +12,6 @@ mod Refusals
 mod Streams
 mod Completing
 mod Answered
+pub mod Attesting
+pub mod Blinding
+pub mod Traces

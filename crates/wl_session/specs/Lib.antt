@@ -8,3 +8,5 @@ pub mod Agreeing
 pub mod Settled
 pub mod Refusing
 pub mod Completing
+pub mod Steps
+pub mod Items

@@ -1,7 +1,8 @@
 use Rattle.std.proofs.Common.{sym, subst, Err}
 use Rattle.wl_session.specs.declared.asks.SessionFault.{SessionFault}
 use Rattle.wl_session.specs.Sessions.{SessionState, Feeds}
-use Rattle.wl_core.specs.Seats.{IsTold, feed_seat}
+use Rattle.wl_session.specs.Steps.{IsTold}
+use Rattle.wl_core.specs.Seats.{feed_seat}
 use Rattle.wl_core.proofs.Telling.{fed_well, fed_badly}
 use Rattle.wl_core.proofs.seats.Seat.feed.Goals as goal
 

@@ -14,17 +14,17 @@ use Rattle.wl_session.specs.Answering.{Turned}
 use Rattle.wl_session.specs.Tokens.{change_in, change_first, is_unnamed, name_on, name_first, first_unnamed}
 use Rattle.wl_session.specs.Talks.{Talking, Said, then_, silent, written}
 use Rattle.wl_session.specs.Sessions.{SessionState, Running, Fallen, OutOfMemory, name_said, unnamed_in, Names}
-use Rattle.wl_core.specs.Seats.{unnamed_count, names_said, names_told}
+use Rattle.wl_session.specs.Steps.{unnamed_count, names_said, names_told}
 
 -- ---- the first of a kind
 
-place_here : {X : Type 0} (test : X → Bool) (x : X) (xs : List X) → test x ≡ true → position_or_len test (x ∷ xs) ≡ 0
+pub place_here : {X : Type 0} (test : X → Bool) (x : X) (xs : List X) → test x ≡ true → position_or_len test (x ∷ xs) ≡ 0
 place_here test x xs is = rw is refl
 
-place_later : {X : Type 0} (test : X → Bool) (x : X) (xs : List X) → test x ≡ false → position_or_len test (x ∷ xs) ≡ suc (position_or_len test xs)
+pub place_later : {X : Type 0} (test : X → Bool) (x : X) (xs : List X) → test x ≡ false → position_or_len test (x ∷ xs) ≡ suc (position_or_len test xs)
 place_later test x xs is = let e : 1 + position_or_len test xs ≡ suc (position_or_len test xs) = omega arith in rw is e
 
-in_later : (change : ServedCall → Phase → Turned) (c : ServedCall) (front rest : List ServedCall) (p : Phase)
+pub in_later : (change : ServedCall → Phase → Turned) (c : ServedCall) (front rest : List ServedCall) (p : Phase)
     → change_in change (c ∷ front) rest p ≡ record { phase = (change_in change front rest p).phase; kept = c ∷ (change_in change front rest p).kept }
 in_later change c front [] p = refl
 in_later change c front (d ∷ rest) p = refl
@@ -50,15 +50,15 @@ first_of_none test change p = refl
 abbrev pub left_among : List ServedCall → ℕ
 left_among cs = length (filter is_unnamed cs)
 
-abbrev named_by : Option (List (List ℕ)) → List ServedCall → Phase → List ServedCall
+abbrev pub named_by : Option (List (List ℕ)) → List ServedCall → Phase → List ServedCall
 named_by caller cs p = (change_first is_unnamed (name_on caller) cs p).kept
 
-one_named : (caller : Option (List (List ℕ))) (m : ℕ) (kind : CallKind) (cs : List ServedCall) (p : Phase)
+pub one_named : (caller : Option (List (List ℕ))) (m : ℕ) (kind : CallKind) (cs : List ServedCall) (p : Phase)
     → left_among ((name_on caller (record { stream = m; stage = Unnamed kind }) p).kept ++ cs) ≡ left_among cs
 one_named None m kind cs p = refl
 one_named (Some sel) m kind cs p = refl
 
-named_go : (caller : Option (List (List ℕ))) (m : ℕ) (s : Stage) (cs : List ServedCall) (p : Phase) (n : ℕ)
+pub named_go : (caller : Option (List (List ℕ))) (m : ℕ) (s : Stage) (cs : List ServedCall) (p : Phase) (n : ℕ)
     → (first_unnamed cs ≡ Some n → left_among cs ≡ suc (left_among (named_by caller cs p)))
     → first_unnamed (record { stream = m; stage = s } ∷ cs) ≡ Some n
     → left_among (record { stream = m; stage = s } ∷ cs) ≡ suc (left_among (named_by caller (record { stream = m; stage = s } ∷ cs) p))
@@ -69,12 +69,12 @@ named_go caller m (Ready kind sel seen headed) cs p n rest is =
 named_go caller m (Asking first wanted got) cs p n rest is =
     rest is ∙ ap suc (sym (ap (λ (t : Turned). left_among t.kept) (first_later is_unnamed (name_on caller) (record { stream = m; stage = Asking first wanted got }) cs p refl)))
 
-one_fewer : (caller : Option (List (List ℕ))) (cs : List ServedCall) (p : Phase) (n : ℕ) → first_unnamed cs ≡ Some n
+pub one_fewer : (caller : Option (List (List ℕ))) (cs : List ServedCall) (p : Phase) (n : ℕ) → first_unnamed cs ≡ Some n
     → left_among cs ≡ suc (left_among (named_by caller cs p))
 one_fewer caller [] p n is = absurd (cc is)
 one_fewer caller (c ∷ cs) p n is = named_go caller c.stream c.stage cs p n (one_fewer caller cs p n) is
 
-none_go : (m : ℕ) (s : Stage) (cs : List ServedCall) → (first_unnamed cs ≡ None → left_among cs ≡ 0)
+pub none_go : (m : ℕ) (s : Stage) (cs : List ServedCall) → (first_unnamed cs ≡ None → left_among cs ≡ 0)
     → first_unnamed (record { stream = m; stage = s } ∷ cs) ≡ None → left_among (record { stream = m; stage = s } ∷ cs) ≡ 0
 none_go m (Unnamed kind) cs rest is = absurd (cc is)
 none_go m (Ready kind sel seen headed) cs rest is = rest is
@@ -84,7 +84,7 @@ pub none_left : (cs : List ServedCall) → first_unnamed cs ≡ None → left_am
 none_left [] is = refl
 none_left (c ∷ cs) is = none_go c.stream c.stage cs (none_left cs) is
 
-left_go : (m : ℕ) (s : Stage) (cs : List ServedCall) → (left_among cs ≡ 0 → first_unnamed cs ≡ None)
+pub left_go : (m : ℕ) (s : Stage) (cs : List ServedCall) → (left_among cs ≡ 0 → first_unnamed cs ≡ None)
     → left_among (record { stream = m; stage = s } ∷ cs) ≡ 0 → first_unnamed (record { stream = m; stage = s } ∷ cs) ≡ None
 left_go m (Unnamed kind) cs rest is = absurd (omega (arith, is))
 left_go m (Ready kind sel seen headed) cs rest is = rest is
@@ -96,7 +96,7 @@ left_none (c ∷ cs) is = left_go c.stream c.stage cs (left_none cs) is
 
 -- ---- one name
 
-served_named : (caller : Option (List (List ℕ))) (t : Talking) → (name_said caller t).after.served ≡ named_by caller t.served t.phase
+pub served_named : (caller : Option (List (List ℕ))) (t : Talking) → (name_said caller t).after.served ≡ named_by caller t.served t.phase
 unfolding name_said name_first written
 served_named None t = refl
 served_named (Some sel) t = refl
@@ -119,11 +119,11 @@ pub record IsNamedOn (caller : Option (List (List ℕ))) (s s1 : SessionState) (
   pub bytes : old ++ (names_told caller s).bytes ≡ mid ++ (names_told caller s1).bytes
   pub fewer : left_in s ≡ suc (left_in s1)
 
-first_of_names : (n k : ℕ) (caller : Option (List (List ℕ))) (t : Talking) → n ≡ suc k → names_said n caller t ≡ then_ (name_said caller t) (names_said k caller)
+pub first_of_names : (n k : ℕ) (caller : Option (List (List ℕ))) (t : Talking) → n ≡ suc k → names_said n caller t ≡ then_ (name_said caller t) (names_said k caller)
 unfolding names_said
 first_of_names n k caller t is = ap (λ (m : ℕ). names_said m caller t) is
 
-named_running : (caller : Option (List (List ℕ))) (e : End) (t : Talking) (shown : Option Publication) (old : List ℕ) (n : ℕ) → first_unnamed t.served ≡ Some n
+pub named_running : (caller : Option (List (List ℕ))) (e : End) (t : Talking) (shown : Option Publication) (old : List ℕ) (n : ℕ) → first_unnamed t.served ≡ Some n
     → IsNamedOn caller (Running e t shown) (Running e (name_said caller t).after shown) old (old ++ (name_said caller t).bytes)
 unfolding names_told
 named_running caller e t shown old n is =
@@ -136,7 +136,7 @@ named_running caller e t shown old n is =
       fewer = name_counts caller t n is;
     }
 
-some_go : (caller : Option (List (List ℕ))) (e : End) (t : Talking) (shown : Option Publication) (old : List ℕ) (o : Option ℕ) → first_unnamed t.served ≡ o → is_some o ≡ true
+pub some_go : (caller : Option (List (List ℕ))) (e : End) (t : Talking) (shown : Option Publication) (old : List ℕ) (o : Option ℕ) → first_unnamed t.served ≡ o → is_some o ≡ true
     → IsNamedOn caller (Running e t shown) (Running e (name_said caller t).after shown) old (old ++ (name_said caller t).bytes)
 some_go caller e t shown old None is there = absurd (cc there)
 some_go caller e t shown old (Some n) is there = named_running caller e t shown old n is
@@ -152,7 +152,7 @@ pub record IsNamed (caller : Option (List (List ℕ))) (s : SessionState) : Type
   pub after : (names_told caller s).after ≡ s
   pub bytes : (names_told caller s).bytes ≡ []
 
-no_names : (n : ℕ) (caller : Option (List (List ℕ))) (t : Talking) → n ≡ 0 → names_said n caller t ≡ silent t
+pub no_names : (n : ℕ) (caller : Option (List (List ℕ))) (t : Talking) → n ≡ 0 → names_said n caller t ≡ silent t
 unfolding names_said
 no_names n caller t is = ap (λ (m : ℕ). names_said m caller t) is
 
@@ -169,7 +169,7 @@ none_of None is = refl
 none_of (Some n) is = absurd (cc is)
 
 -- behind all names no call is left
-some_call : (cs : List ServedCall) (o : Option ℕ) (n : ℕ) → first_unnamed cs ≡ o → left_among cs ≡ suc n → (m : ℕ) × (first_unnamed cs ≡ Some m)
+pub some_call : (cs : List ServedCall) (o : Option ℕ) (n : ℕ) → first_unnamed cs ≡ o → left_among cs ≡ suc n → (m : ℕ) × (first_unnamed cs ≡ Some m)
 some_call cs None n is count = absurd (omega (arith, none_left cs is, count))
 some_call cs (Some m) n is count = (m, is)
 

@@ -39,9 +39,9 @@ use Rattle.wl_session.specs.Tokens.{change_first, is_unnamed, is_unnamed_stage, 
 use Rattle.wl_session.specs.Talks.{Talking, Said, first_of, then_, silent, written, with_served, others, after_event, after_body, after_happening, after_happenings, after_frame, frame_said, frames_said, break_said}
 use Rattle.wl_session.specs.Sessions.{with_turned, ended_by, feed_said, turn_said, name_said, given_said}
 use Rattle.wl_session.proofs.Running.{then_assoc, then_silent}
-use Rattle.wl_core.specs.Seats.{names_said}
-use Rattle.wl_core.specs.Traces.{Item, FrameItem, BrokenItem, answered_where, calls_on, views_said, item_said, items_said, attestation, broken_items, reading_items, stage_view, call_view}
-use Rattle.wl_core.proofs.Attesting.{first_here, first_later, first_of_none}
+use Rattle.wl_session.specs.Steps.{names_said}
+use Rattle.wl_session.specs.Items.{Item, FrameItem, BrokenItem, answered_where, calls_on, views_said, item_said, items_said, attestation, broken_items, reading_items, stage_view, call_view}
+use Rattle.wl_session.proofs.Attesting.{first_here, first_later, first_of_none}
 
 -- ---- without what callers are attested as
 
@@ -72,24 +72,24 @@ then_blind s f g is = ap (λ (r : Said). record { after = r.after; bytes = s.byt
 
 -- ---- frames
 
-served_go : (c d : ServedCall) (ds : List ServedCall) (b : Bool) → blind_call c ≡ c → with_served c (map blind_call ds) ≡ map blind_call (with_served c ds)
+pub served_go : (c d : ServedCall) (ds : List ServedCall) (b : Bool) → blind_call c ≡ c → with_served c (map blind_call ds) ≡ map blind_call (with_served c ds)
     → (if b then c ∷ blind_call d ∷ map blind_call ds else blind_call d ∷ with_served c (map blind_call ds)) ≡ map blind_call (if b then c ∷ d ∷ ds else d ∷ with_served c ds)
 served_go c d ds true is rest = ap (λ (x : ServedCall). x ∷ blind_call d ∷ map blind_call ds) (sym is)
 served_go c d ds false is rest = ap (λ (xs : List ServedCall). blind_call d ∷ xs) rest
 
-served_blind : (c : ServedCall) (cs : List ServedCall) → blind_call c ≡ c → with_served c (map blind_call cs) ≡ map blind_call (with_served c cs)
+pub served_blind : (c : ServedCall) (cs : List ServedCall) → blind_call c ≡ c → with_served c (map blind_call cs) ≡ map blind_call (with_served c cs)
 served_blind c [] is = ap (λ (x : ServedCall). x ∷ []) (sym is)
 served_blind c (d ∷ ds) is = served_go c d ds (nat_lt c.stream d.stream) is (served_blind c ds is)
 
-others_go : (c : ServedCall) (xs ys : List ServedCall) (b : Bool) → xs ≡ map blind_call ys → (if b then blind_call c ∷ xs else xs) ≡ map blind_call (if b then c ∷ ys else ys)
+pub others_go : (c : ServedCall) (xs ys : List ServedCall) (b : Bool) → xs ≡ map blind_call ys → (if b then blind_call c ∷ xs else xs) ≡ map blind_call (if b then c ∷ ys else ys)
 others_go c xs ys true is = ap (λ (zs : List ServedCall). blind_call c ∷ zs) is
 others_go c xs ys false is = is
 
-others_blind : (n : ℕ) (cs : List ServedCall) → others n (map blind_call cs) ≡ map blind_call (others n cs)
+pub others_blind : (n : ℕ) (cs : List ServedCall) → others n (map blind_call cs) ≡ map blind_call (others n cs)
 others_blind n [] = refl
 others_blind n (c ∷ cs) = others_go c (others n (map blind_call cs)) (others n cs) (not (c.stream == n)) (others_blind n cs)
 
-event_blind : (n : ℕ) (e : CallEvent) (t : Talking) → after_event n e (blind t) ≡ blind (after_event n e t)
+pub event_blind : (n : ℕ) (e : CallEvent) (t : Talking) → after_event n e (blind t) ≡ blind (after_event n e t)
 unfolding after_event
 event_blind n Nothing t = refl
 event_blind n Malformed t = refl
@@ -98,7 +98,7 @@ event_blind n (calls.Ready method message request) t =
     ap (λ (cs : List ServedCall). record { greeted = t.greeted; phase = t.phase; calls = without n t.calls; served = cs })
     (served_blind (record { stream = n; stage = Unnamed (kind_of method request) }) t.served refl)
 
-happening_blind : (h : Happening) (t : Talking) → after_happening h (blind t) ≡ blind (after_happening h t)
+pub happening_blind : (h : Happening) (t : Talking) → after_happening h (blind t) ≡ blind (after_happening h t)
 unfolding after_happening after_body
 happening_blind (happening.Head n headers ended) t = event_blind n (verdict headers [] ended) (record t { calls = with_call n (standing_of_head headers ended) t.calls })
 happening_blind (happening.Body n bytes ended) t = event_blind n (event_at (standing_at n t.calls) bytes ended) (record t { calls = calls_after n bytes ended t.calls })
@@ -106,41 +106,41 @@ happening_blind (happening.End n) t = event_blind n (event_at (standing_at n t.c
 happening_blind (happening.Gone n) t =
     ap (λ (cs : List ServedCall). record { greeted = t.greeted; phase = t.phase; calls = without n t.calls; served = cs }) (others_blind n t.served)
 
-happenings_blind : (hs : List Happening) (t : Talking) → after_happenings hs (blind t) ≡ blind (after_happenings hs t)
+pub happenings_blind : (hs : List Happening) (t : Talking) → after_happenings hs (blind t) ≡ blind (after_happenings hs t)
 happenings_blind [] t = refl
 happenings_blind (h ∷ hs) t = ap (after_happenings hs) (happening_blind h t) ∙ happenings_blind hs (after_happening h t)
 
-frame_blind : (f : Frame) (t : Talking) → after_frame f (blind t) ≡ blind (after_frame f t)
+pub frame_blind : (f : Frame) (t : Talking) → after_frame f (blind t) ≡ blind (after_frame f t)
 unfolding after_frame
 frame_blind f t = happenings_blind (frame_result t.phase f).told (record t { phase = (frame_result t.phase f).after })
 
-frame_said_blind : (f : Frame) (t : Talking) → frame_said f (blind t) ≡ blind_said (frame_said f t)
+pub frame_said_blind : (f : Frame) (t : Talking) → frame_said f (blind t) ≡ blind_said (frame_said f t)
 unfolding frame_said
 frame_said_blind f t = ap (written (frame_result t.phase f).fault) (frame_blind f t) ∙ written_blind (frame_result t.phase f).fault (after_frame f t)
 
-break_said_blind : (why : FrameFault) (t : Talking) → break_said why (blind t) ≡ blind_said (break_said why t)
+pub break_said_blind : (why : FrameFault) (t : Talking) → break_said why (blind t) ≡ blind_said (break_said why t)
 unfolding break_said
 break_said_blind why t = written_blind (frame_fault_on why t.phase) (record t { phase = after_frame_fault why t.phase })
 
 -- ---- a turn
 
-stream_blind : (n : ℕ) (method : Method3) (sel : List (List ℕ)) (v : Sight) (headed : Bool) (a : Answer) (p : Phase)
+pub stream_blind : (n : ℕ) (method : Method3) (sel : List (List ℕ)) (v : Sight) (headed : Bool) (a : Answer) (p : Phase)
     → stream_answer n method [] v headed a p ≡ blind_turned (stream_answer n method sel v headed a p)
 stream_blind n method sel v headed Denied p = refl
 stream_blind n method sel v headed Wait p = refl
 stream_blind n method sel v headed (TooLong size) p = refl
 stream_blind n method sel v headed (Message m) p = refl
 
-token_blind : (n : ℕ) (headed : Bool) (audience : List (List ℕ)) (ws : List Wanted) (p : Phase)
+pub token_blind : (n : ℕ) (headed : Bool) (audience : List (List ℕ)) (ws : List Wanted) (p : Phase)
     → token_answer n headed audience ws p ≡ blind_turned (token_answer n headed audience ws p)
 token_blind n headed audience [] p = refl
 token_blind n headed audience (w ∷ ws) p = refl
 
-ended_blind : (b : Bool) (p q : Phase) → (if b then has_ended p else has_ended q) ≡ blind_turned (if b then has_ended p else has_ended q)
+pub ended_blind : (b : Bool) (p q : Phase) → (if b then has_ended p else has_ended q) ≡ blind_turned (if b then has_ended p else has_ended q)
 ended_blind true p q = refl
 ended_blind false p q = refl
 
-answer_blind : (n : ℕ) (kind : CallKind) (sel : List (List ℕ)) (headed : Bool) (v : Sight) (p : Phase)
+pub answer_blind : (n : ℕ) (kind : CallKind) (sel : List (List ℕ)) (headed : Bool) (v : Sight) (p : Phase)
     → call_answer n kind [] headed v p ≡ blind_turned (call_answer n kind sel headed v p)
 unfolding call_answer
 answer_blind n (Stream method) sel headed v p = stream_blind n method sel v headed (answer_of method v) p
@@ -149,19 +149,19 @@ answer_blind n (Check service) sel headed v p =
     ended_blind (health_of service v == 3) (with_refusal n headed UnknownService p) (with_last_message n headed (spell_state (health_of service v)) p)
 answer_blind n (Watch service) sel headed v p = refl
 
-new_blind : (b : Bool) (n : ℕ) (kind : CallKind) (sel : List (List ℕ)) (seen : Option Sight) (headed : Bool) (v : Sight) (p : Phase)
+pub new_blind : (b : Bool) (n : ℕ) (kind : CallKind) (sel : List (List ℕ)) (seen : Option Sight) (headed : Bool) (v : Sight) (p : Phase)
     → answered_where (if b then None else Some v) (record { stream = n; stage = Ready kind [] seen headed }) p
     ≡ blind_turned (if b then goes_on n (Ready kind sel seen headed) p else call_answer n kind sel headed v p)
 new_blind true n kind sel seen headed v p = refl
 new_blind false n kind sel seen headed v p = answer_blind n kind sel headed v p
 
-stage_blind : (x : Publication) (n : ℕ) (s : Stage) (p : Phase)
+pub stage_blind : (x : Publication) (n : ℕ) (s : Stage) (p : Phase)
     → answered_where (stage_view x s) (record { stream = n; stage = blind_stage s }) p ≡ blind_turned (stage_turn x n s p)
 stage_blind x n (Unnamed kind) p = refl
 stage_blind x n (Ready kind sel seen headed) p = new_blind (was_seen seen (view_in x sel)) n kind sel seen headed (view_in x sel) p
 stage_blind x n (Asking first rest got) p = refl
 
-calls_blind : (x : Publication) (cs : List ServedCall) (p : Phase) → calls_on (map (call_view x) cs) (map blind_call cs) p ≡ blind_turned (calls_turn x cs p)
+pub calls_blind : (x : Publication) (cs : List ServedCall) (p : Phase) → calls_on (map (call_view x) cs) (map blind_call cs) p ≡ blind_turned (calls_turn x cs p)
 unfolding calls_on calls_turn call_turn
 calls_blind x [] p = refl
 calls_blind x (c ∷ cs) p =
@@ -178,7 +178,7 @@ turn_blind x t =
 
 -- ---- the first of a kind
 
-first_go : (test : ServedCall → Bool) (f g : ServedCall → Phase → Turned) (c : ServedCall) (cs : List ServedCall) (p : Phase) (b : Bool)
+pub first_go : (test : ServedCall → Bool) (f g : ServedCall → Phase → Turned) (c : ServedCall) (cs : List ServedCall) (p : Phase) (b : Bool)
     → test (blind_call c) ≡ b → test c ≡ b → f (blind_call c) p ≡ blind_turned (g c p)
     → change_first test f (map blind_call cs) p ≡ blind_turned (change_first test g cs p)
     → change_first test f (blind_call c ∷ map blind_call cs) p ≡ blind_turned (change_first test g (c ∷ cs) p)
@@ -192,40 +192,40 @@ first_go test f g c cs p false now is one rest =
     ∙ (ap (λ (r : Turned). record { phase = r.phase; kept = blind_call c ∷ r.kept }) rest
     ∙ sym (ap blind_turned (first_later test g c cs p is)))
 
-first_blind : (test : ServedCall → Bool) (f g : ServedCall → Phase → Turned) → ((c : ServedCall) → test (blind_call c) ≡ test c) → ((c : ServedCall) (p : Phase) → f (blind_call c) p ≡ blind_turned (g c p))
+pub first_blind : (test : ServedCall → Bool) (f g : ServedCall → Phase → Turned) → ((c : ServedCall) → test (blind_call c) ≡ test c) → ((c : ServedCall) (p : Phase) → f (blind_call c) p ≡ blind_turned (g c p))
     → (cs : List ServedCall) (p : Phase) → change_first test f (map blind_call cs) p ≡ blind_turned (change_first test g cs p)
 first_blind test f g same one [] p = first_of_none test f p ∙ sym (ap blind_turned (first_of_none test g p))
 first_blind test f g same one (c ∷ cs) p = first_go test f g c cs p (test c) (same c) refl (one c p) (first_blind test f g same one cs p)
 
-unnamed_blind : (s : Stage) → is_unnamed_stage (blind_stage s) ≡ is_unnamed_stage s
+pub unnamed_blind : (s : Stage) → is_unnamed_stage (blind_stage s) ≡ is_unnamed_stage s
 unnamed_blind (Unnamed kind) = refl
 unnamed_blind (Ready kind sel seen headed) = refl
 unnamed_blind (Asking first rest got) = refl
 
-asking_blind : (s : Stage) → is_asking_stage (blind_stage s) ≡ is_asking_stage s
+pub asking_blind : (s : Stage) → is_asking_stage (blind_stage s) ≡ is_asking_stage s
 asking_blind (Unnamed kind) = refl
 asking_blind (Ready kind sel seen headed) = refl
 asking_blind (Asking first rest got) = refl
 
 -- ---- names
 
-some_blind : (sel : List (List ℕ)) (n : ℕ) (s : Stage) (p : Phase) → name_stage (Some []) n (blind_stage s) p ≡ blind_turned (name_stage (Some sel) n s p)
+pub some_blind : (sel : List (List ℕ)) (n : ℕ) (s : Stage) (p : Phase) → name_stage (Some []) n (blind_stage s) p ≡ blind_turned (name_stage (Some sel) n s p)
 some_blind sel n (Unnamed kind) p = refl
 some_blind sel n (Ready kind own seen headed) p = refl
 some_blind sel n (Asking first rest got) p = refl
 
-none_blind : (n : ℕ) (s : Stage) (p : Phase) → name_stage None n (blind_stage s) p ≡ blind_turned (name_stage None n s p)
+pub none_blind : (n : ℕ) (s : Stage) (p : Phase) → name_stage None n (blind_stage s) p ≡ blind_turned (name_stage None n s p)
 none_blind n (Unnamed kind) p = refl
 none_blind n (Ready kind own seen headed) p = refl
 none_blind n (Asking first rest got) p = refl
 
-name_some_blind : (sel : List (List ℕ)) (t : Talking) → name_said (Some []) (blind t) ≡ blind_said (name_said (Some sel) t)
+pub name_some_blind : (sel : List (List ℕ)) (t : Talking) → name_said (Some []) (blind t) ≡ blind_said (name_said (Some sel) t)
 unfolding name_said name_first
 name_some_blind sel t =
     ap (λ (r : Turned). silent (with_turned (blind t) r))
     (first_blind is_unnamed (name_on (Some [])) (name_on (Some sel)) (λ c. unnamed_blind c.stage) (λ c p. some_blind sel c.stream c.stage p) t.served t.phase)
 
-name_none_blind : (t : Talking) → name_said None (blind t) ≡ blind_said (name_said None t)
+pub name_none_blind : (t : Talking) → name_said None (blind t) ≡ blind_said (name_said None t)
 unfolding name_said name_first
 name_none_blind t =
     ap (λ (r : Turned). written None (with_turned (blind t) r))
@@ -234,18 +234,18 @@ name_none_blind t =
 
 -- ---- tokens
 
-message_blind : (n : ℕ) (audience : List (List ℕ)) (ws : List Wanted) (got : List JwtItem) (p : Phase) → next_ask n audience ws got p ≡ blind_turned (next_ask n audience ws got p)
+pub message_blind : (n : ℕ) (audience : List (List ℕ)) (ws : List Wanted) (got : List JwtItem) (p : Phase) → next_ask n audience ws got p ≡ blind_turned (next_ask n audience ws got p)
 message_blind n audience [] got p =
     ended_blind (nat_lt 4194304 (capped (length (spell_jwt (record { svids = got }))))) (with_refusal n false LongResponse p) (with_last_message n false (spell_jwt (record { svids = got })) p)
 message_blind n audience (w ∷ ws) got p = refl
 
-give_blind : (n : ℕ) (first : JwtAsk) (rest : List Wanted) (got : List JwtItem) (o : JwtOutcome) (p : Phase) → give_call n first rest got o p ≡ blind_turned (give_call n first rest got o p)
+pub give_blind : (n : ℕ) (first : JwtAsk) (rest : List Wanted) (got : List JwtItem) (o : JwtOutcome) (p : Phase) → give_call n first rest got o p ≡ blind_turned (give_call n first rest got o p)
 unfolding give_call
 give_blind n first rest got (outcomes.Token t) p = message_blind n first.audience rest (got ++ item_for first t ∷ []) p
 give_blind n first rest got outcomes.Failed p = refl
 give_blind n first rest got (outcomes.Unfit u) p = refl
 
-outcome_blind : (o : JwtOutcome) (n : ℕ) (s : Stage) (p : Phase) → give_stage o n (blind_stage s) p ≡ blind_turned (give_stage o n s p)
+pub outcome_blind : (o : JwtOutcome) (n : ℕ) (s : Stage) (p : Phase) → give_stage o n (blind_stage s) p ≡ blind_turned (give_stage o n s p)
 outcome_blind o n (Unnamed kind) p = refl
 outcome_blind o n (Ready kind sel seen headed) p = refl
 outcome_blind o n (Asking first rest got) p = give_blind n first rest got o p
@@ -270,17 +270,17 @@ pub one_item : (i : Item) (t : Talking) → items_said (i ∷ []) t ≡ item_sai
 unfolding items_said
 one_item i t = then_silent (item_said i t)
 
-frames_blind : (fs : List Frame) (t : Talking) → items_said (map FrameItem fs) (blind t) ≡ blind_said (frames_said fs t)
+pub frames_blind : (fs : List Frame) (t : Talking) → items_said (map FrameItem fs) (blind t) ≡ blind_said (frames_said fs t)
 unfolding items_said frames_said
 frames_blind [] t = refl
 frames_blind (f ∷ fs) t =
     ap (λ (s : Said). then_ s (items_said (map FrameItem fs))) (frame_said_blind f t)
     ∙ then_blind (frame_said f t) (items_said (map FrameItem fs)) (frames_said fs) (frames_blind fs (frame_said f t).after)
 
-break_blind : (why : FrameFault) (t : Talking) → items_said (BrokenItem why ∷ []) (blind t) ≡ blind_said (break_said why t)
+pub break_blind : (why : FrameFault) (t : Talking) → items_said (BrokenItem why ∷ []) (blind t) ≡ blind_said (break_said why t)
 break_blind why t = one_item (BrokenItem why) (blind t) ∙ break_said_blind why t
 
-ending_blind : (fs : List Frame) (e : End) (t : Talking) → items_said (map FrameItem fs ++ broken_items e) (blind t) ≡ blind_said (ended_by e (frames_said fs t))
+pub ending_blind : (fs : List Frame) (e : End) (t : Talking) → items_said (map FrameItem fs ++ broken_items e) (blind t) ≡ blind_said (ended_by e (frames_said fs t))
 ending_blind fs (Opening left) t = ap (λ (items : List Item). items_said items (blind t)) (append-nil (map FrameItem fs)) ∙ frames_blind fs t
 ending_blind fs (Rest rest) t = ap (λ (items : List Item). items_said items (blind t)) (append-nil (map FrameItem fs)) ∙ frames_blind fs t
 ending_blind fs (Fault why) t =
@@ -292,7 +292,7 @@ pub reading_blind : (r : Reading) (t : Talking) → items_said (reading_items r)
 unfolding feed_said
 reading_blind r t = ending_blind r.frames r.ending t
 
-attested_blind : (caller : Option (List (List ℕ))) (c : ServedCall) (t : Talking) → item_said (attestation caller c) (blind t) ≡ blind_said (name_said caller t)
+pub attested_blind : (caller : Option (List (List ℕ))) (c : ServedCall) (t : Talking) → item_said (attestation caller c) (blind t) ≡ blind_said (name_said caller t)
 attested_blind None c t = name_none_blind t
 attested_blind (Some sel) c t = name_some_blind sel t
 
