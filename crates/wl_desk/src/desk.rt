@@ -184,9 +184,11 @@ impl<V: Voucher> Desk<V> {
         self.manager.failed(ticket);
     }
 
-    /// A note of all publications so far. Nothing changes, and it always succeeds, as `Publisher::note`.
+    /// A note of all publications so far, whose last is the manager's. Nothing changes, and it always succeeds, as
+    /// `Publisher::note`.
     pub fn note<R: Wait>(&mut self, rt: &R) -> Result<Note<V>, Memory>
         ensures note { IfOk result (λ note. note ≡ listing self.old.store self.old.list) }
+        ensures last { IfOk result (λ note. IsLast note.list self.old.managed.stored.published) }
         ensures always { IsOk result }
         ensures same { self.new ≡ self.old }
     {
