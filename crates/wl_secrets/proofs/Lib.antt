@@ -1,0 +1,10 @@
+pub mod Lists
+pub mod Shading
+pub mod Sights
+pub mod Calls
+pub mod Unshown
+pub mod Keeps
+pub mod Seats
+pub mod Known
+pub mod Alike
+pub mod Hiding
