@@ -35,7 +35,7 @@ seat_step (events.Turn k) conn m o = if k == conn then told_seat (turn_seat m.st
 seat_step (events.Token k now given) conn m o = if k == conn then told_seat (token_seat m.history now given) o else o
 seat_step (events.Close k) conn m o = if k == conn then None else o
 
-same_conn : (k conn : ℕ) → (k == conn) ≡ true → k ≡ conn
+pub same_conn : (k conn : ℕ) → (k == conn) ≡ true → k ≡ conn
 same_conn k conn is = grind (arith, nat_tests, is)
 
 other_conn : (k conn : ℕ) → (k == conn) ≡ false → conn ≢ k
