@@ -2,3 +2,14 @@ pub mod Asking
 pub mod Owners
 pub mod Pulling
 pub mod Showing
+pub mod Gaining
+pub mod Reading
+pub mod Steps
+pub mod Waiting
+pub mod Rounding
+pub mod Following
+pub mod Standing
+pub mod Ending
+pub mod Counting
+pub mod Connecting
+pub mod Determined

@@ -1,3 +1,9 @@
 pub mod Counts
 pub mod Owners
 pub mod Upkeep
+pub mod Rounds
+pub mod Outcomes
+pub mod Served
+pub mod Sending
+pub mod Stepping
+pub mod Connections

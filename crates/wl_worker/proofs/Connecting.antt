@@ -1,0 +1,286 @@
+-- A connection goes through its rounds, from its start to its end.
+use Rattle.std.proofs.Common.{◌≡◌, ℕ, ◌⊎◌, inl, inr, Bool, true, List, [], ◌∷◌, ◌++◌, length, Option, Some, None, refl, sym, ap, subst, ◌∙◌, append_assoc}
+use Rattle.std.proofs.lemmas.List.{append-nil, map-append}
+use mathlib.Core.List.{IsPrefix}
+use Rattle.list_laws.specs.Lists.{BeginsWith}
+use Rattle.wl_entry.specs.declared.asks.Ask.{Ask}
+use Rattle.wl_entry.specs.declared.signing.Signed.{Signed}
+use Rattle.wl_entry.specs.declared.tokens.JwtToken.{JwtToken}
+use Rattle.wl_snapshot.specs.Snapshots.{Publication}
+use Rattle.wl_publish.specs.Lists.{NonFallingFrom}
+use Rattle.wl_publish.specs.Listings.{Passing}
+use Rattle.wl_edge.specs.Links.{LinkLog}
+use Rattle.wl_edge.specs.declared.link.Heard.{Heard}
+use Rattle.wl_edge.specs.declared.link.Heard.TheVariants as heard
+use Rattle.wl_edge.specs.declared.attestor.AttestorCall.{AttestorCall}
+use Rattle.wl_edge.specs.declared.signer.SignerCall.{SignerCall}
+use Rattle.wl_session.specs.declared.asks.JwtAsk.{JwtAsk}
+use Rattle.wl_session.specs.declared.asks.JwtOutcome.{JwtOutcome}
+use Rattle.wl_session.specs.declared.asks.SessionFault.TheVariants as faults
+use Rattle.wl_session.specs.Sessions.{SessionState, fresh_session, is_done_in, failure_in}
+use Rattle.wl_session.specs.Items.{talk}
+use Rattle.wl_worker.specs.declared.ended.Ended.{Ended}
+use Rattle.wl_worker.specs.declared.ended.Ended.TheVariants as ended
+use Rattle.wl_worker.specs.declared.ended.RoundEnd.{RoundEnd}
+use Rattle.wl_worker.specs.declared.ended.RoundEnd.TheVariants as ends
+use Rattle.wl_worker.specs.Rounds.{Round, HaveAsks, turned_session, session_after, trace, numbers, number_of, answers, outcomes, AreRounds, AreOutcomes, AreKnown, IsIn, pieces_given}
+use Rattle.wl_worker.specs.Counts.{RoseBy}
+use Rattle.wl_worker.specs.Outcomes.{unanswered, unsigned, GainsAll, attestor_call, attestor_calls, IsOutcome}
+use Rattle.wl_worker.specs.Served.{ServedState, Around, Stands, Began, ReadIn, ReadBy, OutcomesBy, RoundTells, HasSeenLast}
+use Rattle.wl_worker.specs.Connections.{GaveEnd, CameTo, Gathers, ConnectionTells, Serving}
+use Rattle.wl_worker.proofs.Gaining.{gains_none, gains_then, ticked_none, ticked_then, link_none, link_then, rose_none, rose_then, unanswered_append, unsigned_append, in_front, in_back, outcome_grows, have_such}
+use Rattle.wl_worker.proofs.Reading.{read_prefix, rises_over, prefix_then, prefix_same, known_longer}
+use Rattle.wl_worker.proofs.Following.{nothing_talked}
+use Rattle.wl_worker.proofs.Counting.{all_read, one_unread}
+
+-- ---- lists of rounds
+
+pub answers_added : (added past : List Round) → answers (added ++ past) ≡ answers past ++ answers added
+answers_added [] past = sym (append-nil (answers past))
+answers_added (r ∷ more) past = ap (λ (xs : List (Option (List (List ℕ)))). xs ++ r.answers) (answers_added more past) ∙ append_assoc (answers past) (answers more) r.answers
+
+pub outcomes_added : (added past : List Round) → outcomes (added ++ past) ≡ outcomes past ++ outcomes added
+outcomes_added [] past = sym (append-nil (outcomes past))
+outcomes_added (r ∷ more) past = ap (λ (xs : List JwtOutcome). xs ++ r.outcomes) (outcomes_added more past) ∙ append_assoc (outcomes past) (outcomes more) r.outcomes
+
+pub outcomes_such : (P Q : JwtAsk → JwtOutcome → Type 0) → ((a : JwtAsk) (o : JwtOutcome) → P a o → Q a o) → (past : List Round) → AreOutcomes P past → AreOutcomes Q past
+outcomes_such P Q so [] are = tt
+outcomes_such P Q so (r ∷ past) are = (have_such P Q so r.outcomes (turned_session r (session_after past)) are.0, outcomes_such P Q so past are.1)
+
+outcomes_by_such : (P Q : JwtAsk → JwtOutcome → Type 0) → ((a : JwtAsk) (o : JwtOutcome) → P a o → Q a o) → (added : List Round) (s : SessionState) → OutcomesBy P added s → OutcomesBy Q added s
+outcomes_by_such P Q so [] s are = tt
+outcomes_by_such P Q so (r ∷ more) s are = have_such P Q so r.outcomes (turned_session r s) are
+
+module _ (valid : Ask → Signed → Type 0) where
+  read_mine : (shown : Option Publication) (v w : Passing) → ReadIn valid shown v w → w.mine ≡ v.mine ++ number_of shown
+  read_mine None v w read = ap (λ (k : Passing). k.mine) read ∙ sym (append-nil v.mine)
+  read_mine (Some p) v w read = read.mine
+
+  pub mine_on : (added past : List Round) (base : List ℕ) (v w : Passing) → ReadBy valid added v w → v.mine ≡ base ++ numbers past → w.mine ≡ base ++ numbers (added ++ past)
+  mine_on [] past base v w read is = ap (λ (k : Passing). k.mine) read ∙ is
+  mine_on (r ∷ []) past base v w read is =
+      read_mine r.shown v w read.1 ∙ (ap (λ (ns : List ℕ). ns ++ number_of r.shown) is ∙ append_assoc base (numbers past) (number_of r.shown))
+  mine_on (r ∷ q ∷ more) past base v w read is = absurd (cc read.0)
+
+  pub seen_on : (added : List Round) (v w : Passing) → ReadBy valid added v w → IsPrefix v.seen w.seen
+  seen_on [] v w read = subst (λ (k : Passing). IsPrefix v.seen k.seen) (sym read) (prefix_same v.seen)
+  seen_on (r ∷ more) v w read = read_prefix valid r.shown v w read.1
+
+  pub recent_on : (added past : List Round) (v w : Passing) (p : Publication) → ReadBy valid added v w → AreKnown v.seen past → IsIn p v.seen → NonFallingFrom p.number (numbers past)
+      → NonFallingFrom p.number (numbers (added ++ past))
+  recent_on [] past v w p read known is rising = rising
+  recent_on (r ∷ []) past v w p read known is rising = rises_over valid r.shown v w past p read.1 known is rising
+  recent_on (r ∷ q ∷ more) past v w p read known is rising = absurd (cc read.0)
+
+  pub outcomes_on : (P : JwtAsk → JwtOutcome → Type 0) (added past : List Round) (s : SessionState) (v w : Passing) → s ≡ session_after past → ReadBy valid added v w → OutcomesBy P added s → AreOutcomes P past
+      → AreOutcomes P (added ++ past)
+  outcomes_on P [] past s v w is read new are = are
+  outcomes_on P (r ∷ []) past s v w is read new are = (subst (λ (x : SessionState). HaveAsks P r.outcomes (turned_session r x)) is new, are)
+  outcomes_on P (r ∷ q ∷ more) past s v w is read new are = absurd (cc read.0)
+
+-- ---- from round to round
+
+module _ (valid : Ask → Signed → Type 0) (vouched : Ask → List (List ℕ) → JwtToken → Type 0) (socket : ℕ) where
+  pub gathers_on : {old new : ServedState} {k l m : Option LinkLog} {before mid now : Around} {e : RoundEnd} {heards : List Heard} {took : List ℕ} {past : List Round} {signed : List SignerCall} {times : List ℕ}
+      → Gathers vouched socket k l before mid heards took past signed times → old.session ≡ session_after past → AreKnown mid.pass.seen past → (tells : RoundTells valid vouched socket old new l m mid now e)
+      → Gathers vouched socket k m before now (heards ++ tells.heards) (took ++ tells.took) (tells.added ++ past) (signed ++ tells.signed) (times ++ tells.times)
+  gathers_on {old} {new} {k} {l} {m} {before} {mid} {now} {e} {heards} {took} {past} {signed} {times} so_far session known tells =
+      let P = IsOutcome vouched (signed ++ tells.signed) (times ++ tells.times) in
+      record {
+        link = link_then k l m heards tells.heards took tells.took so_far.link tells.link;
+        attested = subst (λ (calls : List AttestorCall). GainsAll before.attested now.attested calls)
+            (sym (ap (attestor_calls socket) (answers_added tells.added past) ∙ map-append (attestor_call socket) (answers past) (answers tells.added)))
+            (gains_then before.attested mid.attested now.attested (attestor_calls socket (answers past)) (attestor_calls socket (answers tells.added)) so_far.attested tells.attested);
+        attestor_fails = subst (λ (much : ℕ). RoseBy much before.attestor_faults now.attestor_faults)
+            (sym (ap unanswered (answers_added tells.added past) ∙ unanswered_append (answers past) (answers tells.added)))
+            (rose_then before.attestor_faults mid.attestor_faults now.attestor_faults (unanswered (answers past)) (unanswered (answers tells.added)) so_far.attestor_fails tells.attestor_fails);
+        mine = mine_on valid tells.added past before.pass.mine mid.pass now.pass tells.read so_far.mine;
+        seen = prefix_then before.pass.seen mid.pass.seen now.pass.seen so_far.seen (seen_on valid tells.added mid.pass now.pass tells.read);
+        signs = gains_then before.signed mid.signed now.signed signed tells.signed so_far.signs tells.signs;
+        clock = ticked_then before.times mid.times now.times times tells.times so_far.clock tells.clock;
+        outcomes_are = outcomes_on valid P tells.added past old.session mid.pass now.pass session tells.read
+            (outcomes_by_such (IsOutcome vouched tells.signed tells.times) P
+            (outcome_grows vouched tells.signed (signed ++ tells.signed) tells.times (times ++ tells.times) (λ s is. in_back s signed tells.signed is) (λ s is. in_back s times tells.times is)) tells.added old.session tells.outcomes_are)
+            (outcomes_such (IsOutcome vouched signed times) P
+            (outcome_grows vouched signed (signed ++ tells.signed) times (times ++ tells.times) (λ s is. in_front s signed tells.signed is) (λ s is. in_front s times tells.times is)) past so_far.outcomes_are);
+        signer_fails = subst (λ (much : ℕ). RoseBy much before.signer_faults now.signer_faults)
+            (sym (ap unsigned (outcomes_added tells.added past) ∙ unsigned_append (outcomes past) (outcomes tells.added)))
+            (rose_then before.signer_faults mid.signer_faults now.signer_faults (unsigned (outcomes past)) (unsigned (outcomes tells.added)) so_far.signer_fails tells.signer_fails);
+        recent = λ p is. recent_on valid tells.added past mid.pass now.pass p tells.read known (known_longer p before.pass.seen mid.pass.seen so_far.seen is) (so_far.recent p is);
+      }
+
+  pub gathers_none : (k : Option LinkLog) (before : Around) → Gathers vouched socket k k before before [] [] [] [] []
+  gathers_none k before = record {
+    link = link_none k;
+    attested = gains_none before.attested;
+    attestor_fails = rose_none before.attestor_faults;
+    mine = sym (append-nil before.pass.mine);
+    seen = prefix_same before.pass.seen;
+    signs = gains_none before.signed;
+    clock = ticked_none before.times;
+    outcomes_are = tt;
+    signer_fails = rose_none before.signer_faults;
+    recent = λ p is. tt;
+  }
+
+  -- at the start
+  pub serving_none : (k : Option LinkLog) (before : Around) (served : ServedState) → served ≡ record { session = fresh_session; unsent = [] } → Serving vouched socket served k k before before
+  serving_none k before served is =
+      subst (λ (s : ServedState). Serving vouched socket s k k before before) (sym is)
+      (record {
+        heards = [];
+        took = [];
+        past = [];
+        signed = [];
+        times = [];
+        gathers = gathers_none k before;
+        stands = record { pieces = refl; session = refl; talked = sym nothing_talked; whole = tt; known = tt; rising = tt };
+      })
+
+  pub fresh_seen : (seen : List Publication) (served : ServedState) → served ≡ record { session = fresh_session; unsent = [] } → HasSeenLast seen served.session
+  fresh_seen seen served is = subst (λ (s : ServedState). HasSeenLast seen s.session) (sym is) tt
+
+  -- no room for a start
+  pub never_served : (k : Option LinkLog) (before : Around) → ConnectionTells vouched socket k k before before ended.Memory
+  never_served k before = record {
+    heards = [];
+    took = [];
+    past = [];
+    signed = [];
+    times = [];
+    gathers = gathers_none k before;
+    pieces_are = refl;
+    known = tt;
+    rising = tt;
+    came_to = ((talk [], refl), tt);
+  }
+
+  -- the connection goes on
+  pub serving_on : {old new : ServedState} {k l m : Option LinkLog} {before mid now : Around} → Serving vouched socket old k l before mid → RoundTells valid vouched socket old new l m mid now ends.On
+      → Serving vouched socket new k m before now
+  serving_on so_far tells = record {
+    heards = so_far.heards ++ tells.heards;
+    took = so_far.took ++ tells.took;
+    past = tells.added ++ so_far.past;
+    signed = so_far.signed ++ tells.signed;
+    times = so_far.times ++ tells.times;
+    gathers = gathers_on so_far.gathers so_far.stands.session so_far.stands.known tells;
+    stands = tells.goes_on (record { gave = so_far.heards; took = so_far.took }) so_far.past so_far.stands;
+  }
+
+  pub serving_later : {old new : ServedState} {k l m : Option LinkLog} {before mid now : Around} → Serving vouched socket old k l before mid → RoundTells valid vouched socket old new l m mid now ends.Later
+      → Serving vouched socket new k m before now
+  serving_later so_far tells = record {
+    heards = so_far.heards ++ tells.heards;
+    took = so_far.took ++ tells.took;
+    past = tells.added ++ so_far.past;
+    signed = so_far.signed ++ tells.signed;
+    times = so_far.times ++ tells.times;
+    gathers = gathers_on so_far.gathers so_far.stands.session so_far.stands.known tells;
+    stands = tells.goes_on (record { gave = so_far.heards; took = so_far.took }) so_far.past so_far.stands;
+  }
+
+  pub serving_still : {old new : ServedState} {k l m : Option LinkLog} {before mid now : Around} (e : RoundEnd) → ((x : Ended) → e ≡ ends.Ended x → ⊥) → Serving vouched socket old k l before mid
+      → RoundTells valid vouched socket old new l m mid now e → Serving vouched socket new k m before now
+  serving_still ends.On never so_far tells = serving_on so_far tells
+  serving_still ends.Later never so_far tells = serving_later so_far tells
+  serving_still (ends.Ended x) never so_far tells = absurd (never x refl)
+
+  -- ---- the end
+
+  all_taken : (log : LinkLog) (s : ServedState) (seen : List Publication) (past : List Round) → s.unsent ≡ [] → Stands log s seen past → log.took ≡ talk (trace past)
+  all_taken log s seen past none stands = sym (append-nil log.took) ∙ (ap (λ (xs : List ℕ). log.took ++ xs) (sym none) ∙ stands.talked)
+
+  each_read : (log : LinkLog) (s : ServedState) (seen : List Publication) (past : List Round) → failure_in s.session ≡ None → Stands log s seen past → length (numbers past) ≡ length (pieces_given log.gave)
+  each_read log s seen past goes stands = all_read past stands.whole (ap failure_in (sym stands.session) ∙ goes) ∙ ap length (sym stands.pieces)
+
+  -- the link gave its end, or the session is done
+  ended_so : (heards more : List Heard) (b c : Bool) → b ≡ c → (GaveEnd (heards ++ more) ⊎ (b ≡ true)) → GaveEnd (heards ++ more) ⊎ (c ≡ true)
+  ended_so heards more b c same (inl gave) = inl gave
+  ended_so heards more b c same (inr done) = inr (sym same ∙ done)
+
+  gave_end : {A B : Type 0} (heards more : List Heard) (b : Bool) → (((more ≡ heard.End ∷ []) × A) ⊎ ((b ≡ true) × B)) → GaveEnd (heards ++ more) ⊎ (b ≡ true)
+  gave_end heards more b (inl gave) = inl (heards, ap (λ (hs : List Heard). heards ++ hs) gave.0)
+  gave_end heards more b (inr done) = inr done.0
+
+  -- it broke off
+  broke : {old new : ServedState} {k l m : Option LinkLog} {before mid now : Around} (e : Ended) (so_far : Serving vouched socket old k l before mid) (tells : RoundTells valid vouched socket old new l m mid now (ends.Ended e))
+      → Began (record { gave = so_far.heards ++ tells.heards; took = so_far.took ++ tells.took }) now.pass.seen (tells.added ++ so_far.past)
+      → (BeginsWith (talk (trace (tells.added ++ so_far.past))) (so_far.took ++ tells.took) → AreRounds (tells.added ++ so_far.past) → CameTo e (so_far.heards ++ tells.heards) (so_far.took ++ tells.took) (tells.added ++ so_far.past))
+      → ConnectionTells vouched socket k m before now e
+  broke e so_far tells began came = record {
+    heards = so_far.heards ++ tells.heards;
+    took = so_far.took ++ tells.took;
+    past = tells.added ++ so_far.past;
+    signed = so_far.signed ++ tells.signed;
+    times = so_far.times ++ tells.times;
+    gathers = gathers_on so_far.gathers so_far.stands.session so_far.stands.known tells;
+    pieces_are = began.pieces;
+    known = began.known;
+    rising = began.rising;
+    came_to = came began.part began.rounds;
+  }
+
+  pub ends_serving : {old new : ServedState} {k l m : Option LinkLog} {before mid now : Around} (e : Ended) → Serving vouched socket old k l before mid → RoundTells valid vouched socket old new l m mid now (ends.Ended e)
+      → ConnectionTells vouched socket k m before now e
+  ends_serving {old} {new} {k} {l} {m} {before} {mid} {now} ended.Closed so_far tells =
+      let log : LinkLog = record { gave = so_far.heards ++ tells.heards; took = so_far.took ++ tells.took } in
+      let past = tells.added ++ so_far.past in
+      let stands : Stands log new now.pass.seen past = tells.goes_on (record { gave = so_far.heards; took = so_far.took }) so_far.past so_far.stands in
+      record {
+        heards = so_far.heards ++ tells.heards;
+        took = so_far.took ++ tells.took;
+        past = past;
+        signed = so_far.signed ++ tells.signed;
+        times = so_far.times ++ tells.times;
+        gathers = gathers_on so_far.gathers so_far.stands.session so_far.stands.known tells;
+        pieces_are = stands.pieces;
+        known = stands.known;
+        rising = stands.rising;
+        came_to = (
+          all_taken log new now.pass.seen past tells.end_is.0 stands,
+          stands.whole,
+          each_read log new now.pass.seen past tells.end_is.1 stands,
+          ended_so so_far.heards tells.heards (is_done_in new.session) (is_done_in (session_after past)) (ap is_done_in stands.session) (gave_end so_far.heards tells.heards (is_done_in new.session) tells.end_is.2),
+        );
+      }
+  ends_serving {old} {new} {k} {l} {m} {before} {mid} {now} (ended.Protocol f) so_far tells =
+      let log : LinkLog = record { gave = so_far.heards ++ tells.heards; took = so_far.took ++ tells.took } in
+      let past = tells.added ++ so_far.past in
+      let stands : Stands log new now.pass.seen past = tells.goes_on (record { gave = so_far.heards; took = so_far.took }) so_far.past so_far.stands in
+      let fails : failure_in (session_after past) ≡ Some (faults.Protocol f) = ap failure_in (sym stands.session) ∙ tells.end_is.1 in
+      record {
+        heards = so_far.heards ++ tells.heards;
+        took = so_far.took ++ tells.took;
+        past = past;
+        signed = so_far.signed ++ tells.signed;
+        times = so_far.times ++ tells.times;
+        gathers = gathers_on so_far.gathers so_far.stands.session so_far.stands.known tells;
+        pieces_are = stands.pieces;
+        known = stands.known;
+        rising = stands.rising;
+        came_to = (
+          all_taken log new now.pass.seen past tells.end_is.0 stands,
+          stands.whole,
+          one_unread past (faults.Protocol f) stands.whole fails ∙ ap length (sym stands.pieces),
+          fails,
+        );
+      }
+  ends_serving {old} {new} {k} {l} {m} {before} {mid} {now} ended.ReadFault so_far tells =
+      let log : LinkLog = record { gave = so_far.heards ++ tells.heards; took = so_far.took ++ tells.took } in
+      let past = tells.added ++ so_far.past in
+      let stands : Stands log new now.pass.seen past = tells.goes_on (record { gave = so_far.heards; took = so_far.took }) so_far.past so_far.stands in
+      record {
+        heards = so_far.heards ++ tells.heards;
+        took = so_far.took ++ tells.took;
+        past = past;
+        signed = so_far.signed ++ tells.signed;
+        times = so_far.times ++ tells.times;
+        gathers = gathers_on so_far.gathers so_far.stands.session so_far.stands.known tells;
+        pieces_are = stands.pieces;
+        known = stands.known;
+        rising = stands.rising;
+        came_to = (all_taken log new now.pass.seen past tells.end_is.0 stands, stands.whole, each_read log new now.pass.seen past tells.end_is.1 stands);
+      }
+  ends_serving ended.WriteFault so_far tells = broke ended.WriteFault so_far tells (tells.goes_on (record { gave = so_far.heards; took = so_far.took }) so_far.past so_far.stands) (λ part rounds. (part, rounds))
+  ends_serving ended.Memory so_far tells = broke ended.Memory so_far tells (tells.goes_on (record { gave = so_far.heards; took = so_far.took }) so_far.past so_far.stands) (λ part rounds. (part, rounds))

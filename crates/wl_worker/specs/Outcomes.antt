@@ -1,0 +1,62 @@
+-- What becomes of an ask for a token, and counts of failures (own rules).
+use Rattle.std.specs.Prelude.{◌≡◌, ◌⊎◌, ◌+◌, ℕ, true, List, [], ◌∷◌, ◌++◌, map, Option, Some, None, IfSome, IsSomeAnd}
+use Rattle.wl_selector.specs.Selectors.{sorted_texts}
+use Rattle.wl_entry.specs.Fitness.{token_unfit, is_still_fresh}
+use Rattle.wl_entry.specs.declared.asks.Ask.{Ask}
+use Rattle.wl_entry.specs.declared.tokens.JwtToken.{JwtToken}
+use Rattle.wl_edge.specs.declared.attestor.AttestorCall.{AttestorCall}
+use Rattle.wl_edge.specs.declared.signer.SignerCall.{SignerCall}
+use Rattle.wl_edge.specs.declared.signer.SignerCall.TheVariants as calls
+use Rattle.wl_session.specs.declared.asks.JwtAsk.{JwtAsk}
+use Rattle.wl_session.specs.declared.asks.JwtOutcome.{JwtOutcome}
+use Rattle.wl_session.specs.declared.asks.JwtOutcome.TheVariants as outcomes
+use Rattle.wl_worker.specs.Rounds.{IsIn}
+
+-- ---- counts of failures
+
+-- how many answers of the attestor are failures
+abbrev pub unanswered : List (Option (List (List ℕ))) → ℕ
+unanswered [] = 0
+unanswered (None ∷ more) = 1 + unanswered more
+unanswered (Some selectors ∷ more) = unanswered more
+
+-- how many outcomes are that the signer failed
+abbrev pub unsigned : List JwtOutcome → ℕ
+unsigned [] = 0
+unsigned (outcomes.Token t ∷ more) = unsigned more
+unsigned (outcomes.Failed ∷ more) = 1 + unsigned more
+unsigned (outcomes.Unfit u ∷ more) = unsigned more
+
+-- ---- lists that are told
+
+-- a list that is told gained these
+abbrev pub GainsAll : {C : Type 0} → Option (List C) → Option (List C) → List C → Type 0
+GainsAll {C} old new more = IfSome old (λ before. new ≡ Some (before ++ more))
+
+-- a clock, which may end its telling, answered these times
+abbrev pub Ticked : Option (List ℕ) → Option (List ℕ) → List ℕ → Type 0
+Ticked old new times = IfSome new (λ after. IsSomeAnd old (λ before. after ≡ before ++ times))
+
+-- the calls to an attestor for a socket, with these answers
+abbrev pub attestor_call : ℕ → Option (List (List ℕ)) → AttestorCall
+attestor_call socket answer = record { socket = socket; answer = answer }
+
+abbrev pub attestor_calls : ℕ → List (Option (List (List ℕ))) → List AttestorCall
+attestor_calls socket answers = map (attestor_call socket) answers
+
+-- ---- what an ask gets
+
+-- the signer was asked for a token for this ask and its audiences, and answered so
+abbrev pub WasSigned : List SignerCall → JwtAsk → Option JwtToken → Type 0
+WasSigned signed a answer = IsIn (calls.Jwt a.ask a.audience answer) signed
+
+-- The outcome of an ask, where the signer got these calls, the clock answered these times, and tokens are
+-- vouched for in this way: the signer's answer to that very ask, judged at one of the times; or a vouched
+-- token that is still fresh then; or that the signer failed.
+abbrev pub IsOutcome : (Ask → List (List ℕ) → JwtToken → Type 0) → List SignerCall → List ℕ → JwtAsk → JwtOutcome → Type 0
+IsOutcome vouched signed times a (outcomes.Token t) =
+    vouched a.ask (sorted_texts a.audience) t
+    × ((now : ℕ) × IsIn now times × ((WasSigned signed a (Some t) × (token_unfit now t ≡ None)) ⊎ (is_still_fresh now t ≡ true)))
+IsOutcome vouched signed times a (outcomes.Unfit u) =
+    (now : ℕ) × IsIn now times × ((t : JwtToken) × WasSigned signed a (Some t) × (token_unfit now t ≡ Some u))
+IsOutcome vouched signed times a outcomes.Failed = WasSigned signed a None

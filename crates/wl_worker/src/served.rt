@@ -1,0 +1,168 @@
+//! A served connection.
+
+ghost use Rattle.std.specs.Prelude.{◌≡◌, ◌<◌, ◌≤◌, [], IfOk, vec_len};
+ghost use Rattle.wl_edge.specs.Edge.{Rose};
+ghost use Rattle.wl_session.specs.Sessions.{fresh_session};
+ghost use Rattle.wl_worker.specs.Sending.{IsDue, Settles, end_of};
+ghost use Rattle.wl_worker.specs.Served.{RoundTells, around, HasSeenLast};
+
+use crate::ended::{Ended, RoundEnd};
+use crate::flush::{Flushed, flush};
+use crate::stepping::hear_and_step;
+use std::alloc::Global;
+use std::marker::Model;
+use std::sync::{Mutex, Wait};
+use wl_desk::Desk;
+use wl_edge::{Attestor, Clock, Gate, Link, Signer};
+use wl_octets::{Memory, Octets};
+use wl_publish::Pass;
+use wl_session::{Session, SessionFault};
+
+/// How many bytes one receive may give.
+const PIECE_LIMIT: usize = 16_384;
+
+/// A served connection. A contract sees its session, and what that wrote and the link did not take yet.
+#[derive(Drop)]
+pub struct Served {
+    alloc: Global,
+    session: Session,
+    buffer: Vec<u8>,
+    /// What the last step wrote.
+    written: Octets,
+    /// How many bytes of it the link took.
+    sent: usize,
+}
+
+impl Model for Served {
+    ghost use Rattle.std.specs.Prelude.{◌<◌, ◌≤◌, length, drop, vec_len};
+    ghost use Rattle.wl_worker.specs.Served.{ServedState};
+
+    ghost Value = { ServedState };
+
+    ghost view = { λ s. record { session = s.session; unsent = drop s.sent s.written } };
+
+    ghost invariant = { λ s. (0 < vec_len s.buffer) × (s.sent ≤ length s.written) };
+}
+
+/// The end that a session is due to, once nothing is unsent.
+fn due(session: &Session) -> Option<Ended>
+    ensures { IsDue session.now result }
+{
+    match session.failure() {
+        Some(SessionFault::Protocol(fault)) => Some(Ended::Protocol(fault)),
+        Some(SessionFault::Memory) => Some(Ended::Memory),
+        None if session.is_done() => Some(Ended::Closed),
+        None => None,
+    }
+}
+
+/// What a receive is lent.
+fn buffer(alloc: Global) -> Result<Vec<u8>, Memory>
+    ensures { IfOk result (λ b. 0 < vec_len b) }
+{
+    Ok(vec![in alloc; 0; PIECE_LIMIT]?)
+}
+
+impl Served {
+    /// A connection of which no round was taken.
+    pub fn start(alloc: Global) -> Result<Served, Memory>
+        ensures { IfOk result (λ s. s ≡ record { session = fresh_session; unsent = [] }) }
+    {
+        Ok(Served {
+            alloc,
+            session: Session::start(alloc)?,
+            buffer: buffer(alloc)?,
+            written: Octets::empty(alloc),
+            sent: 0,
+        })
+    }
+
+    /// Sends what is unsent, as far as the link takes it: the end that is due then, or `Later`, or that a
+    /// sending failed.
+    fn settle<L: Link>(&mut self, link: &mut L) -> Option<RoundEnd>
+        ensures settles { Settles self.old self.new (L.told link.old) (L.told link.new) result }
+        ensures later { result ≡ Some RoundEnd.Later → Rose (L.stalls link.old) (L.stalls link.new) }
+        ensures failed { result ≡ Some (RoundEnd.Ended Ended.WriteFault)
+            → Rose (L.failed_sends link.old) (L.failed_sends link.new) }
+        ensures sends { L.failed_sends link.old ≤ L.failed_sends link.new }
+        ensures stalls { L.stalls link.old ≤ L.stalls link.new }
+        ensures receives { L.failed_receives link.new ≡ L.failed_receives link.old }
+    {
+        let (count, flushed) = flush(link, self.written.as_slice().split_at(self.sent).1);
+        self.sent += count;
+        match flushed {
+            Flushed::Later => Some(RoundEnd::Later),
+            Flushed::Failed => Some(RoundEnd::Ended(Ended::WriteFault)),
+            Flushed::All => match due(&self.session) {
+                Some(end) => Some(RoundEnd::Ended(end)),
+                None => None,
+            },
+        }
+    }
+
+    /// One round. First it sends what is unsent, and answers `Later` where the link takes nothing for now,
+    /// or the end that is due. Else it receives once; feeds what came; has each call attested that became
+    /// ready; passes the point before turns; reads the pass; takes the turn; answers each ask that waits;
+    /// and sends what was written. What the link does not take stays unsent.
+    ///
+    /// An end other than `WriteFault` and `Memory` is answered once all that is due was sent; after an end
+    /// no round is to be taken. What the pass has seen has to begin with what it had seen at the end of the
+    /// last round.
+    pub fn round<L: Link, A: Attestor, S: Signer, C: Clock, G: Gate, R: Wait>(
+        &mut self,
+        rt: &R,
+        desk: &Mutex<Desk<S::V>>,
+        pass: &mut Pass<S::V>,
+        link: &mut L,
+        socket: u32,
+        attestor: &mut A,
+        signer: &mut S,
+        clock: &mut C,
+        gate: &G,
+    ) -> RoundEnd
+        // The publication of the last turn is one of those that the pass has seen.
+        requires { HasSeenLast pass.old.seen self.old.session }
+        ensures tells { RoundTells S.V.signed S.V.token socket self.old self.new (L.told link.old)
+            (L.told link.new)
+            (around (A.calls attestor.old) (A.faults attestor.old) (S.calls signer.old) (S.faults signer.old)
+            (C.answers clock.old) pass.old)
+            (around (A.calls attestor.new) (A.faults attestor.new) (S.calls signer.new) (S.faults signer.new)
+            (C.answers clock.new) pass.new)
+            result }
+        ensures seen { HasSeenLast pass.new.seen self.new.session }
+        ensures later { result ≡ RoundEnd.Later → Rose (L.stalls link.old) (L.stalls link.new) }
+        ensures read_fault { result ≡ RoundEnd.Ended Ended.ReadFault
+            → Rose (L.failed_receives link.old) (L.failed_receives link.new) }
+        ensures write_fault { result ≡ RoundEnd.Ended Ended.WriteFault
+            → Rose (L.failed_sends link.old) (L.failed_sends link.new) }
+        ensures receives { L.failed_receives link.old ≤ L.failed_receives link.new }
+        ensures sends { L.failed_sends link.old ≤ L.failed_sends link.new }
+        ensures stalls { L.stalls link.old ≤ L.stalls link.new }
+    {
+        if let Some(end) = self.settle(link) {
+            return end;
+        }
+        let mut out = Octets::empty(self.alloc);
+        let buffer = self.buffer.as_mut_slice();
+        let session = &mut self.session;
+        if let Err(end) = hear_and_step(
+            rt, self.alloc, desk, pass, link, socket, attestor, signer, clock, gate, session,
+            buffer, &mut out,
+        ) {
+            return RoundEnd::Ended(end);
+        }
+        self.written = out;
+        self.sent = 0;
+        end_of(self.settle(link))
+    }
+}
+
+/// The end of a round that had a piece. Where the link takes nothing for now the connection goes on.
+fn end_of(sent: Option<RoundEnd>) -> RoundEnd
+    ensures { result ≡ end_of sent }
+{
+    match sent {
+        None | Some(RoundEnd::Later) => RoundEnd::On,
+        Some(end) => end,
+    }
+}

@@ -1,0 +1,115 @@
+//! One round of the trace: a piece, names, a turn, and tokens.
+
+ghost use Rattle.std.specs.Prelude.{◌≡◌, ◌<◌, ◌≤◌, None, Err, length};
+ghost use Rattle.wl_edge.specs.Edge.{Rose};
+ghost use Rattle.wl_session.specs.Sessions.{unnamed_in};
+ghost use Rattle.wl_session.specs.Settled.{MayTurn};
+ghost use Rattle.wl_worker.specs.Served.{around, HasSeenLast};
+ghost use Rattle.wl_worker.specs.Stepping.{TurnTells, StepTells, HearTells};
+
+use crate::ended::Ended;
+use crate::hearing::hear;
+use crate::naming::attest_all;
+use crate::outcomes::answer_all;
+use std::alloc::Global;
+use std::sync::{Mutex, Wait};
+use wl_desk::Desk;
+use wl_edge::{Attestor, BEFORE_TURN, Clock, Gate, Link, Signer};
+use wl_octets::{Memory, Octets};
+use wl_publish::{Edition, Pass};
+use wl_session::{Session, SessionFault};
+
+/// A turn on the publication that was read, by the index of its entries.
+fn take_turn(session: &mut Session, edition: &Edition, out: &mut Octets) -> Result<(), Memory>
+    requires follows { MayTurn edition.now session.old }
+    requires named { unnamed_in session.old ≡ None }
+    ensures { TurnTells edition.now session.old session.new out.old out.new result }
+{
+    match session.turn_by(edition.snapshot(), edition.index(), out) {
+        Ok(()) => Ok(()),
+        Err(_) => Err(Memory),
+    }
+}
+
+/// Feeds what came, has each call attested that became ready, reads the last publication, takes the turn,
+/// and answers each ask that waits. Where the talk fails there is no turn. What is to be sent is put behind
+/// `out`; out of memory that is of no use.
+pub fn step<A: Attestor, S: Signer, C: Clock, G: Gate, R: Wait>(
+    rt: &R,
+    alloc: Global,
+    desk: &Mutex<Desk<S::V>>,
+    pass: &mut Pass<S::V>,
+    socket: u32,
+    attestor: &mut A,
+    signer: &mut S,
+    clock: &mut C,
+    gate: &G,
+    piece: &[u8],
+    session: &mut Session,
+    out: &mut Octets,
+) -> Result<(), Memory>
+    requires { HasSeenLast pass.old.seen session.old }
+    ensures { StepTells S.V.signed S.V.token socket piece.now session.old session.new out.old out.new
+        (around (A.calls attestor.old) (A.faults attestor.old) (S.calls signer.old) (S.faults signer.old)
+        (C.answers clock.old) pass.old)
+        (around (A.calls attestor.new) (A.faults attestor.new) (S.calls signer.new) (S.faults signer.new)
+        (C.answers clock.new) pass.new)
+        result }
+{
+    match session.feed(piece, out) {
+        Ok(()) => {}
+        Err(SessionFault::Protocol(_)) => return Ok(()),
+        Err(SessionFault::Memory) => return Err(Memory),
+    }
+    attest_all(socket, attestor, session, out)?;
+    gate.pass(BEFORE_TURN);
+    let edition = pass.read()?;
+    take_turn(session, &edition, out)?;
+    answer_all(rt, alloc, desk, signer, clock, session, out)?;
+    Ok(())
+}
+
+/// Hears the link once, and takes a step with what came. `Closed` and `ReadFault` are of the link; then
+/// nothing else is done.
+pub fn hear_and_step<L: Link, A: Attestor, S: Signer, C: Clock, G: Gate, R: Wait>(
+    rt: &R,
+    alloc: Global,
+    desk: &Mutex<Desk<S::V>>,
+    pass: &mut Pass<S::V>,
+    link: &mut L,
+    socket: u32,
+    attestor: &mut A,
+    signer: &mut S,
+    clock: &mut C,
+    gate: &G,
+    session: &mut Session,
+    buffer: &mut [u8],
+    out: &mut Octets,
+) -> Result<(), Ended>
+    requires seen { HasSeenLast pass.old.seen session.old }
+    requires room { 0 < length buffer.old }
+    ensures tells { HearTells S.V.signed S.V.token socket session.old session.new out.old out.new
+        (L.told link.old) (L.told link.new)
+        (around (A.calls attestor.old) (A.faults attestor.old) (S.calls signer.old) (S.faults signer.old)
+        (C.answers clock.old) pass.old)
+        (around (A.calls attestor.new) (A.faults attestor.new) (S.calls signer.new) (S.faults signer.new)
+        (C.answers clock.new) pass.new)
+        result }
+    ensures failed { result ≡ Err Ended.ReadFault
+        → Rose (L.failed_receives link.old) (L.failed_receives link.new) }
+    ensures receives { L.failed_receives link.old ≤ L.failed_receives link.new }
+    ensures sends { L.failed_sends link.new ≡ L.failed_sends link.old }
+    ensures stalls { L.stalls link.new ≡ L.stalls link.old }
+{
+    let count = match hear(link, buffer) {
+        Ok(count) => count,
+        Err(end) => return Err(end),
+    };
+    let piece = buffer.split_at(count).0;
+    match step(
+        rt, alloc, desk, pass, socket, attestor, signer, clock, gate, piece, session, out,
+    ) {
+        Ok(()) => Ok(()),
+        Err(Memory) => Err(Ended::Memory),
+    }
+}
