@@ -1,0 +1,7 @@
+//! Limits of a script.
+
+/// The most bytes of a script.
+pub const SCRIPT_LIMIT: usize = 16_777_216;
+
+/// The most selectors of a caller, repeats counted.
+pub const MAX_CALLER_SELECTORS: usize = 256;

@@ -1,0 +1,75 @@
+//! Numbers in decimal.
+
+ghost use Rattle.std.specs.Prelude.{◌≡◌, ◌++◌, ◌∷◌, [], ◌-◌, OnOk};
+ghost use Rattle.std.specs.Fmt.{decimal};
+ghost use Rattle.fault_lines.specs.Lines.{spaced, spaced_all};
+ghost use Rattle.fault_lines.specs.Numbers.{digits_after};
+ghost use Rattle.wl_replay.specs.Words.{number_in};
+
+use std::string::ToString;
+use wl_octets::Memory;
+
+/// Appends a number.
+pub fn put_decimal(out: &mut Vec<u8>, number: u64) -> Result<(), Memory>
+    ensures { OnOk result (out.new.items ≡ out.old.items ++ decimal number) }
+{
+    let text = number.to_string(*out.allocator())?;
+    out.extend_from_slice(text.as_bytes())?;
+    Ok(())
+}
+
+/// Appends a number behind a space.
+pub fn put_spaced(out: &mut Vec<u8>, number: u64) -> Result<(), Memory>
+    ensures { OnOk result (out.new.items ≡ out.old.items ++ spaced number) }
+{
+    out.push(b' ')?;
+    put_decimal(out, number)
+}
+
+/// Appends each number behind a space.
+#[tactic(auto, unfolding(fault_lines::specs::Lines::spaced_all))]
+pub fn put_all(out: &mut Vec<u8>, numbers: &[u64]) -> Result<(), Memory>
+    ensures { OnOk result (out.new.items ≡ out.old.items ++ spaced_all numbers.now) }
+{
+    for number in numbers {
+        put_spaced(out, *number)?;
+    }
+    Ok(())
+}
+
+/// The number after one digit more, where it is below 2^64.
+fn more(number: u64, byte: u8) -> Option<u64>
+    ensures { result ≡ digits_after number (byte ∷ []) }
+{
+    if !byte.is_ascii_digit() {
+        return None;
+    }
+    number.checked_mul(10)?.checked_add(u64::from(byte - b'0'))
+}
+
+/// The number that these digits write.
+fn digits(word: &[u8]) -> Option<u64>
+    ensures { result ≡ digits_after 0 word.now }
+{
+    let mut number: u64 = 0;
+    let mut rest = word;
+    'digits: while let Some((byte, after)) = rest.split_first() {
+        match more(number, *byte) {
+            Some(next) => number = next,
+            None => return None,
+        }
+        rest = after;
+    }
+    Some(number)
+}
+
+/// The number that a word is, leading zeros allowed.
+#[tactic(auto, unfolding(crate::specs::Words::number_in))]
+pub(crate) fn number_in(word: &[u8]) -> Option<u64>
+    ensures { result ≡ number_in word.now }
+{
+    match word {
+        [] => None,
+        _ => digits(word),
+    }
+}
