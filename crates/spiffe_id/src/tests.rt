@@ -115,29 +115,59 @@ fn domain_length(rt: HostRuntime) -> Result<(), Fail> {
     Ok(())
 }
 
+/// Whether a text is an id with this trust domain name and this path.
+fn has_parts(alloc: Global, text: &[u8], domain: &[u8], path: &[u8]) -> Result<bool, Fail> {
+    let id = SpiffeId::parse(alloc, text)?;
+    Ok(id.domain() == domain && id.path() == path)
+}
+
 #[test]
 fn parts_of_ids(rt: HostRuntime) -> Result<(), Fail> {
-    let alloc = rt.alloc();
-    let long = SpiffeId::parse(alloc, b"spiffe://a.b/c/d")?;
-    assert_eq!(rt; long.domain(), b"a.b".as_slice());
-    assert_eq!(rt; long.path(), b"/c/d".as_slice());
-    let short = SpiffeId::parse(alloc, b"spiffe://a.b")?;
-    assert_eq!(rt; short.domain(), b"a.b".as_slice());
-    assert_eq!(rt; short.path(), b"".as_slice());
-    assert!(rt; long.copy(alloc)? == long);
-    assert!(rt; long != short);
-    assert_eq!(rt; short.cmp(&long), Ordering::Less);
+    assert!(rt; has_parts(rt.alloc(), b"spiffe://a.b/c/d", b"a.b", b"/c/d")?);
+    assert!(rt; has_parts(rt.alloc(), b"spiffe://a.b", b"a.b", b"")?);
     Ok(())
 }
 
 #[test]
+fn copy_of_an_id(rt: HostRuntime) -> Result<(), Fail> {
+    let id = SpiffeId::parse(rt.alloc(), b"spiffe://a.b/c")?;
+    let copy = id.copy(rt.alloc())?;
+    assert!(rt; copy == id);
+    Ok(())
+}
+
+/// How two ids are ordered.
+fn order_of_ids(alloc: Global, first: &[u8], second: &[u8]) -> Result<Ordering, Fail> {
+    let first = SpiffeId::parse(alloc, first)?;
+    let second = SpiffeId::parse(alloc, second)?;
+    Ok(first.cmp(&second))
+}
+
+#[test]
+fn ids_in_order(rt: HostRuntime) -> Result<(), Fail> {
+    let order = order_of_ids(rt.alloc(), b"spiffe://a.b", b"spiffe://a.b/c/d")?;
+    assert_eq!(rt; order, Ordering::Less);
+    Ok(())
+}
+
+#[test]
+fn copy_of_a_name(rt: HostRuntime) -> Result<(), Fail> {
+    let name = TrustDomain::parse(rt.alloc(), b"a")?;
+    let copy = name.copy(rt.alloc())?;
+    assert!(rt; copy == name);
+    Ok(())
+}
+
+/// How two names are ordered, and whether they are equal.
+fn order_of_names(alloc: Global, first: &[u8], second: &[u8]) -> Result<(Ordering, bool), Fail> {
+    let first = TrustDomain::parse(alloc, first)?;
+    let second = TrustDomain::parse(alloc, second)?;
+    Ok((first.cmp(&second), first == second))
+}
+
+#[test]
 fn names_in_order(rt: HostRuntime) -> Result<(), Fail> {
-    let alloc = rt.alloc();
-    let a = TrustDomain::parse(alloc, b"a")?;
-    let b = TrustDomain::parse(alloc, b"b")?;
-    assert!(rt; a.copy(alloc)? == a);
-    assert!(rt; a != b);
-    assert_eq!(rt; a.cmp(&b), Ordering::Less);
-    assert_eq!(rt; b.partial_cmp(&a), Some(Ordering::Greater));
+    assert!(rt; order_of_names(rt.alloc(), b"a", b"b")? == (Ordering::Less, false));
+    assert!(rt; order_of_names(rt.alloc(), b"b", b"a")? == (Ordering::Greater, false));
     Ok(())
 }

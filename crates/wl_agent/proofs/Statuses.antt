@@ -7,13 +7,17 @@ use Rattle.wl_document.specs.States.{State}
 use Rattle.wl_document.specs.Documents.{document_state}
 use Rattle.wl_snapshot.specs.declared.answers.Answer.{Answer}
 use Rattle.wl_snapshot.specs.declared.answers.Answer.TheVariants.{Denied, Wait, TooLong, Message}
+use Rattle.wl_replay.specs.declared.fault.ScriptFault.{ScriptFault}
+use Rattle.wl_replay.specs.declared.script.Script.{Script}
+use Rattle.wl_replay.specs.Scripts.{script_of}
+use Rattle.wl_replay.specs.Replays.{replayed}
 use Rattle.wl_agent.specs.declared.command.Command.{Command}
-use Rattle.wl_agent.specs.declared.command.Command.TheVariants.{Preview, Check}
-use Rattle.wl_agent.specs.Outcomes.{answer_outcome, preview_outcome, check_outcome, outcome_of, preview_answer}
+use Rattle.wl_agent.specs.declared.command.Command.TheVariants.{Preview, Check, Replay}
+use Rattle.wl_agent.specs.Outcomes.{answer_outcome, preview_outcome, check_outcome, script_outcome, transcript_outcome, outcome_of, preview_answer}
 use Rattle.wl_agent.specs.declared.outcome.Outcome.{Outcome}
 use Rattle.wl_agent.specs.declared.program.TheConstants.{READ_LIMIT}
 use Rattle.wl_agent.specs.declared.status.TheConstants.{READ_FAILED, WRITE_FAILED, OUT_OF_MEMORY}
-use Rattle.wl_agent.specs.Ends.{Traffic, Wrote, IsOutcome, Ends, StatusExplains, StatusGiven, lacks_memory, fails_read, fails_write, ends_well, previewed, checked, unfit, faulted, denied, waits, long, unread, unwritten, memory}
+use Rattle.wl_agent.specs.Ends.{Traffic, Wrote, IsOutcome, Ends, StatusExplains, StatusGiven, lacks_memory, fails_read, fails_write, ends_well, previewed, checked, replayed_script, unfit, faulted, misread, misbegun, denied, waits, long, unread, unwritten, memory}
 
 -- the output of an answer explains its status
 answered : (selectors : List (List ℕ)) (t : Traffic) (document : List ℕ) → Drained t.content READ_LIMIT document → (s : State) → document_state None document ≡ Ok s → (a : Answer) → preview_answer selectors s ≡ a → Wrote t (answer_outcome a).output → StatusExplains (Some (Preview selectors)) t (answer_outcome a).status
@@ -24,21 +28,30 @@ answered selectors t document read s has (Message m) is gained = previewed m (re
 
 previewing : (selectors : List (List ℕ)) (t : Traffic) (document : List ℕ) → Drained t.content READ_LIMIT document → (r : Result State DocFault) → document_state None document ≡ r → Wrote t (preview_outcome selectors r).output → StatusExplains (Some (Preview selectors)) t (preview_outcome selectors r).status
 previewing selectors t document read (Ok s) has gained = answered selectors t document read s has (preview_answer selectors s) refl gained
-previewing selectors t document read (Err e) has gained = faulted e (record { fits = refl; document = document; read = read; first = has }) gained
+previewing selectors t document read (Err e) has gained = faulted e (record { fits = tt; document = document; read = read; first = has }) gained
 
 checking : (t : Traffic) (document : List ℕ) → Drained t.content READ_LIMIT document → (r : Result State DocFault) → document_state None document ≡ r → Wrote t (check_outcome r).output → StatusExplains (Some Check) t (check_outcome r).status
 checking t document read (Ok s) has gained = checked s (record { checks = refl; document = document; read = read; has = has }) gained
-checking t document read (Err e) has gained = faulted e (record { fits = refl; document = document; read = read; first = has }) gained
+checking t document read (Err e) has gained = faulted e (record { fits = tt; document = document; read = read; first = has }) gained
 
-on_document : (c : Command) (t : Traffic) (document : List ℕ) → Drained t.content READ_LIMIT document → Wrote t (outcome_of c document).output → StatusExplains (Some c) t (outcome_of c document).status
+begun : (t : Traffic) (input : List ℕ) → Drained t.content READ_LIMIT input → (s : Script) → script_of input ≡ Ok s → (r : Result (List ℕ) DocFault) → replayed s ≡ r → Wrote t (transcript_outcome r).output → StatusExplains (Some Replay) t (transcript_outcome r).status
+begun t input read s is (Ok text) has gained = replayed_script s text (record { replays = refl; input = input; read = read; says = is }) has gained
+begun t input read s is (Err e) has gained = misbegun s e (record { replays = refl; input = input; read = read; says = is }) has gained
+
+replaying : (t : Traffic) (input : List ℕ) → Drained t.content READ_LIMIT input → (r : Result Script ScriptFault) → script_of input ≡ r → Wrote t (script_outcome r).output → StatusExplains (Some Replay) t (script_outcome r).status
+replaying t input read (Ok s) is gained = begun t input read s is (replayed s) refl gained
+replaying t input read (Err e) is gained = misread e (record { replays = refl; input = input; read = read; says = is }) gained
+
+on_input : (c : Command) (t : Traffic) (document : List ℕ) → Drained t.content READ_LIMIT document → Wrote t (outcome_of c document).output → StatusExplains (Some c) t (outcome_of c document).status
 unfolding outcome_of
-on_document (Preview selectors) t document read gained = previewing selectors t document read (document_state None document) refl gained
-on_document Check t document read gained = checking t document read (document_state None document) refl gained
+on_input (Preview selectors) t document read gained = previewing selectors t document read (document_state None document) refl gained
+on_input Check t document read gained = checking t document read (document_state None document) refl gained
+on_input Replay t input read gained = replaying t input read (script_of input) refl gained
 
 explains_done : (command : Option Command) (t : Traffic) (outcome : Outcome) → IsOutcome command t.content outcome → Wrote t outcome.output → StatusExplains command t outcome.status
 explains_done None t outcome is gained = subst (λ n. StatusExplains None t n) (sym (ap (λ (o : Outcome). o.status) is)) (unfit refl (subst (λ (o : Outcome). Wrote t o.output) is gained))
 explains_done (Some c) t outcome is gained =
-    subst (λ n. StatusExplains (Some c) t n) (sym (ap (λ (o : Outcome). o.status) is.2)) (on_document c t is.0 is.1 (subst (λ (o : Outcome). Wrote t o.output) is.2 gained))
+    subst (λ n. StatusExplains (Some c) t n) (sym (ap (λ (o : Outcome). o.status) is.2)) (on_input c t is.0 is.1 (subst (λ (o : Outcome). Wrote t o.output) is.2 gained))
 
 pub explained : (command : Option Command) (t : Traffic) (status : ℕ) → Ends command t status → StatusExplains command t status
 explained command t status (lacks_memory same) = memory same

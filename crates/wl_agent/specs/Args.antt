@@ -4,7 +4,7 @@ use Rattle.std.specs.Str.{bytes_eq}
 use Rattle.std.specs.List.{list_all, list_any, prefix_len}
 use Rattle.wl_selector.specs.Selectors.{selector_fault, sorted_texts}
 use Rattle.wl_agent.specs.declared.command.Command.{Command}
-use Rattle.wl_agent.specs.declared.command.Command.TheVariants.{Preview, Check}
+use Rattle.wl_agent.specs.declared.command.Command.TheVariants.{Preview, Check, Replay}
 
 -- two bytes or more, the first of them `-`
 abbrev pub is_option : List ℕ → Bool
@@ -33,15 +33,16 @@ is_selector text = is_none (selector_fault text)
 unfoldable pub preview_of : List (List ℕ) → Option Command
 preview_of ws = if nat_le 1 (length ws) && (nat_le (length ws) 256 && list_all is_selector ws) then Some (Preview (sorted_texts ws)) else None
 
--- nothing
-abbrev pub check_of : List (List ℕ) → Option Command
-check_of [] = Some Check
-check_of (w ∷ ws) = None
+-- nothing, for a command that stands alone
+abbrev pub alone : Command → List (List ℕ) → Option Command
+alone command [] = Some command
+alone command (w ∷ ws) = None
 
 -- the command of these words, where they fit one
 unfoldable pub command_of : List (List ℕ) → Option Command
 command_of [] = None
 command_of (w ∷ ws) =
     if bytes_eq w (codes "preview") then option_and_then preview_of (operands ws)
-    else if bytes_eq w (codes "check") then option_and_then check_of (operands ws)
+    else if bytes_eq w (codes "check") then option_and_then (alone Check) (operands ws)
+    else if bytes_eq w (codes "replay") then option_and_then (alone Replay) (operands ws)
     else None

@@ -1,24 +1,28 @@
 -- How a run ends (own rules).
-use Rattle.std.specs.Prelude.{◌≡◌, ◌⊎◌, ℕ, List, [], take, Option, Some, None, IsSome, IfSome, Ok, Err}
+use Rattle.std.specs.Prelude.{◌≡◌, ◌⊎◌, ℕ, List, [], take, Option, Some, None, IsSome, IfSome, Result, Ok, Err}
 use Rattle.wl_edge.specs.Edge.{Rose, Drained, Gained, GainedPrefix}
 use Rattle.wl_document.specs.declared.fault.DocFault.{DocFault}
 use Rattle.wl_document.specs.States.{State}
 use Rattle.wl_document.specs.Documents.{document_state}
 use Rattle.wl_snapshot.specs.declared.answers.Answer.{Answer}
 use Rattle.wl_snapshot.specs.declared.answers.Answer.TheVariants.{Denied, Wait, TooLong, Message}
+use Rattle.wl_replay.specs.declared.fault.ScriptFault.{ScriptFault}
+use Rattle.wl_replay.specs.declared.script.Script.{Script}
+use Rattle.wl_replay.specs.Scripts.{script_of}
+use Rattle.wl_replay.specs.Replays.{replayed}
 use Rattle.wl_agent.specs.declared.command.Command.{Command}
-use Rattle.wl_agent.specs.declared.command.Command.TheVariants.{Preview, Check}
-use Rattle.wl_agent.specs.Lines.{fault_line, count_line, message_line}
+use Rattle.wl_agent.specs.declared.command.Command.TheVariants.{Preview, Check, Replay}
+use Rattle.wl_agent.specs.Lines.{fault_line, script_line, count_line, message_line}
 use Rattle.wl_agent.specs.Outcomes.{usage_outcome, outcome_of, preview_answer}
 use Rattle.wl_agent.specs.declared.outcome.Outcome.{Outcome}
 use Rattle.wl_agent.specs.declared.program.TheConstants.{READ_LIMIT}
 use Rattle.wl_agent.specs.declared.status.TheConstants.{DONE, USAGE, DOCUMENT_FAULT, DENIED, NO_SVID, READ_FAILED, WRITE_FAILED, OUT_OF_MEMORY, TOO_LONG}
 
--- The usage where the words fit no command; else the outcome of the command on the document that was read, which is what
--- the source has, where it tells that.
+-- The usage where the words fit no command; else the outcome of the command on the input that was read, which is what the
+-- source has, where it tells that.
 abbrev pub IsOutcome : Option Command → Option (List ℕ) → Outcome → Type 0
 IsOutcome None content outcome = outcome ≡ usage_outcome
-IsOutcome (Some c) content outcome = (document : List ℕ) × Drained content READ_LIMIT document × (outcome ≡ outcome_of c document)
+IsOutcome (Some c) content outcome = (input : List ℕ) × Drained content READ_LIMIT input × (outcome ≡ outcome_of c input)
 
 -- What a run did to its two streams: the source's content before it, what the sink took before it and after it, each
 -- where it is told, and how often a read and a write failed before it and after it.
@@ -49,9 +53,16 @@ pub data Ends (command : Option Command) (t : Traffic) : ℕ → Type 0 where
 
 -- ---- the rows of the table of statuses
 
--- The document has this first fault, and the words fit.
+-- the command reads a document
+abbrev pub ReadsDocument : Option Command → Type 0
+ReadsDocument (Some (Preview selectors)) = Unit {0}
+ReadsDocument (Some Check) = Unit {0}
+ReadsDocument (Some Replay) = ⊥
+ReadsDocument None = ⊥
+
+-- The document has this first fault.
 pub record IsFaulted (command : Option Command) (content : Option (List ℕ)) (fault : DocFault) : Type 0 where
-  pub fits : IsSome command
+  pub fits : ReadsDocument command
   pub document : List ℕ
   pub read : Drained content READ_LIMIT document
   pub first : document_state None document ≡ Err fault
@@ -73,15 +84,27 @@ pub record IsChecked (command : Option Command) (content : Option (List ℕ)) (s
   pub read : Drained content READ_LIMIT document
   pub has : document_state None document ≡ Ok state
 
+-- The words are those of `replay`, and reading the script answers this.
+pub record IsScript (command : Option Command) (content : Option (List ℕ)) (script : Result Script ScriptFault) : Type 0 where
+  pub replays : command ≡ Some Replay
+  pub input : List ℕ
+  pub read : Drained content READ_LIMIT input
+  pub says : script_of input ≡ script
+
 -- Each status with its cause and with what was written.
 pub data StatusExplains (command : Option Command) (t : Traffic) : ℕ → Type 0 where
   -- `preview` wrote the message, or `check` the counts
   previewed : (m : List ℕ) → IsAnswered command t.content (Message m) → Wrote t (message_line m) → StatusExplains command t DONE
   checked : (s : State) → IsChecked command t.content s → Wrote t (count_line s) → StatusExplains command t DONE
+  -- `replay` wrote the transcript of the script
+  replayed_script : (s : Script) (text : List ℕ) → IsScript command t.content (Ok s) → replayed s ≡ Ok text → Wrote t text → StatusExplains command t DONE
   -- the words fit no command
   unfit : command ≡ None → Wrote t usage_outcome.output → StatusExplains command t USAGE
   -- the document's first fault
   faulted : (e : DocFault) → IsFaulted command t.content e → Wrote t (fault_line e) → StatusExplains command t DOCUMENT_FAULT
+  -- the script's first fault, or that of its document
+  misread : (e : ScriptFault) → IsScript command t.content (Err e) → Wrote t (script_line e) → StatusExplains command t DOCUMENT_FAULT
+  misbegun : (s : Script) (e : DocFault) → IsScript command t.content (Ok s) → replayed s ≡ Err e → Wrote t (fault_line e) → StatusExplains command t DOCUMENT_FAULT
   -- the caller sees nothing, an SVID is missing, the message is too long; nothing was written
   denied : IsAnswered command t.content Denied → Wrote t [] → StatusExplains command t DENIED
   waits : IsAnswered command t.content Wait → Wrote t [] → StatusExplains command t NO_SVID

@@ -8,12 +8,16 @@ use Rattle.wl_snapshot.specs.Answers.{answer_of}
 use Rattle.wl_snapshot.specs.declared.answers.Answer.{Answer}
 use Rattle.wl_snapshot.specs.declared.answers.Answer.TheVariants.{Denied, Wait, TooLong, Message}
 use Rattle.wl_snapshot.specs.declared.answers.Method3.TheVariants.{X509Svid}
+use Rattle.wl_replay.specs.declared.fault.ScriptFault.{ScriptFault}
+use Rattle.wl_replay.specs.declared.script.Script.{Script}
+use Rattle.wl_replay.specs.Scripts.{script_of}
+use Rattle.wl_replay.specs.Replays.{replayed}
 use Rattle.wl_agent.specs.declared.command.Command.{Command}
-use Rattle.wl_agent.specs.declared.command.Command.TheVariants.{Preview, Check}
+use Rattle.wl_agent.specs.declared.command.Command.TheVariants.{Preview, Check, Replay}
 use Rattle.wl_agent.specs.declared.outcome.Outcome.{Outcome}
 use Rattle.wl_agent.specs.declared.status.TheConstants.{DONE, USAGE, DOCUMENT_FAULT, DENIED, NO_SVID, TOO_LONG}
 use Rattle.wl_agent.specs.Kept.{publication_of}
-use Rattle.wl_agent.specs.Lines.{fault_line, count_line, message_line}
+use Rattle.wl_agent.specs.Lines.{fault_line, script_line, count_line, message_line}
 
 -- words that fit no command
 abbrev pub usage_outcome : Outcome
@@ -42,6 +46,17 @@ abbrev pub check_outcome : Result State DocFault → Outcome
 check_outcome (Ok s) = record { status = DONE; output = count_line s }
 check_outcome (Err e) = fault_outcome e
 
+-- `replay`: the transcript of the script
+abbrev pub transcript_outcome : Result (List ℕ) DocFault → Outcome
+transcript_outcome (Ok text) = record { status = DONE; output = text }
+transcript_outcome (Err e) = fault_outcome e
+
+abbrev pub script_outcome : Result Script ScriptFault → Outcome
+script_outcome (Ok s) = transcript_outcome (replayed s)
+script_outcome (Err e) = record { status = DOCUMENT_FAULT; output = script_line e }
+
+-- what a command ends with on the input that was read
 unfoldable pub outcome_of : Command → List ℕ → Outcome
-outcome_of (Preview selectors) document = preview_outcome selectors (document_state None document)
-outcome_of Check document = check_outcome (document_state None document)
+outcome_of (Preview selectors) input = preview_outcome selectors (document_state None input)
+outcome_of Check input = check_outcome (document_state None input)
+outcome_of Replay input = script_outcome (script_of input)

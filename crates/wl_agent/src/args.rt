@@ -3,7 +3,7 @@
 ghost use Rattle.std.specs.Prelude.{◌≡◌, ◌++◌, ◌≤◌, List, drop, length, map, Option, option_map, option_and_then, string_bytes, if◌then◌else◌, IfOk, OnOk, Some, None};
 ghost use Rattle.std.specs.List.{list_all, list_any};
 ghost use Rattle.wl_selector.specs.Selectors.{sorted_texts};
-ghost use Rattle.wl_agent.specs.Args.{command_of, operands, dashes_at, before_dashes, behind_dashes, preview_of, check_of, is_option, is_selector};
+ghost use Rattle.wl_agent.specs.Args.{command_of, operands, dashes_at, before_dashes, behind_dashes, preview_of, alone, is_option, is_selector};
 
 use crate::command::Command;
 use std::alloc::Global;
@@ -154,12 +154,12 @@ fn preview(alloc: Global, texts: &[Octets]) -> Result<Option<Command>, Memory>
     }
 }
 
-/// `check`, where these are its operands.
-fn check(texts: &[Octets]) -> Option<Command>
-    ensures { result ≡ check_of texts.now }
+/// A command that stands alone, where these are its operands.
+fn alone(command: Command, texts: &[Octets]) -> Option<Command>
+    ensures { result ≡ alone command texts.now }
 {
     match texts {
-        [] => Some(Command::Check),
+        [] => Some(command),
         _ => None,
     }
 }
@@ -172,8 +172,10 @@ pub(crate) fn read_command(alloc: Global, words: &[String]) -> Result<Option<Com
     let Some((first, after)) = words.split_first() else {
         return Ok(None);
     };
-    let previews = first.as_bytes() == b"preview".as_slice();
-    if !previews && first.as_bytes() != b"check".as_slice() {
+    let name = first.as_bytes();
+    let previews = name == b"preview".as_slice();
+    let checks = name == b"check".as_slice();
+    if !previews && !checks && name != b"replay".as_slice() {
         return Ok(None);
     }
     let Some(texts) = read_operands(alloc, after)? else {
@@ -181,7 +183,9 @@ pub(crate) fn read_command(alloc: Global, words: &[String]) -> Result<Option<Com
     };
     if previews {
         preview(alloc, texts.as_slice())
+    } else if checks {
+        Ok(alone(Command::Check, texts.as_slice()))
     } else {
-        Ok(check(texts.as_slice()))
+        Ok(alone(Command::Replay, texts.as_slice()))
     }
 }

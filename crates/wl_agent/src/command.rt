@@ -9,4 +9,6 @@ pub enum Command {
     Preview(Selectors),
     /// What the document holds.
     Check,
+    /// The transcript of the script.
+    Replay,
 }

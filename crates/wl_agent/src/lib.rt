@@ -1,7 +1,8 @@
 //! The program's one call: words, a source and a sink in, a status out.
 //!
-//! [`run`] reads the words, then the document, judges it, makes the command's output and writes it. All that is to be
-//! written is made before the first byte is written, so that nothing partial stands where the outcome is a fault.
+//! [`run`] reads the words, then the document or the script, judges it, makes the command's output and writes it. All
+//! that is to be written is made before the first byte is written, so that nothing partial stands where the outcome is a
+//! fault.
 #![tactic(auto)]
 
 mod args;

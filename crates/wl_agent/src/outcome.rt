@@ -1,17 +1,22 @@
 //! What a command ends with: a status and what it writes.
 
 ghost use Rattle.std.specs.Prelude.{◌≡◌, IfOk, None};
+ghost use Rattle.std.specs.List.{AllByRecursion};
 ghost use Rattle.wl_document.specs.Documents.{document_state};
 ghost use Rattle.wl_snapshot.specs.Answers.{IsShort};
-ghost use Rattle.wl_agent.specs.Outcomes.{outcome_of, preview_outcome, check_outcome, fault_outcome, preview_answer, answer_outcome};
+ghost use Rattle.wl_core.specs.Events.{IsWithin};
+ghost use Rattle.wl_replay.specs.Scripts.{script_of};
+ghost use Rattle.wl_replay.specs.Replays.{replayed};
+ghost use Rattle.wl_agent.specs.Outcomes.{outcome_of, preview_outcome, check_outcome, script_outcome, transcript_outcome, fault_outcome, preview_answer, answer_outcome};
 
 use crate::command::Command;
-use crate::output::{line_of_counts, line_of_fault, line_of_message};
+use crate::output::{line_of_counts, line_of_fault, line_of_message, line_of_script};
 use crate::publication::publication;
 use crate::status::{DENIED, DOCUMENT_FAULT, DONE, NO_SVID, TOO_LONG};
 use std::alloc::Global;
 use wl_document::{AuthorityState, DocFault, read_state};
 use wl_octets::{Memory, Octets};
+use wl_replay::{Script, ScriptFault, read_script, replay};
 use wl_selector::Selectors;
 use wl_snapshot::{Answer, Method3, answer, view};
 
@@ -82,17 +87,43 @@ fn check_outcome(alloc: Global, document: &[u8]) -> Result<Outcome, Memory>
     }
 }
 
-/// What a command ends with on a document.
+/// What a script ends with.
+fn transcript_outcome(alloc: Global, script: Script) -> Result<Outcome, Memory>
+    requires { AllByRecursion IsWithin script.events }
+    ensures { IfOk result (λ o. o ≡ transcript_outcome (replayed script)) }
+{
+    match replay(alloc, script) {
+        Ok(output) => Ok(Outcome {
+            status: DONE,
+            output,
+        }),
+        Err(DocFault::Memory) => Err(Memory),
+        Err(fault) => fault_outcome(alloc, fault),
+    }
+}
+
+/// What `replay` ends with.
+fn script_outcome(alloc: Global, input: &[u8]) -> Result<Outcome, Memory>
+    ensures { IfOk result (λ o. o ≡ script_outcome (script_of input.now)) }
+{
+    match read_script(alloc, input) {
+        Ok(script) => transcript_outcome(alloc, script),
+        Err(ScriptFault::Memory) => Err(Memory),
+        Err(fault) => Ok(Outcome {
+            status: DOCUMENT_FAULT,
+            output: line_of_script(alloc, fault)?,
+        }),
+    }
+}
+
+/// What a command ends with on its input.
 #[tactic(auto, unfolding(crate::specs::Outcomes::outcome_of))]
-pub(crate) fn outcome_of(
-    alloc: Global,
-    command: &Command,
-    document: &[u8],
-) -> Result<Outcome, Memory>
-    ensures { IfOk result (λ o. o ≡ outcome_of command.now document.now) }
+pub(crate) fn outcome_of(alloc: Global, command: &Command, input: &[u8]) -> Result<Outcome, Memory>
+    ensures { IfOk result (λ o. o ≡ outcome_of command.now input.now) }
 {
     match command {
-        Command::Preview(selectors) => preview_outcome(alloc, selectors, document),
-        Command::Check => check_outcome(alloc, document),
+        Command::Preview(selectors) => preview_outcome(alloc, selectors, input),
+        Command::Check => check_outcome(alloc, input),
+        Command::Replay => script_outcome(alloc, input),
     }
 }

@@ -16,8 +16,8 @@ use wl_document::DOCUMENT_LIMIT;
 use wl_edge::{ReadFault, Sink, Source, read_all, write_all};
 use wl_octets::{Memory, Octets};
 
-/// How many bytes of the input are read at most: one past the limit of a document, so that a longer one is known as
-/// such.
+/// How many bytes of the input are read at most: one past the limit of a document and of a script, so that a longer one
+/// is known as such.
 pub const READ_LIMIT: usize = DOCUMENT_LIMIT + 1;
 
 /// What the program is given beside its words.
@@ -44,7 +44,7 @@ fn usage(alloc: Global) -> Result<Outcome, ReadFault>
     }
 }
 
-/// What these words end with: the usage, or the outcome of the command on the document that is read.
+/// What these words end with: the usage, or the outcome of the command on the input that is read.
 fn outcome<I: Source>(alloc: Global, words: &[String], input: &mut I) -> Result<Outcome, ReadFault>
     ensures outcome { IfOk result (IsOutcome (command_of (map string_bytes words.now)) (I.left input.old)) }
     ensures fit { IsErrOf result ReadFault.Failed → IsSome (command_of (map string_bytes words.now)) }
@@ -56,12 +56,12 @@ fn outcome<I: Source>(alloc: Global, words: &[String], input: &mut I) -> Result<
         Ok(None) => return usage(alloc),
         Err(Memory) => return Err(ReadFault::Memory),
     };
-    let document = match read_all(alloc, input, READ_LIMIT) {
-        Ok(document) => document,
+    let text = match read_all(alloc, input, READ_LIMIT) {
+        Ok(text) => text,
         Err(ReadFault::Failed) => return Err(ReadFault::Failed),
         Err(ReadFault::Memory) => return Err(ReadFault::Memory),
     };
-    match outcome_of(alloc, &command, document.as_slice()) {
+    match outcome_of(alloc, &command, text.as_slice()) {
         Ok(outcome) => Ok(outcome),
         Err(Memory) => Err(ReadFault::Memory),
     }
@@ -94,11 +94,12 @@ fn run_inner<I: Source, O: Sink>(alloc: Global, words: &[String], host: &mut Hos
 }
 
 /// Runs a command: `preview SELECTOR..` writes the response of a caller with these selectors, `check` what the
-/// document holds. The document comes from `host.input`, of which at most [`READ_LIMIT`] bytes are read; all that is
-/// written goes to `host.output`. The status is one of [`crate::status`]: `DONE` where that was done; `USAGE` where the
-/// words fit no command, and then nothing is read; `DOCUMENT_FAULT` where the document has a fault; `DENIED`, `NO_SVID`
-/// or `TOO_LONG` where the caller is entitled to nothing, an SVID is missing or the message is above 4,194,304 bytes;
-/// `READ_FAILED` where a read and `WRITE_FAILED` where a write failed; `OUT_OF_MEMORY`.
+/// document holds, `replay` the transcript of the script. The document or the script comes from `host.input`, of which at
+/// most [`READ_LIMIT`] bytes are read; all that is written goes to `host.output`. The status is one of [`crate::status`]:
+/// `DONE` where that was done; `USAGE` where the words fit no command, and then nothing is read; `DOCUMENT_FAULT` where
+/// the document or the script has a fault; `DENIED`, `NO_SVID` or `TOO_LONG` where the caller is entitled to nothing, an
+/// SVID is missing or the message is above 4,194,304 bytes; `READ_FAILED` where a read and `WRITE_FAILED` where a write
+/// failed; `OUT_OF_MEMORY`.
 pub fn run<I: Source, O: Sink>(alloc: Global, words: &[String], host: &mut Host<I, O>) -> u8
     // each status with its cause, and what was written
     ensures sound { StatusExplains (command_of (map string_bytes words.now))

@@ -4,7 +4,7 @@
 pub const DONE: u8 = 0;
 /// The words fit no command.
 pub const USAGE: u8 = 2;
-/// The document has a fault.
+/// The document or the script has a fault.
 pub const DOCUMENT_FAULT: u8 = 3;
 /// The caller is entitled to nothing.
 pub const DENIED: u8 = 4;

@@ -1,3 +1,5 @@
+mod replays;
+
 use crate::publication::publication;
 use crate::status::{DONE, TOO_LONG};
 use crate::{Host, run};

@@ -68,50 +68,111 @@ fn entry(alloc: Global) -> Result<Entry, Fail> {
     })
 }
 
+/// Whether an ask is that of the worked document's entry.
+fn is_worked_ask(ask: &Ask) -> bool {
+    ask.entry_id.as_slice() == b"e1".as_slice()
+        && ask.spiffe_id.as_bytes() == b"spiffe://a.b/w".as_slice()
+        && ask.dns_names.len() == 0
+        && ask.ttl == 3600
+}
+
 #[test]
 fn entry_ask(rt: HostRuntime) -> Result<(), Fail> {
-    let alloc = rt.alloc();
-    let mut entry = entry(alloc)?;
-    let ask = entry.ask(alloc)?;
-    assert_eq!(rt; ask.entry_id.as_slice(), b"e1".as_slice());
-    assert_eq!(rt; ask.spiffe_id.as_bytes(), b"spiffe://a.b/w".as_slice());
-    assert_eq!(rt; ask.dns_names.len(), 0);
-    assert_eq!(rt; ask.ttl, 3600);
-    assert!(rt; entry.asks(&ask));
-    entry.hint = Octets::from_slice(alloc, b"h")?;
-    assert!(rt; entry.asks(&ask));
-    entry.ttl = 3601;
-    assert!(rt; !entry.asks(&ask));
+    let entry = entry(rt.alloc())?;
+    let ask = entry.ask(rt.alloc())?;
+    assert!(rt; is_worked_ask(&ask) && entry.asks(&ask));
     Ok(())
 }
+
+/// Whether the entry with another hint and another time to live still has this ask.
+fn asks_with(alloc: Global, ask: &Ask, hint: &[u8], ttl: u32) -> Result<bool, Fail> {
+    let mut entry = entry(alloc)?;
+    entry.hint = Octets::from_slice(alloc, hint)?;
+    entry.ttl = ttl;
+    Ok(entry.asks(ask))
+}
+
+#[test]
+fn asks_of_a_changed_entry(rt: HostRuntime) -> Result<(), Fail> {
+    let ask = entry(rt.alloc())?.ask(rt.alloc())?;
+    assert!(rt; asks_with(rt.alloc(), &ask, b"h", 3600)?);
+    assert!(rt; !asks_with(rt.alloc(), &ask, b"", 3601)?);
+    Ok(())
+}
+
+/// Whether an identity with these times is due at a second.
+fn is_due_at(alloc: Global, not_before: u64, not_after: u64, now: u64) -> Result<bool, Memory> {
+    let signed = signed(alloc, not_before, not_after)?;
+    Ok(signed.is_due(now))
+}
+
+static DUE: [(u64, u64, u64, bool); 7] = [
+    (100, 200, 149, false),
+    (100, 200, 150, true),
+    (100, 200, 0, false),
+    (100, 201, 150, false),
+    (100, 201, 151, true),
+    (u64::MAX - 1, u64::MAX, u64::MAX - 1, false),
+    (u64::MAX - 1, u64::MAX, u64::MAX, true),
+];
 
 #[test]
 fn first_due_second(rt: HostRuntime) -> Result<(), Fail> {
-    let even = signed(rt.alloc(), 100, 200)?;
-    assert!(rt; !even.is_due(149));
-    assert!(rt; even.is_due(150));
-    assert!(rt; !even.is_due(0));
-    let odd = signed(rt.alloc(), 100, 201)?;
-    assert!(rt; !odd.is_due(150));
-    assert!(rt; odd.is_due(151));
-    let last = signed(rt.alloc(), u64::MAX - 1, u64::MAX)?;
-    assert!(rt; !last.is_due(u64::MAX - 1));
-    assert!(rt; last.is_due(u64::MAX));
+    for (not_before, not_after, now, due) in &DUE {
+        assert!(rt; is_due_at(rt.alloc(), *not_before, *not_after, *now)? == *due);
+    }
+    Ok(())
+}
+
+/// Whether this is the first reason against an identity at a second.
+fn has_reason(
+    alloc: Global,
+    chain: &[u8],
+    key: &[u8],
+    times: (u64, u64),
+    now: u64,
+    reason: Option<&Unfit>,
+) -> Result<bool, Memory> {
+    let signed = Signed {
+        chain: Octets::from_slice(alloc, chain)?,
+        key: Octets::from_slice(alloc, key)?,
+        not_before: times.0,
+        not_after: times.1,
+    };
+    Ok(signed.unfit(now).as_ref() == reason)
+}
+
+#[test]
+fn times_of_identities(rt: HostRuntime) -> Result<(), Fail> {
+    assert!(rt; has_reason(rt.alloc(), b"c", b"k", (100, 200), 0, None)?);
+    assert!(rt; has_reason(rt.alloc(), b"c", b"k", (100, 200), 199, None)?);
+    assert!(rt;
+        has_reason(
+            rt.alloc(),
+            b"c",
+            b"k",
+            (100, 200),
+            200,
+            Some(&Unfit::Expired)
+        )?
+    );
+    assert!(rt; has_reason(rt.alloc(), b"c", b"k", (200, 200), 300, Some(&Unfit::Times))?);
     Ok(())
 }
 
 #[test]
-fn reasons_of_identities(rt: HostRuntime) -> Result<(), Fail> {
-    let alloc = rt.alloc();
-    let mut fit = signed(alloc, 100, 200)?;
-    assert!(rt; fit.unfit(0) == None);
-    assert!(rt; fit.unfit(199) == None);
-    assert!(rt; fit.unfit(200) == Some(Unfit::Expired));
-    assert!(rt; signed(alloc, 200, 200)?.unfit(300) == Some(Unfit::Times));
-    fit.key = Octets::empty(alloc);
-    assert!(rt; fit.unfit(0) == Some(Unfit::EmptyKey));
-    fit.chain = Octets::empty(alloc);
-    assert!(rt; fit.unfit(0) == Some(Unfit::EmptyChain));
+fn empty_identities(rt: HostRuntime) -> Result<(), Fail> {
+    assert!(rt; has_reason(rt.alloc(), b"c", b"", (100, 200), 0, Some(&Unfit::EmptyKey))?);
+    assert!(rt;
+        has_reason(
+            rt.alloc(),
+            b"",
+            b"",
+            (100, 200),
+            0,
+            Some(&Unfit::EmptyChain)
+        )?
+    );
     Ok(())
 }
 
@@ -139,18 +200,38 @@ fn token(alloc: Global, text: &[u8]) -> Result<JwtToken, Memory> {
     })
 }
 
+/// The first reason against a token of these bytes and times, at a second.
+fn token_reason(
+    alloc: Global,
+    text: &[u8],
+    expires_at: u64,
+    now: u64,
+) -> Result<Option<JwtUnfit>, Memory> {
+    let mut token = token(alloc, text)?;
+    token.expires_at = expires_at;
+    Ok(token.unfit(now))
+}
+
+static TOKENS: [(&[u8], u64, u64, Option<JwtUnfit>); 5] = [
+    (b"aZ0-_.b", 200, 199, None),
+    (b"aZ0-_.b", 200, 200, Some(JwtUnfit::Expired)),
+    (b"", 200, 0, Some(JwtUnfit::Empty)),
+    (b"a=b", 200, 0, Some(JwtUnfit::TokenByte(1))),
+    (b"aZ0-_.b", 100, 300, Some(JwtUnfit::Times)),
+];
+
 #[test]
 fn reasons_of_tokens(rt: HostRuntime) -> Result<(), Fail> {
-    let alloc = rt.alloc();
-    let mut fit = token(alloc, b"aZ0-_.b")?;
-    assert!(rt; fit.unfit(199) == None);
-    assert!(rt; fit.unfit(200) == Some(JwtUnfit::Expired));
-    assert!(rt; fit.is_fresh(149));
-    assert!(rt; !fit.is_fresh(150));
-    assert!(rt; token(alloc, b"")?.unfit(0) == Some(JwtUnfit::Empty));
-    assert!(rt; token(alloc, b"a=b")?.unfit(0) == Some(JwtUnfit::TokenByte(1)));
-    fit.expires_at = 100;
-    assert!(rt; fit.unfit(300) == Some(JwtUnfit::Times));
+    for (text, expires_at, now, reason) in &TOKENS {
+        assert!(rt; token_reason(rt.alloc(), text, *expires_at, *now)? == *reason);
+    }
+    Ok(())
+}
+
+#[test]
+fn fresh_tokens(rt: HostRuntime) -> Result<(), Fail> {
+    let token = token(rt.alloc(), b"t")?;
+    assert!(rt; token.is_fresh(149) && !token.is_fresh(150));
     Ok(())
 }
 
@@ -169,27 +250,35 @@ fn longest_token(rt: HostRuntime) -> Result<(), Fail> {
     Ok(())
 }
 
-#[test]
-fn copy_of_an_entry(rt: HostRuntime) -> Result<(), Fail> {
-    let alloc = rt.alloc();
+/// The entry with a domain with which it federates and a DNS name.
+fn full_entry(alloc: Global) -> Result<Entry, Fail> {
     let mut full = entry(alloc)?;
     full.federates_with = Row::from_vec(vec![in alloc; TrustDomain::parse(alloc, b"c.d")?]?);
     full.dns_names = Row::from_vec(vec![in alloc; Octets::from_slice(alloc, b"d")?]?);
-    let copy = full.copy(alloc)?;
+    Ok(full)
+}
+
+#[test]
+fn copy_of_an_entry(rt: HostRuntime) -> Result<(), Fail> {
+    let full = full_entry(rt.alloc())?;
+    let copy = full.copy(rt.alloc())?;
     assert!(rt; copy == full);
     Ok(())
 }
 
-#[test]
-fn copy_of_an_svid(rt: HostRuntime) -> Result<(), Fail> {
-    let alloc = rt.alloc();
-    let svid = Svid {
+/// The SVID of the worked document's entry.
+fn svid(alloc: Global) -> Result<Svid, Fail> {
+    Ok(Svid {
         ask: entry(alloc)?.ask(alloc)?,
         signed: signed(alloc, 1, 2)?,
-    };
-    let copy = svid.copy(alloc)?;
-    assert!(rt; copy == svid);
-    assert!(rt; are_same_asks(&copy.ask, &svid.ask));
+    })
+}
+
+#[test]
+fn copy_of_an_svid(rt: HostRuntime) -> Result<(), Fail> {
+    let svid = svid(rt.alloc())?;
+    let copy = svid.copy(rt.alloc())?;
+    assert!(rt; copy == svid && are_same_asks(&copy.ask, &svid.ask));
     Ok(())
 }
 
@@ -231,15 +320,18 @@ fn shared(alloc: Global, entry: Entry) -> Result<Shared<Entry>, Memory> {
 }
 
 #[test]
-fn lists_of_shared_parts(rt: HostRuntime) -> Result<(), Fail> {
+fn lists_of_shared_entries(rt: HostRuntime) -> Result<(), Fail> {
     let alloc = rt.alloc();
     let entries = Row::from_vec(vec![in alloc; shared(alloc, entry(alloc)?)?]?);
     let none = Row::empty(alloc);
-    assert!(rt; are_same_entries(&entries, &entries));
-    assert!(rt; !are_same_entries(&entries, &none));
-    let svids = Row::empty(alloc);
-    assert!(rt; are_same_svids(&svids, &svids));
-    let bundles = Row::empty(alloc);
-    assert!(rt; are_same_bundles(&bundles, &bundles));
+    assert!(rt; are_same_entries(&entries, &entries) && !are_same_entries(&entries, &none));
     Ok(())
+}
+
+#[test]
+fn lists_of_no_parts(rt: HostRuntime) {
+    let svids = Row::empty(rt.alloc());
+    assert!(rt; are_same_svids(&svids, &svids));
+    let bundles = Row::empty(rt.alloc());
+    assert!(rt; are_same_bundles(&bundles, &bundles));
 }

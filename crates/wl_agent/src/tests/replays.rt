@@ -1,0 +1,104 @@
+//! Scripts, replayed.
+
+use super::{Case, USAGE, is_due};
+use std::test::Fail;
+
+/// The document of the other tests, an identity, and a caller's first call.
+const FIRST: &str =
+    "sync 7b2276657273696f6e223a312c2274727573745f646f6d61696e223a22612e62222c2262756e646c6573223a5b7b2274727573745f646f6d61696e223a22612e62222c2278353039223a2241773d3d227d5d2c22656e7472696573223a5b7b226964223a226531222c227370696666655f6964223a227370696666653a2f2f612e622f77222c2273656c6563746f7273223a5b22756e69783a7569643a31225d7d5d2c227376696473223a5b7b22656e747279223a226531222c22636861696e223a2241513d3d222c226b6579223a2241673d3d222c226e6f745f6265666f7265223a3130302c226e6f745f6166746572223a3230307d5d7d\nclaim 100\nsigned 1 01 02 100 200 100\njoin 0 unix:uid:1\nfeed 0 505249202a20485454502f322e300d0a0d0a534d0d0a0d0a000000040000000000000068010400000001838604202f537069666665576f726b6c6f61644150492f4665746368583530395356494401096c6f63616c686f73740f10106170706c69636174696f6e2f677270630002746508747261696c6572730012776f726b6c6f61642e7370696666652e696f04747275650000050001000000010000000000\nturn 0\n";
+
+const FIRST_SAID: &str =
+    "published 0\nticket 1 e1\nkept\npublished 1\njoined 0\nout 0 00000c04000000000000030000001000060000400000000004010000000000000408000000000000000005\nout 0 000014010400000001880f10106170706c69636174696f6e2f67727063000020000000000001000000001b0a190a0e7370696666653a2f2f612e622f771201011a0102220103\n";
+
+const CHANGED_ASK: &str =
+    "sync 7b2276657273696f6e223a312c2274727573745f646f6d61696e223a22612e62222c2262756e646c6573223a5b7b2274727573745f646f6d61696e223a22612e62222c2278353039223a2241773d3d227d5d2c22656e7472696573223a5b7b226964223a226531222c227370696666655f6964223a227370696666653a2f2f612e622f77222c2273656c6563746f7273223a5b22756e69783a7569643a31225d7d5d2c227376696473223a5b7b22656e747279223a226531222c22636861696e223a2241513d3d222c226b6579223a2241673d3d222c226e6f745f6265666f7265223a3130302c226e6f745f6166746572223a3230307d5d7d\nclaim 100\nsync 7b2276657273696f6e223a312c2274727573745f646f6d61696e223a22612e62222c2262756e646c6573223a5b7b2274727573745f646f6d61696e223a22612e62222c2278353039223a2241773d3d227d5d2c22656e7472696573223a5b7b226964223a226531222c227370696666655f6964223a227370696666653a2f2f612e622f76222c2273656c6563746f7273223a5b22756e69783a7569643a31225d7d5d2c227376696473223a5b7b22656e747279223a226531222c22636861696e223a2241513d3d222c226b6579223a2241673d3d222c226e6f745f6265666f7265223a3130302c226e6f745f6166746572223a3230307d5d7d\nsigned 1 01 02 100 200 100\nclaim 100\nsigned 1 01 02 100 200 100\n";
+
+const CHANGED_ASK_SAID: &str =
+    "published 0\nticket 1 e1\npublished 1\nunknown-ask\nticket 2 e1\nspent\n";
+
+/// A chain that no strict store takes.
+const STRICT: &str =
+    "strict 7b2276657273696f6e223a312c2274727573745f646f6d61696e223a22612e62222c2262756e646c6573223a5b7b2274727573745f646f6d61696e223a22612e62222c2278353039223a2241773d3d227d5d2c22656e7472696573223a5b7b226964223a226531222c227370696666655f6964223a227370696666653a2f2f612e622f77222c2273656c6563746f7273223a5b22756e69783a7569643a31225d7d5d2c227376696473223a5b7b22656e747279223a226531222c22636861696e223a2241513d3d222c226b6579223a2241673d3d222c226e6f745f6265666f7265223a3130302c226e6f745f6166746572223a3230307d5d7d\nclaim 100\nsigned 1 01 02 100 200 100\n";
+
+const REPLAYS: [Case; 12] = [
+    Case {
+        words: &["replay"],
+        document: FIRST,
+        status: 0,
+        text: FIRST_SAID,
+    },
+    Case {
+        words: &["replay", "--"],
+        document: CHANGED_ASK,
+        status: 0,
+        text: CHANGED_ASK_SAID,
+    },
+    Case {
+        words: &["replay"],
+        document: STRICT,
+        status: 0,
+        text: "published 0\nticket 1 e1\nunfit 6\n",
+    },
+    Case {
+        words: &["replay"],
+        document: "",
+        status: 3,
+        text: "fault script 1 1\n",
+    },
+    Case {
+        words: &["replay"],
+        document: "x",
+        status: 3,
+        text: "fault script 2 1\n",
+    },
+    Case {
+        words: &["replay"],
+        document: "sync 00\nturn 32",
+        status: 3,
+        text: "fault script 3 2\n",
+    },
+    Case {
+        words: &["replay"],
+        document: "sync 0",
+        status: 3,
+        text: "fault script 4 1\n",
+    },
+    Case {
+        words: &["replay"],
+        document: "sync 7b",
+        status: 3,
+        text: "fault document 1\n",
+    },
+    Case {
+        words: &["replay"],
+        document: "#\nsync 7b\nx",
+        status: 3,
+        text: "fault script 2 3\n",
+    },
+    Case {
+        words: &["replay"],
+        document: "strict 7b7d",
+        status: 3,
+        text: "fault document 3 0 0 1 0\n",
+    },
+    Case {
+        words: &["replay", "x"],
+        document: "sync 7b",
+        status: 2,
+        text: USAGE,
+    },
+    Case {
+        words: &["replay", "--x"],
+        document: "sync 7b",
+        status: 2,
+        text: USAGE,
+    },
+];
+
+#[test]
+fn replays(rt: HostRuntime) -> Result<(), Fail> {
+    for case in &REPLAYS {
+        assert!(rt; is_due(rt.alloc(), case)?, "{}", case.document);
+    }
+    Ok(())
+}
