@@ -1,0 +1,15 @@
+mod Outgoing
+mod Writing
+mod Opened
+mod Asides
+mod Owning
+mod Serving
+mod Frames
+mod Peers
+mod Replying
+mod Falling
+mod Taking
+mod Attesting
+mod Moving
+mod Running
+mod Living

@@ -1,0 +1,38 @@
+//! What holds of each stream of a session, and of each session of the core.
+
+ghost use Rattle.wl_responses.specs.Moves.{SessionsTakeSteps, BytesAreResponses, ResponsesAreAnswers, ResponsesDiffer, TurnsHaveSelectors, TurnsWereTaken, PublicationsNeverFall};
+ghost use Rattle.wl_responses.specs.Runs.{SessionsHaveMoves, BytesOfResponses, AnswersOfTurns, TurnsOfCalls, SelectorsOfCalls, TurnsOfPublications, NumbersOfResponses, ResponsesOfRunsDiffer};
+
+/// A session has the talk behind the steps of its moves, and wrote the bytes of these steps.
+pub fn sessions_take_steps()
+    ensures { SessionsTakeSteps }
+{}
+
+/// Of each stream of a session: with what is left of the last response, the bytes of DATA that were written
+/// are the responses that began, in their order. Each is the answer, for the selectors with which the call
+/// was attested, on the view of the publication of the latest turn that answered the stream before it began.
+pub fn responses_are_answers()
+    ensures bytes { BytesAreResponses }
+    ensures answers { ResponsesAreAnswers }
+    ensures turns { TurnsWereTaken }
+    ensures selectors { TurnsHaveSelectors }
+    ensures numbers { PublicationsNeverFall }
+    ensures differ { ResponsesDiffer }
+{}
+
+/// The session on a connection of the core is the one behind its moves, and was written their bytes.
+pub fn sessions_have_moves()
+    ensures { SessionsHaveMoves }
+{}
+
+/// The same of each stream of each session of the core: each response is of one publication of the run, and
+/// along a stream their numbers do not fall.
+pub fn responses_are_of_publications()
+    ensures bytes { BytesOfResponses }
+    ensures answers { AnswersOfTurns }
+    ensures turns { TurnsOfCalls }
+    ensures selectors { SelectorsOfCalls }
+    ensures publications { TurnsOfPublications }
+    ensures numbers { NumbersOfResponses }
+    ensures differ { ResponsesOfRunsDiffer }
+{}
