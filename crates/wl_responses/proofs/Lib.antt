@@ -1,3 +1,4 @@
+mod Bytes
 mod Outgoing
 mod Writing
 mod Opened
@@ -10,6 +11,7 @@ mod Replying
 mod Falling
 mod Taking
 mod Attesting
+mod Cutting
 mod Moving
 mod Running
 mod Living

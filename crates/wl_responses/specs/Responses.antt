@@ -1,7 +1,9 @@
 -- Each response on a stream is the answer on the view of one publication (SPIFFE Workload API; own rules).
-use Rattle.std.specs.Prelude.{◌≡◌, ◌⊎◌, ℕ, ◌≤◌, ◌==◌, false, List, [], ◌∷◌, ◌++◌, length, map, Option, Some, None}
+use Rattle.std.specs.Prelude.{◌≡◌, ◌⊎◌, ℕ, ◌+◌, ◌≤◌, ◌==◌, false, List, [], ◌∷◌, ◌++◌, length, map, Option, Some, None}
 use Rattle.std.specs.List.{AllByRecursion}
-use Rattle.grpc_wire.specs.Messages.{framed}
+use Rattle.list_laws.specs.Lists.{BeginsWith}
+use Rattle.grpc_wire.specs.declared.prefix.TheConstants.{PREFIX_LEN}
+use Rattle.grpc_wire.specs.Messages.{framed, messages_of, IsOpen}
 use Rattle.workload_proto.specs.declared.message.JwtItem.{JwtItem}
 use Rattle.workload_proto.specs.Spelling.{spell_jwt}
 use Rattle.wl_entry.specs.declared.tokens.JwtToken.{JwtToken}
@@ -115,6 +117,25 @@ IfTurn P (Some turn) = P turn
 
 abbrev pub AllTurns : (AnsweringTurn → Type 0) → List Response → Type 0
 AllTurns P responses = AllByRecursion (λ r. IfTurn P r.turn) responses
+
+-- ---- as a reader of gRPC cuts them
+
+-- the messages of responses behind their prefixes, the first one first
+abbrev pub AreMessages : List Response → List (List ℕ) → Type 0
+AreMessages [] messages = messages ≡ []
+AreMessages (r ∷ before) messages =
+    (m : List ℕ) × (first : List (List ℕ)) × (messages ≡ first ++ m ∷ []) × (r.bytes ≡ framed m) × AreMessages before first
+
+-- none is above the limit of a reader, in bytes
+abbrev pub AreWithin : ℕ → List Response → Type 0
+AreWithin limit responses = AllByRecursion (λ r. length r.bytes ≤ PREFIX_LEN + limit) responses
+
+-- what was written, cut at the lengths of gRPC, is the first of these messages, and then a part of one more, or nothing
+pub record IsCut (limit : ℕ) (r : Replies) : Type 0 where
+  pub messages : List (List ℕ)
+  pub are : AreMessages r.begun messages
+  pub cut : BeginsWith messages (messages_of limit r.written).messages
+  pub unbroken : IsOpen (messages_of limit r.written).ending
 
 -- ---- numbers
 

@@ -1,11 +1,14 @@
 //! What holds of each stream of a session, and of each session of the core.
 
-ghost use Rattle.wl_responses.specs.Moves.{SessionsTakeSteps, BytesAreResponses, ResponsesAreAnswers, ResponsesDiffer, TurnsHaveSelectors, TurnsWereTaken, PublicationsNeverFall};
+ghost use Rattle.wl_responses.specs.Steps.{StepsWriteFrames};
+ghost use Rattle.wl_responses.specs.Moves.{SessionsTakeSteps, BytesAreResponses, ResponsesAreAnswers, ResponsesDiffer, MessagesAreCut, TurnsHaveSelectors, TurnsWereTaken, PublicationsNeverFall};
 ghost use Rattle.wl_responses.specs.Runs.{SessionsHaveMoves, BytesOfResponses, AnswersOfTurns, TurnsOfCalls, SelectorsOfCalls, TurnsOfPublications, NumbersOfResponses, ResponsesOfRunsDiffer};
 
-/// A session has the talk behind the steps of its moves, and wrote the bytes of these steps.
+/// A session has the talk behind the steps of its moves, and wrote the bytes of these steps. These are this
+/// side's SETTINGS before all else, and of each step the queued control frames, then its HEADERS and DATA.
 pub fn sessions_take_steps()
-    ensures { SessionsTakeSteps }
+    ensures steps { SessionsTakeSteps }
+    ensures frames { StepsWriteFrames }
 {}
 
 /// Of each stream of a session: with what is left of the last response, the bytes of DATA that were written
@@ -18,6 +21,7 @@ pub fn responses_are_answers()
     ensures selectors { TurnsHaveSelectors }
     ensures numbers { PublicationsNeverFall }
     ensures differ { ResponsesDiffer }
+    ensures cut { MessagesAreCut }
 {}
 
 /// The session on a connection of the core is the one behind its moves, and was written their bytes.
