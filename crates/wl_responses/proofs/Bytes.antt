@@ -1,6 +1,5 @@
 -- The bytes of a step are this side's SETTINGS before all else, the queued control frames, and its HEADERS and DATA.
-use Rattle.std.proofs.Common.{◌≡◌, ℕ, Bool, true, false, List, [], ◌∷◌, ◌++◌, Option, Some, None, refl, sym, ap, ◌∙◌, append-nil}
-use Rattle.h2_frame.specs.declared.fault.FrameFault.{FrameFault}
+use Rattle.std.proofs.Common.{◌≡◌, ℕ, Bool, true, List, [], ◌∷◌, ◌++◌, Option, Some, None, refl, sym, ap, ◌∙◌, append-nil}
 use Rattle.h2_frame.specs.declared.frame.Frame.{Frame}
 use Rattle.h2_flow.specs.Outboxes.{pull_of}
 use Rattle.h2_flow.specs.Pulls.{bytes_of}
@@ -18,7 +17,7 @@ use Rattle.wl_session.specs.Answering.{calls_turn}
 use Rattle.wl_session.specs.Tokens.{name_first, give_first}
 use Rattle.wl_session.specs.Talks.{Talking, after_event, after_body, after_happening, after_happenings, after_frame, greeting, written, frame_said, break_said}
 use Rattle.wl_session.specs.Sessions.{with_turned, turn_said, name_said, given_said}
-use Rattle.wl_responses.specs.Steps.{Step, FrameCame, BytesBroke, CallAttested, TurnTaken, OutcomeCame, frames_due, control_due, WritesFrames, StepsWriteFrames}
+use Rattle.wl_responses.specs.Steps.{FrameCame, BytesBroke, CallAttested, TurnTaken, OutcomeCame, frames_due, control_due, StepsWriteFrames}
 
 -- what may be written on a connection
 due : (p : Phase) → (flush_of p).bytes ≡ control_due p ++ bytes_of (frames_due p)

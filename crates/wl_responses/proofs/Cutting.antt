@@ -1,52 +1,30 @@
 -- What was written on a stream, cut at the lengths of gRPC, is the messages of its responses.
-use Rattle.std.proofs.Common.{◌≡◌, ℕ, ◌+◌, ◌^◌, ◌<◌, ◌≤◌, List, [], ◌∷◌, ◌++◌, length, Option, Some, None, refl, sym, ap, ◌∙◌, arith, append-nil, append_assoc, length-append}
+use Rattle.std.proofs.Common.{◌≡◌, ℕ, ◌^◌, ◌<◌, ◌≤◌, List, [], ◌∷◌, ◌++◌, length, refl, sym, ap, ◌∙◌, arith, append-nil}
 use Rattle.std.specs.List.{AllByRecursion, flat_map}
-use Rattle.std.specs.Int.{w32, to_be_bytes}
 use Rattle.std.proofs.lemmas.Grind.{flat_map-append}
-use Rattle.list_laws.specs.Lists.{BeginsWith}
 use Rattle.list_laws.proofs.Elements.{all_append}
-use Rattle.grpc_wire.specs.Messages.{framed, prefix_of, first_message, partial, whole, End, Rest, Fault, Reading, after_step, messages_of, reading_from, read_on, IsOpen}
+use Rattle.grpc_wire.specs.Messages.{framed, prefix_of, first_message, partial, End, Rest, Fault, Reading, messages_of, reading_from, read_on, IsOpen}
 use Rattle.grpc_wire.proofs.Cuts.{messages_step, messages_end, reads_on}
 use Rattle.grpc_wire.proofs.Framed.{read_again}
-use Rattle.wl_entry.specs.declared.tokens.JwtToken.{JwtToken}
-use Rattle.wl_snapshot.specs.Views.{Sight, view_in}
-use Rattle.wl_session.specs.declared.served.CallKind.{CallKind}
-use Rattle.wl_session.specs.declared.served.CallKind.TheVariants.{Stream, Tokens, Check, Watch}
-use Rattle.wl_responses.specs.Replies.{AnsweringTurn, Response, Replies}
-use Rattle.wl_responses.specs.Responses.{IsMessageOn, IsMessageOf, IsAnswer, all_bytes, AreMessages, AreWithin, IsCut}
-
--- ---- one response
-
-kind_framed : (kind : CallKind) (v : Sight) (tokens : List JwtToken) (bytes : List ℕ) → IsMessageOn kind v tokens bytes → (m : List ℕ) × (bytes ≡ framed m)
-kind_framed (Stream method) v tokens bytes is = (is.0, is.2)
-kind_framed (Tokens audience id) v tokens bytes is = (_, is.1)
-kind_framed (Check service) v tokens bytes is = (_, is.1)
-kind_framed (Watch service) v tokens bytes is = (_, is)
-
-answer_framed : (turn : Option AnsweringTurn) (bytes : List ℕ) → IsMessageOf turn bytes → (m : List ℕ) × (bytes ≡ framed m)
-answer_framed None bytes is = absurd is
-answer_framed (Some turn) bytes is = kind_framed turn.kind (view_in turn.publication turn.selectors) turn.tokens bytes is
-
-framed_length : (m : List ℕ) → length (framed m) ≡ 5 + length m
-unfolding framed
-framed_length m = omega (arith, length-append (0 ∷ to_be_bytes w32 (length m)) m)
+use Rattle.workload_proto.specs.declared.limits.TheConstants.{MAX_RESPONSE_LEN}
+use Rattle.wl_responses.proofs.Sizes.{answer_is_short}
+use Rattle.wl_responses.specs.Replies.{Response, Replies}
+use Rattle.wl_responses.specs.Responses.{IsAnswer, all_bytes, AreMessages, IsCut}
 
 -- ---- all responses
 
 -- their messages, each within the limit
-record Have (limit : ℕ) (begun : List Response) : Type 0 where
+record Have (begun : List Response) : Type 0 where
   messages : List (List ℕ)
   are : AreMessages begun messages
   bytes : all_bytes begun ≡ flat_map framed messages
-  short : AllByRecursion (λ (m : List ℕ). length m ≤ limit) messages
+  short : AllByRecursion (λ (m : List ℕ). length m ≤ MAX_RESPONSE_LEN) messages
 
-have : (limit : ℕ) (begun : List Response) → AllByRecursion IsAnswer begun → AreWithin limit begun → Have limit begun
-have limit [] answers within = record { messages = []; are = refl; bytes = refl; short = tt }
-have limit (r ∷ before) answers within =
-    let old = have limit before answers.1 within.1 in
-    let one = answer_framed r.turn r.bytes answers.0 in
-    let least : length r.bytes ≤ 5 + limit = within.0 in
-    let fits : length one.0 ≤ limit = omega (arith, least, ap length one.1, framed_length one.0) in
+have : (begun : List Response) → AllByRecursion IsAnswer begun → Have begun
+have [] answers = record { messages = []; are = refl; bytes = refl; short = tt }
+have (r ∷ before) answers =
+    let old = have before answers.1 in
+    let one = answer_is_short r.turn r.bytes answers.0 in
     record {
       messages = old.messages ++ one.0 ∷ [];
       are = (one.0, old.messages, refl, one.1, old.are);
@@ -54,7 +32,7 @@ have limit (r ∷ before) answers within =
           (λ i. old.bytes i ++ one.1 i)
           ∙ (ap (λ (xs : List ℕ). flat_map framed old.messages ++ xs) (sym (append-nil (framed one.0)))
           ∙ sym (flat_map-append framed old.messages (one.0 ∷ [])));
-      short = all_append (λ (m : List ℕ). length m ≤ limit) old.messages (one.0 ∷ []) old.short (fits, tt);
+      short = all_append (λ (m : List ℕ). length m ≤ MAX_RESPONSE_LEN) old.messages (one.0 ∷ []) old.short (one.2, tt);
     }
 
 -- ---- they are cut out again
@@ -78,12 +56,13 @@ unfolding reading_from
 stays_open limit (Rest rest) more is = tt
 stays_open limit (Fault fault) more is = absurd (cc is)
 
-pub responses_cut : (limit : ℕ) (r : Replies) → limit < 2 ^ 32 → r.written ++ r.left ≡ all_bytes r.begun → AllByRecursion IsAnswer r.begun → AreWithin limit r.begun → IsCut limit r
-responses_cut limit r small bytes answers within =
-    let all = have limit r.begun answers within in
+pub responses_cut : (r : Replies) → r.written ++ r.left ≡ all_bytes r.begun → AllByRecursion IsAnswer r.begun → IsCut MAX_RESPONSE_LEN r
+responses_cut r bytes answers =
+    let limit = MAX_RESPONSE_LEN in
+    let all = have r.begun answers in
     let w = messages_of limit r.written in
     let whole : record { messages = all.messages; ending = Rest [] } ≡ read_on limit w r.left =
-    sym (all_cut limit all.messages small all.short) ∙ (ap (messages_of limit) (sym (bytes ∙ all.bytes)) ∙ reads_more limit r.written r.left) in
+    sym (all_cut limit all.messages (omega arith) all.short) ∙ (ap (messages_of limit) (sym (bytes ∙ all.bytes)) ∙ reads_more limit r.written r.left) in
     record {
       messages = all.messages;
       are = all.are;

@@ -1,4 +1,5 @@
 mod Bytes
+mod Sizes
 mod Outgoing
 mod Writing
 mod Opened

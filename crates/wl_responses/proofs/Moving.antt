@@ -165,7 +165,7 @@ pub responses_differ : ResponsesDiffer
 responses_differ n moves = (streams_have_answers n (steps_of moves) (steps_fit moves)).differ
 
 pub messages_are_cut : MessagesAreCut
-messages_are_cut limit n moves small within = responses_cut limit (replies_in n moves) small (bytes_are_responses n moves) (responses_are_answers n moves) within
+messages_are_cut n moves = responses_cut (replies_in n moves) (bytes_are_responses n moves) (responses_are_answers n moves)
 
 pub turns_have_selectors : TurnsHaveSelectors
 turns_have_selectors n moves = begun_attested n (steps_of moves)

@@ -1,10 +1,10 @@
 -- Each response on a stream is the answer on the view of one publication (SPIFFE Workload API; own rules).
-use Rattle.std.specs.Prelude.{◌≡◌, ◌⊎◌, ℕ, ◌+◌, ◌≤◌, ◌==◌, false, List, [], ◌∷◌, ◌++◌, length, map, Option, Some, None}
+use Rattle.std.specs.Prelude.{◌≡◌, ◌⊎◌, ℕ, ◌≤◌, ◌==◌, false, List, [], ◌∷◌, ◌++◌, length, map, Option, Some, None}
 use Rattle.std.specs.List.{AllByRecursion}
 use Rattle.list_laws.specs.Lists.{BeginsWith}
-use Rattle.grpc_wire.specs.declared.prefix.TheConstants.{PREFIX_LEN}
 use Rattle.grpc_wire.specs.Messages.{framed, messages_of, IsOpen}
 use Rattle.workload_proto.specs.declared.message.JwtItem.{JwtItem}
+use Rattle.workload_proto.specs.declared.limits.TheConstants.{MAX_RESPONSE_LEN}
 use Rattle.workload_proto.specs.Spelling.{spell_jwt}
 use Rattle.wl_entry.specs.declared.tokens.JwtToken.{JwtToken}
 use Rattle.wl_health.specs.Messages.{spell_state}
@@ -38,7 +38,9 @@ token_items (w ∷ ws) (t ∷ tokens) = token_item w t ∷ token_items ws tokens
 -- the state of its service. A Check of a service that is not known is given none.
 abbrev pub IsMessageOn : CallKind → Sight → List JwtToken → List ℕ → Type 0
 IsMessageOn (Stream method) v tokens bytes = (m : List ℕ) × (answer_of method v ≡ Message m) × (bytes ≡ framed m)
-IsMessageOn (Tokens audience id) v tokens bytes = (length tokens ≡ length (asks_of id v)) × (bytes ≡ framed (spell_jwt (record { svids = token_items (asks_of id v) tokens })))
+IsMessageOn (Tokens audience id) v tokens bytes =
+    let message = spell_jwt (record { svids = token_items (asks_of id v) tokens }) in
+    (length tokens ≡ length (asks_of id v)) × (bytes ≡ framed message) × (length message ≤ MAX_RESPONSE_LEN)
 IsMessageOn (Check service) v tokens bytes = ((health_of service v == 3) ≡ false) × (bytes ≡ framed (spell_state (health_of service v)))
 IsMessageOn (Watch service) v tokens bytes = bytes ≡ framed (spell_state (health_of service v))
 
@@ -126,11 +128,7 @@ AreMessages [] messages = messages ≡ []
 AreMessages (r ∷ before) messages =
     (m : List ℕ) × (first : List (List ℕ)) × (messages ≡ first ++ m ∷ []) × (r.bytes ≡ framed m) × AreMessages before first
 
--- none is above the limit of a reader, in bytes
-abbrev pub AreWithin : ℕ → List Response → Type 0
-AreWithin limit responses = AllByRecursion (λ r. length r.bytes ≤ PREFIX_LEN + limit) responses
-
--- what was written, cut at the lengths of gRPC, is the first of these messages, and then a part of one more, or nothing
+-- what was written, cut at the lengths of gRPC by a reader with a limit, is the first of these messages, and then a part of one more, or nothing
 pub record IsCut (limit : ℕ) (r : Replies) : Type 0 where
   pub messages : List (List ℕ)
   pub are : AreMessages r.begun messages

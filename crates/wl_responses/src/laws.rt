@@ -2,7 +2,7 @@
 
 ghost use Rattle.wl_responses.specs.Steps.{StepsWriteFrames};
 ghost use Rattle.wl_responses.specs.Moves.{SessionsTakeSteps, BytesAreResponses, ResponsesAreAnswers, ResponsesDiffer, MessagesAreCut, TurnsHaveSelectors, TurnsWereTaken, PublicationsNeverFall};
-ghost use Rattle.wl_responses.specs.Runs.{SessionsHaveMoves, BytesOfResponses, AnswersOfTurns, TurnsOfCalls, SelectorsOfCalls, TurnsOfPublications, NumbersOfResponses, ResponsesOfRunsDiffer};
+ghost use Rattle.wl_responses.specs.Runs.{SessionsHaveMoves, BytesOfResponses, AnswersOfTurns, TurnsOfCalls, SelectorsOfCalls, TurnsOfPublications, NumbersOfResponses, ResponsesOfRunsDiffer, MessagesOfRuns};
 
 /// A session has the talk behind the steps of its moves, and wrote the bytes of these steps. These are this
 /// side's SETTINGS before all else, and of each step the queued control frames, then its HEADERS and DATA.
@@ -21,7 +21,7 @@ pub fn responses_are_answers()
     ensures selectors { TurnsHaveSelectors }
     ensures numbers { PublicationsNeverFall }
     ensures differ { ResponsesDiffer }
-    ensures cut { MessagesAreCut }
+    ensures messages { MessagesAreCut }
 {}
 
 /// The session on a connection of the core is the one behind its moves, and was written their bytes.
@@ -39,4 +39,5 @@ pub fn responses_are_of_publications()
     ensures publications { TurnsOfPublications }
     ensures numbers { NumbersOfResponses }
     ensures differ { ResponsesOfRunsDiffer }
+    ensures messages { MessagesOfRuns }
 {}

@@ -10,5 +10,5 @@ returns c =
       selectors = turns_have_selectors;
       numbers = publications_never_fall;
       differ = responses_differ;
-      cut = messages_are_cut;
+      messages = messages_are_cut;
     }
