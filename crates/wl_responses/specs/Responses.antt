@@ -120,6 +120,13 @@ IfTurn P (Some turn) = P turn
 abbrev pub AllTurns : (AnsweringTurn → Type 0) → List Response → Type 0
 AllTurns P responses = AllByRecursion (λ r. IfTurn P r.turn) responses
 
+abbrev pub StreamsHaveTurns : Type 0
+StreamsHaveTurns = (n : ℕ) (steps : List Step) → AllTurns (λ turn. WasTaken n turn steps) (replies_on n steps).begun
+
+abbrev pub StreamsHaveSelectors : Type 0
+StreamsHaveSelectors =
+    (n : ℕ) (steps : List Step) → AllTurns (λ turn. WasAttested n turn.selectors steps) (replies_on n steps).begun
+
 -- ---- as a reader of gRPC cuts them
 
 -- the messages of responses behind their prefixes, the first one first
@@ -128,7 +135,8 @@ AreMessages [] messages = messages ≡ []
 AreMessages (r ∷ before) messages =
     (m : List ℕ) × (first : List (List ℕ)) × (messages ≡ first ++ m ∷ []) × (r.bytes ≡ framed m) × AreMessages before first
 
--- what was written, cut at the lengths of gRPC by a reader with a limit, is the first of these messages, and then a part of one more, or nothing
+-- what was written, cut at the lengths of gRPC by a reader with a limit, is the first of these messages, and then a part of
+-- one more, or nothing
 pub record IsCut (limit : ℕ) (r : Replies) : Type 0 where
   pub messages : List (List ℕ)
   pub are : AreMessages r.begun messages

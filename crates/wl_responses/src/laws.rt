@@ -1,8 +1,18 @@
 //! What holds of each stream of a session, and of each session of the core.
 
 ghost use Rattle.wl_responses.specs.Steps.{StepsWriteFrames};
+ghost use Rattle.wl_responses.specs.Responses.{StreamsHaveAnswers, StreamsHaveTurns, StreamsHaveSelectors, NumbersNeverFall};
 ghost use Rattle.wl_responses.specs.Moves.{SessionsTakeSteps, BytesAreResponses, ResponsesAreAnswers, ResponsesDiffer, MessagesAreCut, TurnsHaveSelectors, TurnsWereTaken, PublicationsNeverFall};
 ghost use Rattle.wl_responses.specs.Runs.{SessionsHaveMoves, BytesOfResponses, AnswersOfTurns, TurnsOfCalls, SelectorsOfCalls, TurnsOfPublications, NumbersOfResponses, ResponsesOfRunsDiffer, MessagesOfRuns};
+
+/// Of each stream over all steps of a talk, whichever way its calls are attested: each response is the answer
+/// on the view of the publication of the latest turn that answered the stream before it began.
+pub fn streams_have_answers()
+    ensures answers { StreamsHaveAnswers }
+    ensures turns { StreamsHaveTurns }
+    ensures selectors { StreamsHaveSelectors }
+    ensures numbers { NumbersNeverFall }
+{}
 
 /// A session has the talk behind the steps of its moves, and wrote the bytes of these steps. These are this
 /// side's SETTINGS before all else, and of each step the queued control frames, then its HEADERS and DATA.
