@@ -35,8 +35,8 @@ use Rattle.wl_session.specs.Tokens.{change_first, is_unnamed, name_call, name_st
 use Rattle.wl_session.specs.Talks.{Talking, with_served, after_event, after_body, after_happening, after_happenings, after_frame, written, frame_said, break_said}
 use Rattle.wl_session.specs.Sessions.{turn_said, name_said, given_said}
 use Rattle.wl_responses.specs.Steps.{Step, FrameCame, BytesBroke, CallAttested, TurnTaken, OutcomeCame, step_said, talk_after}
-use Rattle.wl_responses.specs.Replies.{stage_on, replies_on}
-use Rattle.wl_responses.specs.Responses.{IsReadyAs, WasAttested, AllTurns}
+use Rattle.wl_responses.specs.Replies.{stage_on}
+use Rattle.wl_responses.specs.Responses.{IsReadyAs, WasAttested, StreamsHaveSelectors}
 use Rattle.wl_responses.proofs.Asides.{first_here, first_later, first_none}
 use Rattle.wl_responses.proofs.Taking.{all_have}
 
@@ -222,7 +222,7 @@ all_named : (steps : List Step) → AllNamed (attested_in steps) (talk_after ste
 all_named [] = tt
 all_named (step ∷ before) = step_named step before (all_named before)
 
-pub begun_attested : (n : ℕ) (steps : List Step) → AllTurns (λ turn. WasAttested n turn.selectors steps) (replies_on n steps).begun
+pub begun_attested : StreamsHaveSelectors
 begun_attested n steps =
     all_have n (λ steps turn. WasAttested n turn.selectors steps)
     (record {

@@ -1,3 +1,5 @@
+mod Bytes
+mod Sizes
 mod Outgoing
 mod Writing
 mod Opened
@@ -10,6 +12,7 @@ mod Replying
 mod Falling
 mod Taking
 mod Attesting
+mod Cutting
 mod Moving
 mod Running
 mod Living

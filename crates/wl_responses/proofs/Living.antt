@@ -21,8 +21,8 @@ use Rattle.wl_core.specs.Traces.{ask_items, gain, joined_trace, trace_after, tra
 use Rattle.wl_core.proofs.Tracing.{bytes_of_trace}
 use Rattle.wl_responses.specs.Responses.{NeverFall}
 use Rattle.wl_responses.specs.Moves.{Move, Fed, TurnedOn, GivenTo, steps_of, numbers_turned, replies_in}
-use Rattle.wl_responses.specs.Runs.{gain_moves, joined_moves, with_outcome_for, moves_after, moves_of, WasPublished, HasMoves, SessionsHaveMoves, BytesOfResponses, AnswersOfTurns, TurnsOfCalls, SelectorsOfCalls, TurnsOfPublications, NumbersOfResponses, ResponsesOfRunsDiffer}
-use Rattle.wl_responses.proofs.Moving.{bytes_are_responses, responses_are_answers, responses_differ, turns_were_taken, turns_have_selectors, publications_never_fall}
+use Rattle.wl_responses.specs.Runs.{gain_moves, joined_moves, with_outcome_for, moves_after, moves_of, WasPublished, HasMoves, SessionsHaveMoves, BytesOfResponses, AnswersOfTurns, TurnsOfCalls, SelectorsOfCalls, TurnsOfPublications, NumbersOfResponses, ResponsesOfRunsDiffer, MessagesOfRuns}
+use Rattle.wl_responses.proofs.Moving.{messages_are_cut, bytes_are_responses, responses_are_answers, responses_differ, turns_were_taken, turns_have_selectors, publications_never_fall}
 use Rattle.wl_responses.proofs.Running.{seat_step, seat_next, number_after, now_published, AllRead, moves_read, turns_read, Led, Lived, Life, life_weaker, one_move}
 
 -- ---- a session does as it is told
@@ -183,3 +183,6 @@ numbers_of_responses d past conn n moves within is = publications_never_fall n m
 
 pub responses_of_runs_differ : ResponsesOfRunsDiffer
 responses_of_runs_differ d past conn n moves within is = responses_differ n moves
+
+pub messages_of_runs : MessagesOfRuns
+messages_of_runs d past conn n moves within is = messages_are_cut n moves

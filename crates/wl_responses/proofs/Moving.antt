@@ -13,10 +13,11 @@ use Rattle.wl_session.specs.Sessions.{SessionState, Running, Fallen, OutOfMemory
 use Rattle.wl_session.specs.Steps.{Told, unnamed_count, names_said, fed_by, feed_told, turn_told, outcome_told}
 use Rattle.wl_responses.specs.Steps.{Step, FrameCame, BytesBroke, CallAttested, TurnTaken, OutcomeCame, step_said, talk_after, AllFit}
 use Rattle.wl_responses.specs.Responses.{NoneAbove, NeverFall, numbers_read}
-use Rattle.wl_responses.specs.Moves.{Move, Fed, TurnedOn, GivenTo, move_told, session_after, onto_frames, onto_ending, onto_names, onto_fed, onto_reading, onto_move, steps_of, bytes_of_steps, HasTalk, SessionsTakeSteps, BytesAreResponses, ResponsesAreAnswers, ResponsesDiffer, TurnsHaveSelectors, TurnsWereTaken, number_turned, numbers_turned, PublicationsNeverFall}
+use Rattle.wl_responses.specs.Moves.{Move, Fed, TurnedOn, GivenTo, move_told, session_after, onto_frames, onto_ending, onto_names, onto_fed, onto_reading, onto_move, steps_of, bytes_of_steps, HasTalk, SessionsTakeSteps, BytesAreResponses, ResponsesAreAnswers, ResponsesDiffer, replies_in, MessagesAreCut, TurnsHaveSelectors, TurnsWereTaken, number_turned, numbers_turned, PublicationsNeverFall}
 use Rattle.wl_responses.proofs.Replying.{streams_have_answers}
 use Rattle.wl_responses.proofs.Falling.{numbers_never_fall}
 use Rattle.wl_responses.proofs.Taking.{begun_taken}
+use Rattle.wl_responses.proofs.Cutting.{responses_cut}
 use Rattle.wl_responses.proofs.Attesting.{begun_attested}
 
 -- these steps take a talk to what is said, and write its bytes
@@ -162,6 +163,9 @@ responses_are_answers n moves = (streams_have_answers n (steps_of moves) (steps_
 
 pub responses_differ : ResponsesDiffer
 responses_differ n moves = (streams_have_answers n (steps_of moves) (steps_fit moves)).differ
+
+pub messages_are_cut : MessagesAreCut
+messages_are_cut n moves = responses_cut (replies_in n moves) (bytes_are_responses n moves) (responses_are_answers n moves)
 
 pub turns_have_selectors : TurnsHaveSelectors
 turns_have_selectors n moves = begun_attested n (steps_of moves)

@@ -1,11 +1,12 @@
 -- What a turn, a name and a token do for all calls of a session, as to one stream.
-use Rattle.std.proofs.Common.{◌≡◌, ◌⊎◌, inl, inr, ℕ, ◌==◌, length, Bool, true, false, nat_lt, if◌then◌else◌, List, [], ◌∷◌, ◌++◌, Option, Some, refl, sym, ap, subst, ◌∙◌, arith, eq-eqb, eqb-true, ne_eqb, append_assoc, length-append}
+use Rattle.std.proofs.Common.{◌≡◌, ◌⊎◌, inl, inr, ℕ, ◌≤◌, ◌==◌, length, Bool, true, false, nat_lt, if◌then◌else◌, List, [], ◌∷◌, ◌++◌, Option, Some, refl, sym, ap, subst, ◌∙◌, arith, eq-eqb, eqb-true, ne_eqb, append_assoc, length-append}
 use Rattle.std.proofs.lemmas.Bool.{cases_Bool}
 use Rattle.h2_flow.specs.declared.stream.Stream as flow
 use Rattle.h2_conn.specs.declared.phase.Phase.{Phase}
 use Rattle.grpc_wire.specs.Messages.{framed}
 use Rattle.grpc_wire.specs.declared.refusal.Refusal.TheVariants.{LongResponse, Unsigned}
 use Rattle.workload_proto.specs.declared.message.JwtItem.{JwtItem}
+use Rattle.workload_proto.specs.declared.limits.TheConstants.{MAX_RESPONSE_LEN}
 use Rattle.workload_proto.specs.Spelling.{spell_jwt, capped}
 use Rattle.wl_entry.specs.declared.tokens.JwtToken.{JwtToken}
 use Rattle.wl_snapshot.specs.Snapshots.{Publication}
@@ -24,6 +25,7 @@ use Rattle.wl_session.specs.Tokens.{change_first, is_unnamed, name_on, is_asking
 use Rattle.wl_responses.specs.Replies.{AnsweringTurn, Replies, stage_on, answering, one_token_more, with_outcome, asks_first}
 use Rattle.wl_responses.specs.Responses.{token_items, IsMessageOn, IsMessageOf}
 use Rattle.wl_responses.proofs.Outgoing.{OnPhase, differ, IsUnfinished}
+use Rattle.wl_responses.proofs.Sizes.{not_above}
 use Rattle.wl_responses.proofs.Writing.{Matches}
 use Rattle.wl_responses.proofs.Asides.{NoneOn, Aside, over as apart_over, on as apart_on, AllAside, still_aside, turn_aside, calls_aside, name_aside, give_aside, first_here, first_later, first_none, first_aside}
 use Rattle.wl_responses.proofs.Owning.{wanted_by, AsksOf, StageFits, Serves, none_one, none_fits, not_waiting, Own, over, on, Holds, refused, ends_well, stays, turn_own, name_stage_own, items_more}
@@ -43,20 +45,22 @@ all_items turn first rest got t a = ap (λ (items : List JwtItem). items ++ item
 one_more : (ws : List Wanted) (ts : List JwtToken) (w : Wanted) (t : JwtToken) → length ts ≡ length ws → length (ts ++ t ∷ []) ≡ length (ws ++ w ∷ [])
 one_more ws ts w t e = omega (arith, e, length-append ws (w ∷ []), length-append ts (t ∷ []))
 
-last_token : (turn : Option AnsweringTurn) (first : JwtAsk) (got : List JwtItem) (t : JwtToken) → AsksOf turn first [] got → IsMessageOf (one_token_more t turn) (framed (spell_jwt (record { svids = got ++ item_for first t ∷ [] })))
-last_token turn first got t a =
+last_token : (turn : Option AnsweringTurn) (first : JwtAsk) (got : List JwtItem) (t : JwtToken) → AsksOf turn first [] got → length (spell_jwt (record { svids = got ++ item_for first t ∷ [] })) ≤ MAX_RESPONSE_LEN
+    → IsMessageOf (one_token_more t turn) (framed (spell_jwt (record { svids = got ++ item_for first t ∷ [] })))
+last_token turn first got t a short =
     let bytes = framed (spell_jwt (record { svids = got ++ item_for first t ∷ [] })) in
     let count : length (a.tokens ++ t ∷ []) ≡ length (asks_of a.id (view_in a.publication a.selectors)) = one_more a.done a.tokens (wanted_by first) t a.count ∙ ap length (sym a.asks) in
     let items : got ++ item_for first t ∷ [] ≡ token_items (asks_of a.id (view_in a.publication a.selectors)) (a.tokens ++ t ∷ []) = all_items turn first [] got t a ∙ ap (λ (ws : List Wanted). token_items ws (a.tokens ++ t ∷ [])) (sym a.asks) in
-    let is : IsMessageOn (Tokens a.audience a.id) (view_in a.publication a.selectors) (a.tokens ++ t ∷ []) bytes = (count, ap (λ (xs : List JwtItem). framed (spell_jwt (record { svids = xs }))) items) in
+    let fits : length (spell_jwt (record { svids = token_items (asks_of a.id (view_in a.publication a.selectors)) (a.tokens ++ t ∷ []) })) ≤ MAX_RESPONSE_LEN = subst (λ (xs : List JwtItem). length (spell_jwt (record { svids = xs })) ≤ MAX_RESPONSE_LEN) items short in
+    let is : IsMessageOn (Tokens a.audience a.id) (view_in a.publication a.selectors) (a.tokens ++ t ∷ []) bytes = (count, ap (λ (xs : List JwtItem). framed (spell_jwt (record { svids = xs }))) items, fits) in
     subst (λ (u : Option AnsweringTurn). IsMessageOf u bytes) (sym (ap (one_token_more t) a.is)) is
 
-tokens_own : (n : ℕ) (m : List ℕ) (old new : Option AnsweringTurn) (r : Replies) (p : Phase) → IsMessageOf new (framed m) → Holds n old r p → Own n new r (token_message n m p)
-tokens_own n m old new r p is h = go (nat_lt 4194304 (capped (length m)))
+tokens_own : (n : ℕ) (m : List ℕ) (old new : Option AnsweringTurn) (r : Replies) (p : Phase) → (length m ≤ MAX_RESPONSE_LEN → IsMessageOf new (framed m)) → Holds n old r p → Own n new r (token_message n m p)
+tokens_own n m old new r p is h = go (nat_lt MAX_RESPONSE_LEN (capped (length m))) refl
   where
-    go : (b : Bool) → Own n new r (if b then has_ended (with_refusal n false LongResponse p) else has_ended (with_last_message n false m p))
-    go true = refused n false LongResponse old new r p h
-    go false = ends_well n false m old new r p is h
+    go : (b : Bool) → nat_lt MAX_RESPONSE_LEN (capped (length m)) ≡ b → Own n new r (if b then has_ended (with_refusal n false LongResponse p) else has_ended (with_last_message n false m p))
+    go true long = refused n false LongResponse old new r p h
+    go false short = ends_well n false m old new r p (is (not_above m short)) h
 
 next_own : (n : ℕ) (first : JwtAsk) (rest : List Wanted) (got : List JwtItem) (t : JwtToken) (turn : Option AnsweringTurn) (r : Replies) (p : Phase) → AsksOf turn first rest got → Holds n turn r p
     → Own n (one_token_more t turn) r (next_ask n first.audience rest (got ++ item_for first t ∷ []) p)

@@ -9,7 +9,7 @@ use Rattle.wl_session.specs.declared.served.Stage.{Stage}
 use Rattle.wl_session.specs.declared.served.Stage.TheVariants.{Unnamed, Ready, Asking}
 use Rattle.wl_responses.specs.Steps.{Step, FrameCame, BytesBroke, CallAttested, TurnTaken, OutcomeCame, talk_after}
 use Rattle.wl_responses.specs.Replies.{AnsweringTurn, Response, Replies, begin_with, replies_with, stage_on, answering, with_outcome, asks_first, turn_after, turn_on, replies_on}
-use Rattle.wl_responses.specs.Responses.{IsReadyAs, WasTaken, IfTurn, AllTurns}
+use Rattle.wl_responses.specs.Responses.{IsReadyAs, WasTaken, IfTurn, AllTurns, StreamsHaveTurns}
 
 -- ---- what holds of turns
 
@@ -97,5 +97,5 @@ same_turn n turn tokens (TurnTaken x ∷ before) (inl h) = inl h
 same_turn n turn tokens (OutcomeCame o ∷ before) (inl h) = absurd h
 same_turn n turn tokens (step ∷ before) (inr h) = inr (same_turn n turn tokens before h)
 
-pub begun_taken : (n : ℕ) (steps : List Step) → AllTurns (λ turn. WasTaken n turn steps) (replies_on n steps).begun
+pub begun_taken : StreamsHaveTurns
 begun_taken n steps = all_have n (λ steps turn. WasTaken n turn steps) (record { later = λ step before turn h. inr h; token = λ steps turn tokens h. same_turn n turn tokens steps h; taken = λ x before kind sel is. inl (refl, is) }) steps

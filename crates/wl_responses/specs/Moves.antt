@@ -4,6 +4,7 @@ use Rattle.std.specs.List.{AllByRecursion}
 use Rattle.h2_frame.specs.declared.frame.Frame.{Frame}
 use Rattle.h2_frame.specs.Reading.{End, Opening, Rest, Fault, Reading, reading_from}
 use Rattle.h2_conn.specs.declared.fault.ConnFault.{ConnFault}
+use Rattle.workload_proto.specs.declared.limits.TheConstants.{MAX_RESPONSE_LEN}
 use Rattle.wl_snapshot.specs.Snapshots.{Publication}
 use Rattle.wl_session.specs.declared.asks.JwtOutcome.{JwtOutcome}
 use Rattle.wl_session.specs.Talks.{Talking}
@@ -11,7 +12,7 @@ use Rattle.wl_session.specs.Sessions.{SessionState, Running, Fallen, OutOfMemory
 use Rattle.wl_session.specs.Steps.{Told, unnamed_count, feed_told, turn_told, outcome_told}
 use Rattle.wl_responses.specs.Steps.{Step, FrameCame, BytesBroke, CallAttested, TurnTaken, OutcomeCame, step_said, talk_after}
 use Rattle.wl_responses.specs.Replies.{Replies, replies_on}
-use Rattle.wl_responses.specs.Responses.{IsAnswer, all_bytes, AllDiffer, WasTaken, WasAttested, AllTurns, NeverFall, numbers_of}
+use Rattle.wl_responses.specs.Responses.{IsAnswer, all_bytes, AllDiffer, IsCut, WasTaken, WasAttested, AllTurns, NeverFall, numbers_of}
 
 -- ---- a session
 
@@ -114,6 +115,10 @@ TurnsHaveSelectors = (n : ℕ) (moves : List Move) → AllTurns (λ turn. WasAtt
 
 abbrev pub TurnsWereTaken : Type 0
 TurnsWereTaken = (n : ℕ) (moves : List Move) → AllTurns (λ turn. WasTaken n turn (steps_of moves)) (replies_in n moves).begun
+
+-- a reader of gRPC finds the first of their messages in the bytes of DATA, and no fault
+abbrev pub MessagesAreCut : Type 0
+MessagesAreCut = (n : ℕ) (moves : List Move) → IsCut MAX_RESPONSE_LEN (replies_in n moves)
 
 -- the numbers of the publications of its turns, the last one first
 abbrev pub number_turned : Move → List ℕ → List ℕ

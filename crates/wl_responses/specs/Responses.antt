@@ -1,8 +1,10 @@
 -- Each response on a stream is the answer on the view of one publication (SPIFFE Workload API; own rules).
 use Rattle.std.specs.Prelude.{◌≡◌, ◌⊎◌, ℕ, ◌≤◌, ◌==◌, false, List, [], ◌∷◌, ◌++◌, length, map, Option, Some, None}
 use Rattle.std.specs.List.{AllByRecursion}
-use Rattle.grpc_wire.specs.Messages.{framed}
+use Rattle.list_laws.specs.Lists.{BeginsWith}
+use Rattle.grpc_wire.specs.Messages.{framed, messages_of, IsOpen}
 use Rattle.workload_proto.specs.declared.message.JwtItem.{JwtItem}
+use Rattle.workload_proto.specs.declared.limits.TheConstants.{MAX_RESPONSE_LEN}
 use Rattle.workload_proto.specs.Spelling.{spell_jwt}
 use Rattle.wl_entry.specs.declared.tokens.JwtToken.{JwtToken}
 use Rattle.wl_health.specs.Messages.{spell_state}
@@ -36,7 +38,9 @@ token_items (w ∷ ws) (t ∷ tokens) = token_item w t ∷ token_items ws tokens
 -- the state of its service. A Check of a service that is not known is given none.
 abbrev pub IsMessageOn : CallKind → Sight → List JwtToken → List ℕ → Type 0
 IsMessageOn (Stream method) v tokens bytes = (m : List ℕ) × (answer_of method v ≡ Message m) × (bytes ≡ framed m)
-IsMessageOn (Tokens audience id) v tokens bytes = (length tokens ≡ length (asks_of id v)) × (bytes ≡ framed (spell_jwt (record { svids = token_items (asks_of id v) tokens })))
+IsMessageOn (Tokens audience id) v tokens bytes =
+    let message = spell_jwt (record { svids = token_items (asks_of id v) tokens }) in
+    (length tokens ≡ length (asks_of id v)) × (bytes ≡ framed message) × (length message ≤ MAX_RESPONSE_LEN)
 IsMessageOn (Check service) v tokens bytes = ((health_of service v == 3) ≡ false) × (bytes ≡ framed (spell_state (health_of service v)))
 IsMessageOn (Watch service) v tokens bytes = bytes ≡ framed (spell_state (health_of service v))
 
@@ -115,6 +119,29 @@ IfTurn P (Some turn) = P turn
 
 abbrev pub AllTurns : (AnsweringTurn → Type 0) → List Response → Type 0
 AllTurns P responses = AllByRecursion (λ r. IfTurn P r.turn) responses
+
+abbrev pub StreamsHaveTurns : Type 0
+StreamsHaveTurns = (n : ℕ) (steps : List Step) → AllTurns (λ turn. WasTaken n turn steps) (replies_on n steps).begun
+
+abbrev pub StreamsHaveSelectors : Type 0
+StreamsHaveSelectors =
+    (n : ℕ) (steps : List Step) → AllTurns (λ turn. WasAttested n turn.selectors steps) (replies_on n steps).begun
+
+-- ---- as a reader of gRPC cuts them
+
+-- the messages of responses behind their prefixes, the first one first
+abbrev pub AreMessages : List Response → List (List ℕ) → Type 0
+AreMessages [] messages = messages ≡ []
+AreMessages (r ∷ before) messages =
+    (m : List ℕ) × (first : List (List ℕ)) × (messages ≡ first ++ m ∷ []) × (r.bytes ≡ framed m) × AreMessages before first
+
+-- what was written, cut at the lengths of gRPC by a reader with a limit, is the first of these messages, and then a part of
+-- one more, or nothing
+pub record IsCut (limit : ℕ) (r : Replies) : Type 0 where
+  pub messages : List (List ℕ)
+  pub are : AreMessages r.begun messages
+  pub cut : BeginsWith messages (messages_of limit r.written).messages
+  pub unbroken : IsOpen (messages_of limit r.written).ending
 
 -- ---- numbers
 

@@ -3,6 +3,7 @@ use Rattle.std.specs.Prelude.{◌≡◌, ◌⊎◌, ℕ, ◌<◌, ◌==◌, if�
 use Rattle.std.specs.List.{AllByRecursion}
 use Rattle.wl_entry.specs.declared.tokens.JwtToken.{JwtToken}
 use Rattle.jwt_cache.specs.declared.rings.CachedToken.{CachedToken}
+use Rattle.workload_proto.specs.declared.limits.TheConstants.{MAX_RESPONSE_LEN}
 use Rattle.wl_snapshot.specs.Snapshots.{Publication}
 use Rattle.wl_session.specs.declared.asks.JwtAsk.{JwtAsk}
 use Rattle.wl_session.specs.Sessions.{asks_in}
@@ -15,7 +16,7 @@ use Rattle.wl_core.specs.Tokens.{kept_token, outcome_of}
 use Rattle.wl_core.specs.Moments.{Beginning, Moment, moment, publication, seat}
 use Rattle.wl_core.specs.Lines.{transcript}
 use Rattle.wl_core.specs.Traces.{told_to}
-use Rattle.wl_responses.specs.Responses.{IsAnswer, all_bytes, AllDiffer, WasTaken, WasAttested, AllTurns, NeverFall, numbers_of}
+use Rattle.wl_responses.specs.Responses.{IsAnswer, all_bytes, AllDiffer, IsCut, WasTaken, WasAttested, AllTurns, NeverFall, numbers_of}
 use Rattle.wl_responses.specs.Moves.{Move, Fed, TurnedOn, GivenTo, session_after, bytes_after, steps_of, replies_in}
 
 -- ---- the moves of a session
@@ -100,3 +101,7 @@ NumbersOfResponses = OnEachStream (λ d past n moves. NeverFall (numbers_of (rep
 -- no two responses that follow each other are equal
 abbrev pub ResponsesOfRunsDiffer : Type 0
 ResponsesOfRunsDiffer = OnEachStream (λ d past n moves. AllDiffer (replies_in n moves).begun)
+
+-- a reader of gRPC finds the first of their messages in the bytes of DATA, and no fault
+abbrev pub MessagesOfRuns : Type 0
+MessagesOfRuns = OnEachStream (λ d past n moves. IsCut MAX_RESPONSE_LEN (replies_in n moves))

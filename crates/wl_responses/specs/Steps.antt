@@ -1,9 +1,10 @@
 -- A talk as a list of steps, the last one first: what came to it, and the frames that were written behind each (own rules).
-use Rattle.std.specs.Prelude.{ℕ, List, [], ◌∷◌, Option, Some, None}
+use Rattle.std.specs.Prelude.{◌≡◌, ℕ, List, [], ◌∷◌, ◌++◌, Option, Some, None}
 use Rattle.h2_frame.specs.declared.fault.FrameFault.{FrameFault}
 use Rattle.h2_frame.specs.declared.frame.Frame.{Frame}
 use Rattle.h2_flow.specs.Streams.{Sent}
 use Rattle.h2_flow.specs.Outboxes.{pull_of}
+use Rattle.h2_flow.specs.Pulls.{bytes_of}
 use Rattle.h2_conn.specs.declared.phase.Phase.{Phase}
 use Rattle.h2_conn.specs.declared.phase.Phase.TheVariants.{Open, Failed, OutOfMemory}
 use Rattle.h2_conn.specs.Conns.{after_frame_fault}
@@ -12,7 +13,7 @@ use Rattle.wl_snapshot.specs.Snapshots.{Publication}
 use Rattle.wl_session.specs.declared.asks.JwtOutcome.{JwtOutcome}
 use Rattle.wl_session.specs.Answering.{calls_turn}
 use Rattle.wl_session.specs.Tokens.{name_first, give_first}
-use Rattle.wl_session.specs.Talks.{Talking, Said, fresh_talk, after_frame, frame_said, break_said}
+use Rattle.wl_session.specs.Talks.{Talking, Said, fresh_talk, after_frame, greeting, frame_said, break_said}
 use Rattle.wl_session.specs.Sessions.{turn_said, name_said, given_said}
 
 -- A frame of the peer came; bytes came that are no frame; the first call that was not attested got its selectors, or could
@@ -73,3 +74,27 @@ frames_of (CallAttested None) t = frames_due (unwritten (CallAttested None) t)
 frames_of (CallAttested (Some selectors)) t = []
 frames_of (TurnTaken x) t = frames_due (unwritten (TurnTaken x) t)
 frames_of (OutcomeCame o) t = frames_due (unwritten (OutcomeCame o) t)
+
+-- ---- its bytes
+
+-- the control frames that are queued on a connection; after a fault what is still due, the last frame of which is GOAWAY
+abbrev pub control_due : Phase → List ℕ
+control_due (Open q) = q.outbox.control
+control_due (Failed fault left totals) = left
+control_due (OutOfMemory totals) = []
+
+-- this side's SETTINGS before all else, the control frames, and then HEADERS and DATA
+abbrev pub AreDue : Step → Talking → Type 0
+AreDue step t =
+    (step_said step t).bytes ≡ greeting t.greeted ++ (control_due (unwritten step t) ++ bytes_of (frames_of step t))
+
+abbrev pub WritesFrames : Step → Talking → Type 0
+WritesFrames (FrameCame f) t = AreDue (FrameCame f) t
+WritesFrames (BytesBroke why) t = AreDue (BytesBroke why) t
+WritesFrames (CallAttested None) t = AreDue (CallAttested None) t
+WritesFrames (CallAttested (Some selectors)) t = (step_said (CallAttested (Some selectors)) t).bytes ≡ []
+WritesFrames (TurnTaken x) t = AreDue (TurnTaken x) t
+WritesFrames (OutcomeCame o) t = AreDue (OutcomeCame o) t
+
+abbrev pub StepsWriteFrames : Type 0
+StepsWriteFrames = (step : Step) (t : Talking) → WritesFrames step t

@@ -1,11 +1,24 @@
 //! What holds of each stream of a session, and of each session of the core.
 
-ghost use Rattle.wl_responses.specs.Moves.{SessionsTakeSteps, BytesAreResponses, ResponsesAreAnswers, ResponsesDiffer, TurnsHaveSelectors, TurnsWereTaken, PublicationsNeverFall};
-ghost use Rattle.wl_responses.specs.Runs.{SessionsHaveMoves, BytesOfResponses, AnswersOfTurns, TurnsOfCalls, SelectorsOfCalls, TurnsOfPublications, NumbersOfResponses, ResponsesOfRunsDiffer};
+ghost use Rattle.wl_responses.specs.Steps.{StepsWriteFrames};
+ghost use Rattle.wl_responses.specs.Responses.{StreamsHaveAnswers, StreamsHaveTurns, StreamsHaveSelectors, NumbersNeverFall};
+ghost use Rattle.wl_responses.specs.Moves.{SessionsTakeSteps, BytesAreResponses, ResponsesAreAnswers, ResponsesDiffer, MessagesAreCut, TurnsHaveSelectors, TurnsWereTaken, PublicationsNeverFall};
+ghost use Rattle.wl_responses.specs.Runs.{SessionsHaveMoves, BytesOfResponses, AnswersOfTurns, TurnsOfCalls, SelectorsOfCalls, TurnsOfPublications, NumbersOfResponses, ResponsesOfRunsDiffer, MessagesOfRuns};
 
-/// A session has the talk behind the steps of its moves, and wrote the bytes of these steps.
+/// Of each stream over all steps of a talk, whichever way its calls are attested: each response is the answer
+/// on the view of the publication of the latest turn that answered the stream before it began.
+pub fn streams_have_answers()
+    ensures answers { StreamsHaveAnswers }
+    ensures turns { StreamsHaveTurns }
+    ensures selectors { StreamsHaveSelectors }
+    ensures numbers { NumbersNeverFall }
+{}
+
+/// A session has the talk behind the steps of its moves, and wrote the bytes of these steps. These are this
+/// side's SETTINGS before all else, and of each step the queued control frames, then its HEADERS and DATA.
 pub fn sessions_take_steps()
-    ensures { SessionsTakeSteps }
+    ensures steps { SessionsTakeSteps }
+    ensures frames { StepsWriteFrames }
 {}
 
 /// Of each stream of a session: with what is left of the last response, the bytes of DATA that were written
@@ -18,6 +31,7 @@ pub fn responses_are_answers()
     ensures selectors { TurnsHaveSelectors }
     ensures numbers { PublicationsNeverFall }
     ensures differ { ResponsesDiffer }
+    ensures messages { MessagesAreCut }
 {}
 
 /// The session on a connection of the core is the one behind its moves, and was written their bytes.
@@ -35,4 +49,5 @@ pub fn responses_are_of_publications()
     ensures publications { TurnsOfPublications }
     ensures numbers { NumbersOfResponses }
     ensures differ { ResponsesOfRunsDiffer }
+    ensures messages { MessagesOfRuns }
 {}

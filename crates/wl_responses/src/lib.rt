@@ -5,4 +5,5 @@ mod laws;
 
 pub use laws::{
     responses_are_answers, responses_are_of_publications, sessions_have_moves, sessions_take_steps,
+    streams_have_answers,
 };

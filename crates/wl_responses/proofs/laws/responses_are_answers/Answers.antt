@@ -1,4 +1,4 @@
-use Rattle.wl_responses.proofs.Moving.{bytes_are_responses, responses_are_answers, turns_were_taken, turns_have_selectors, publications_never_fall, responses_differ}
+use Rattle.wl_responses.proofs.Moving.{bytes_are_responses, responses_are_answers, turns_were_taken, turns_have_selectors, publications_never_fall, responses_differ, messages_are_cut}
 use Rattle.wl_responses.proofs.laws.responses_are_answers.Goals as goal
 
 pub returns : goal.returns
@@ -10,4 +10,5 @@ returns c =
       selectors = turns_have_selectors;
       numbers = publications_never_fall;
       differ = responses_differ;
+      messages = messages_are_cut;
     }
