@@ -5,7 +5,7 @@ use crate::{
     RealUpstream, bind, bind_all,
 };
 use std::alloc::Global;
-use std::io::Write;
+use std::io::{Read, Write};
 use std::os::unix::net::{UnixListener, UnixStream};
 use std::test::Fail;
 use std::time::{Duration, Instant};
@@ -62,6 +62,24 @@ fn a_listener_gives_links_and_replaces_what_is_stale(rt: HostRuntime) -> Result<
     drop(peer);
     assert_eq!(rt; link.try_send(b"f"), TrySent::Failed);
     listener.finish(link);
+    fs::remove_file(&rt, path.as_str())?;
+    Ok(())
+}
+
+/// What a peer reads of a connection that was finished over bytes of its own that nobody read: the last bytes, then
+/// the end.
+#[test]
+fn a_finished_link_gives_its_peer_the_end(rt: HostRuntime) -> Result<(), Fail> {
+    let path = path_of(&rt, "finish")?;
+    let mut listener = bind(&rt, path.as_str()).map_err(|_| "bind")?;
+    let mut peer = UnixStream::connect(&rt, path.as_str())?;
+    peer.write_all(b"unread")?;
+    let mut link = accepted(&mut listener)?;
+    assert_eq!(rt; link.try_send(b"bye"), TrySent::Took(3));
+    listener.finish(link);
+    let mut text = Vec::new(rt.alloc());
+    peer.read_to_end(&mut text)?;
+    assert_eq!(rt; text.as_slice(), b"bye".as_slice());
     fs::remove_file(&rt, path.as_str())?;
     Ok(())
 }
