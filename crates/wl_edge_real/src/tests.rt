@@ -6,7 +6,7 @@ use crate::{
 };
 use std::alloc::{AllocGlobal, Global};
 use std::fs::Files;
-use std::io::Write;
+use std::io::{Read, Write};
 use std::net::Net;
 use std::os::unix::net::{UnixListener, UnixStream};
 use std::test::Fail;
@@ -93,6 +93,34 @@ fn a_listener_gives_links(rt: HostRuntime) -> Result<(), Fail> {
     let mut link = accepted(&mut listener)?;
     assert!(rt; carries(&mut link, peer)?);
     listener.finish(link);
+    fs::remove_file(&rt, path.as_str())?;
+    Ok(())
+}
+
+/// Whether the next link takes three bytes and is then finished.
+fn says_bye(listener: &mut RealListener) -> Result<bool, Fail> {
+    let mut link = accepted(listener)?;
+    let answer = link.try_send(b"bye");
+    listener.finish(link);
+    Ok(answer == TrySent::Took(3))
+}
+
+/// Whether these three bytes come, and then the end.
+fn reads_bye(alloc: Global, peer: &mut UnixStream) -> Result<bool, Fail> {
+    let mut text = Vec::new(alloc);
+    peer.read_to_end(&mut text)?;
+    Ok(text.as_slice() == b"bye".as_slice())
+}
+
+/// What a peer reads of a connection that was finished over bytes of its own that nobody read: the last bytes, then
+/// the end.
+#[test]
+fn a_finished_link_gives_its_peer_the_end(rt: HostRuntime) -> Result<(), Fail> {
+    let path = path_of(&rt, "finish")?;
+    let mut listener = bound(&rt, path.as_str())?;
+    let mut peer = UnixStream::connect(&rt, path.as_str())?;
+    peer.write_all(b"unread")?;
+    assert!(rt; says_bye(&mut listener)? && reads_bye(rt.alloc(), &mut peer)?);
     fs::remove_file(&rt, path.as_str())?;
     Ok(())
 }
