@@ -1,4 +1,5 @@
 mod replays;
+mod simulations;
 
 use crate::publication::publication;
 use crate::status::{DONE, TOO_LONG};
