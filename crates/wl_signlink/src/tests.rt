@@ -595,7 +595,7 @@ struct Asks {
     audience: Row<Octets>,
 }
 
-fn asks(alloc: Global) -> Result<Asks, Fail> {
+fn make_asks(alloc: Global) -> Result<Asks, Fail> {
     let ask = ask_of(alloc, b"e1", &[])?;
     let other = ask_of(alloc, b"\xff", &[])?;
     Ok(Asks {
@@ -619,7 +619,7 @@ fn a_signer_behind_a_socket(rt: HostRuntime) -> Result<(), Fail> {
     let _ = std::fs::remove_file(&rt, path.as_str());
     let listener = UnixListener::bind(&rt, path.as_str())?;
     let mut link = SignLink::start(&rt, rt.alloc(), path.as_bytes())?;
-    let asks = asks(rt.alloc())?;
+    let asks = make_asks(rt.alloc())?;
     let audience = asks.audience.as_slice();
     let ended = AtomicUsize::new(0);
     let (served, (found, last)) = join(
