@@ -56,48 +56,80 @@ fn finds(
     }
 }
 
-#[test]
-fn token_calls(rt: HostRuntime) -> Result<(), Fail> {
-    let alloc = rt.alloc();
-    let ask = ask(alloc, b"e1")?;
+/// The same for two audiences.
+fn finds_for(
+    alloc: Global,
+    tokens: &Tokens,
+    ask: &Ask,
+    audience: (&[u8], &[u8]),
+    text: &[u8],
+) -> Result<bool, Memory> {
+    let audience = audiences(alloc, audience.0, audience.1)?;
+    finds(alloc, tokens, ask, audience.as_slice(), 149, text)
+}
+
+/// A token `t` for the audiences `b` and `a` is kept.
+fn kept(alloc: Global, ask: &Ask) -> Result<Tokens, Memory> {
     let audience = audiences(alloc, b"b", b"a")?;
     let mut tokens = Tokens::start(alloc);
-    assert!(rt; finds(alloc, &tokens, &ask, audience.as_slice(), 149, b"")?);
-    keep(alloc, &mut tokens, &ask, audience.as_slice(), b"t")?;
-    assert!(rt; finds(alloc, &tokens, &ask, audience.as_slice(), 149, b"t")?);
-    assert!(rt; finds(alloc, &tokens, &ask, audience.as_slice(), 150, b"")?);
-    tokens.forget(b"e1");
-    assert!(rt; finds(alloc, &tokens, &ask, audience.as_slice(), 149, b"")?);
+    keep(alloc, &mut tokens, ask, audience.as_slice(), b"t")?;
+    Ok(tokens)
+}
+
+/// Whether these are found at these times for the audiences `b` and `a`.
+fn are_found(
+    alloc: Global,
+    tokens: &Tokens,
+    ask: &Ask,
+    due: &[(u64, &[u8])],
+) -> Result<bool, Memory> {
+    let audience = audiences(alloc, b"b", b"a")?;
+    for (now, text) in due {
+        if !finds(alloc, tokens, ask, audience.as_slice(), *now, text)? {
+            return Ok(false);
+        }
+    }
+    Ok(true)
+}
+
+#[test]
+fn token_calls(rt: HostRuntime) -> Result<(), Fail> {
+    let ask = ask(rt.alloc(), b"e1")?;
+    let tokens = kept(rt.alloc(), &ask)?;
+    assert!(rt; are_found(rt.alloc(), &Tokens::start(rt.alloc()), &ask, &[(149, b"")])?);
+    assert!(rt; are_found(rt.alloc(), &tokens, &ask, &[(149, b"t"), (150, b"")])?);
     Ok(())
 }
 
 #[test]
+fn tokens_are_forgotten(rt: HostRuntime) -> Result<(), Fail> {
+    let ask = ask(rt.alloc(), b"e1")?;
+    let mut tokens = kept(rt.alloc(), &ask)?;
+    tokens.forget(b"e1");
+    assert!(rt; are_found(rt.alloc(), &tokens, &ask, &[(149, b"")])?);
+    Ok(())
+}
+
+/// Keeps a token `u` for the audience `a`, written twice.
+fn keep_single(alloc: Global, tokens: &mut Tokens, ask: &Ask) -> Result<(), Memory> {
+    let audience = audiences(alloc, b"a", b"a")?;
+    keep(alloc, tokens, ask, audience.as_slice(), b"u")
+}
+
+/// Whether it is found for the audience `a`, written once.
+fn finds_single(alloc: Global, tokens: &Tokens, ask: &Ask) -> Result<bool, Memory> {
+    let audience = [Octets::from_slice(alloc, b"a")?];
+    finds(alloc, tokens, ask, &audience, 149, b"u")
+}
+
+#[test]
 fn audiences_are_a_set(rt: HostRuntime) -> Result<(), Fail> {
-    let alloc = rt.alloc();
-    let ask = ask(alloc, b"e1")?;
-    let mut tokens = Tokens::start(alloc);
-    keep(
-        alloc,
-        &mut tokens,
-        &ask,
-        audiences(alloc, b"b", b"a")?.as_slice(),
-        b"t",
-    )?;
-    let turned = audiences(alloc, b"a", b"b")?;
-    assert!(rt; finds(alloc, &tokens, &ask, turned.as_slice(), 149, b"t")?);
-    let one = audiences(alloc, b"a", b"a")?;
-    assert!(rt; finds(alloc, &tokens, &ask, one.as_slice(), 149, b"")?);
-    keep(alloc, &mut tokens, &ask, one.as_slice(), b"u")?;
-    assert!(rt;
-        finds(
-            alloc,
-            &tokens,
-            &ask,
-            &[Octets::from_slice(alloc, b"a")?],
-            149,
-            b"u"
-        )?
-    );
+    let ask = ask(rt.alloc(), b"e1")?;
+    let mut tokens = kept(rt.alloc(), &ask)?;
+    assert!(rt; finds_for(rt.alloc(), &tokens, &ask, (b"a", b"b"), b"t")?);
+    assert!(rt; finds_for(rt.alloc(), &tokens, &ask, (b"a", b"a"), b"")?);
+    keep_single(rt.alloc(), &mut tokens, &ask)?;
+    assert!(rt; finds_single(rt.alloc(), &tokens, &ask)?);
     Ok(())
 }
 
@@ -117,17 +149,21 @@ fn keep_seventeen(
     Ok(())
 }
 
+/// The tokens of two entries: sixteen of the first, and seventeen of the second.
+fn many(alloc: Global, one: &Ask, two: &Ask) -> Result<Tokens, Memory> {
+    let mut tokens = Tokens::start(alloc);
+    keep_seventeen(alloc, &mut tokens, one, 15)?;
+    keep_seventeen(alloc, &mut tokens, two, 16)?;
+    Ok(tokens)
+}
+
 #[test]
 fn a_seventeenth_pushes_out_the_oldest(rt: HostRuntime) -> Result<(), Fail> {
-    let alloc = rt.alloc();
-    let (one, two) = (ask(alloc, b"e1")?, ask(alloc, b"e2")?);
-    let mut tokens = Tokens::start(alloc);
-    keep_seventeen(alloc, &mut tokens, &one, 15)?;
-    keep_seventeen(alloc, &mut tokens, &two, 16)?;
-    let first = audiences(alloc, b"a", b"a")?;
-    assert!(rt; finds(alloc, &tokens, &one, first.as_slice(), 149, b"first")?);
-    assert!(rt; finds(alloc, &tokens, &two, first.as_slice(), 149, b"")?);
-    let other = audiences(alloc, b"b", b"b")?;
-    assert!(rt; finds(alloc, &tokens, &two, other.as_slice(), 149, b"other")?);
+    let (one, two) = (ask(rt.alloc(), b"e1")?, ask(rt.alloc(), b"e2")?);
+    let tokens = many(rt.alloc(), &one, &two)?;
+    let first = finds_for(rt.alloc(), &tokens, &one, (b"a", b"a"), b"first")?;
+    let pushed = finds_for(rt.alloc(), &tokens, &two, (b"a", b"a"), b"")?;
+    let other = finds_for(rt.alloc(), &tokens, &two, (b"b", b"b"), b"other")?;
+    assert!(rt; first && pushed && other);
     Ok(())
 }

@@ -53,57 +53,72 @@ fn svid(alloc: Global, id: &[u8], not_before: u64, not_after: u64) -> Result<Svi
     })
 }
 
+/// What a cache says then to an SVID for the ask of an entry with this id, from 100 to 200.
+fn said(alloc: Global, cache: &mut Cache, id: &[u8], now: u64) -> Result<Installed, Fail> {
+    let svid = svid(alloc, id, 100, 200)?;
+    Ok(cache.install(alloc, svid, now)?)
+}
+
+/// A cache that keeps an SVID for its ask, from 100 until then.
+fn keeping(alloc: Global, until: u64) -> Result<Cache, Fail> {
+    let mut cache = cache(alloc)?;
+    let svid = svid(alloc, b"e1", 100, until)?;
+    let _ = cache.install(alloc, svid, 100)?;
+    Ok(cache)
+}
+
 /// How many asks are due.
 fn count_due(alloc: Global, cache: &Cache, now: u64) -> Result<usize, Fail> {
     Ok(cache.due(alloc, now)?.len())
 }
 
 #[test]
+fn the_ask_is_due(rt: HostRuntime) -> Result<(), Fail> {
+    let cache = cache(rt.alloc())?;
+    let ask = ask(rt.alloc(), b"e1")?;
+    let due = cache.due(rt.alloc(), 100)?;
+    assert!(rt; due.as_slice() == [ask].as_slice());
+    Ok(())
+}
+
+#[test]
 fn cache_calls(rt: HostRuntime) -> Result<(), Fail> {
-    let alloc = rt.alloc();
-    let mut cache = cache(alloc)?;
-    assert!(rt; cache.due(alloc, 100)? == alone(alloc, ask(alloc, b"e1")?)?);
-    let first = cache.install(alloc, svid(alloc, b"e1", 100, 200)?, 100)?;
-    assert!(rt; first == Installed::Kept);
-    assert_eq!(rt; cache.svids().len(), 1);
-    let second = cache.install(alloc, svid(alloc, b"e1", 100, 200)?, 100)?;
-    assert!(rt; second == Installed::Older(200));
-    assert_eq!(rt; cache.svids().len(), 1);
+    let mut cache = cache(rt.alloc())?;
+    let first = said(rt.alloc(), &mut cache, b"e1", 100)?;
+    assert!(rt; first == Installed::Kept && cache.svids().len() == 1);
+    let second = said(rt.alloc(), &mut cache, b"e1", 100)?;
+    assert!(rt; second == Installed::Older(200) && cache.svids().len() == 1);
+    Ok(())
+}
+
+/// How many asks are due then, where the SVID ends at the first time.
+fn count_due_at(alloc: Global, until: u64, now: u64) -> Result<usize, Fail> {
+    let cache = keeping(alloc, until)?;
+    count_due(alloc, &cache, now)
+}
+
+#[test]
+fn first_due_second(rt: HostRuntime) -> Result<(), Fail> {
+    let cases = [(200, 149, 0), (200, 150, 1), (201, 150, 0), (201, 151, 1)];
+    for (until, now, count) in cases {
+        assert_eq!(rt; count_due_at(rt.alloc(), until, now)?, count);
+    }
     Ok(())
 }
 
 #[test]
 fn due_and_sweep(rt: HostRuntime) -> Result<(), Fail> {
-    let alloc = rt.alloc();
-    let mut cache = cache(alloc)?;
-    let _ = cache.install(alloc, svid(alloc, b"e1", 100, 200)?, 100)?;
-    assert_eq!(rt; count_due(alloc, &cache, 149)?, 0);
-    assert_eq!(rt; count_due(alloc, &cache, 150)?, 1);
-    assert_eq!(rt; cache.sweep(199), 0);
-    assert_eq!(rt; cache.sweep(200), 1);
-    assert_eq!(rt; cache.svids().len(), 0);
-    assert_eq!(rt; count_due(alloc, &cache, 149)?, 1);
+    let mut cache = keeping(rt.alloc(), 200)?;
+    assert!(rt; cache.sweep(199) == 0 && cache.sweep(200) == 1 && cache.svids().len() == 0);
+    assert_eq!(rt; count_due(rt.alloc(), &cache, 149)?, 1);
     Ok(())
 }
 
 #[test]
 fn first_end(rt: HostRuntime) -> Result<(), Fail> {
-    let alloc = rt.alloc();
-    let mut cache = cache(alloc)?;
-    assert!(rt; !cache.has_ended(u64::MAX));
-    let _ = cache.install(alloc, svid(alloc, b"e1", 100, 200)?, 100)?;
-    assert!(rt; !cache.has_ended(199));
-    assert!(rt; cache.has_ended(200));
-    Ok(())
-}
-
-#[test]
-fn first_due_second(rt: HostRuntime) -> Result<(), Fail> {
-    let alloc = rt.alloc();
-    let mut cache = cache(alloc)?;
-    let _ = cache.install(alloc, svid(alloc, b"e1", 100, 201)?, 100)?;
-    assert_eq!(rt; count_due(alloc, &cache, 150)?, 0);
-    assert_eq!(rt; count_due(alloc, &cache, 151)?, 1);
+    let fresh = cache(rt.alloc())?;
+    let cache = keeping(rt.alloc(), 200)?;
+    assert!(rt; !fresh.has_ended(u64::MAX) && !cache.has_ended(199) && cache.has_ended(200));
     Ok(())
 }
 
@@ -119,41 +134,44 @@ fn count_in_blocks(alloc: Global, size: usize, cache: &Cache, now: u64) -> Resul
 
 #[test]
 fn blocks_of_asks(rt: HostRuntime) -> Result<(), Fail> {
-    let alloc = rt.alloc();
-    let mut cache = cache(alloc)?;
-    let _ = cache.install(alloc, svid(alloc, b"e1", 100, 200)?, 100)?;
-    assert_eq!(rt; count_in_blocks(alloc, 1, &cache, 149)?, 1);
-    assert_eq!(rt; count_in_blocks(alloc, 1, &cache, 150)?, 2);
-    assert_eq!(rt; count_in_blocks(alloc, 2, &cache, 149)?, 1);
+    let cache = keeping(rt.alloc(), 200)?;
+    let not_due = count_in_blocks(rt.alloc(), 1, &cache, 149)?;
+    let due = count_in_blocks(rt.alloc(), 1, &cache, 150)?;
+    let in_one = count_in_blocks(rt.alloc(), 2, &cache, 149)?;
+    assert_eq!(rt; (not_due, due, in_one), (1, 2, 1));
     Ok(())
 }
 
 #[test]
 fn refused_identities(rt: HostRuntime) -> Result<(), Fail> {
-    let alloc = rt.alloc();
-    let mut cache = cache(alloc)?;
-    let unknown = cache.install(alloc, svid(alloc, b"e2", 100, 200)?, 100)?;
-    assert!(rt; unknown == Installed::NoSuchAsk);
-    let over = cache.install(alloc, svid(alloc, b"e1", 100, 200)?, 200)?;
-    assert!(rt; over == Installed::Unfit(Unfit::Expired));
+    let mut cache = cache(rt.alloc())?;
+    let unknown = said(rt.alloc(), &mut cache, b"e2", 100)?;
+    let over = said(rt.alloc(), &mut cache, b"e1", 200)?;
+    assert!(rt; unknown == Installed::NoSuchAsk && over == Installed::Unfit(Unfit::Expired));
     assert_eq!(rt; cache.svids().len(), 0);
     Ok(())
 }
 
-#[test]
-fn other_asks(rt: HostRuntime) -> Result<(), Fail> {
-    let alloc = rt.alloc();
-    let mut cache = cache(alloc)?;
-    let _ = cache.install(alloc, svid(alloc, b"e1", 100, 200)?, 100)?;
-    let copy = cache.copy(alloc)?;
+/// A cache has the ask of the entry with another time to live.
+fn change(alloc: Global, cache: &mut Cache) -> Result<(), Fail> {
     let mut changed = ask(alloc, b"e1")?;
     changed.ttl = 60;
     let asks = alone(alloc, changed)?;
-    cache.sync(alloc, asks)?;
-    assert_eq!(rt; cache.svids().len(), 0);
-    assert_eq!(rt; cache.asks().len(), 1);
-    assert!(rt; !cache.lists(&ask(alloc, b"e1")?));
-    assert!(rt; copy.lists(&ask(alloc, b"e1")?));
-    assert_eq!(rt; copy.svids().len(), 1);
+    Ok(cache.sync(alloc, asks)?)
+}
+
+/// How many SVIDs and asks a cache has, and whether it lists the first ask of the entry.
+fn counts(alloc: Global, cache: &Cache) -> Result<(usize, usize, bool), Fail> {
+    let ask = ask(alloc, b"e1")?;
+    Ok((cache.svids().len(), cache.asks().len(), cache.lists(&ask)))
+}
+
+#[test]
+fn other_asks(rt: HostRuntime) -> Result<(), Fail> {
+    let mut cache = keeping(rt.alloc(), 200)?;
+    let copy = cache.copy(rt.alloc())?;
+    change(rt.alloc(), &mut cache)?;
+    assert_eq!(rt; counts(rt.alloc(), &cache)?, (0, 1, false));
+    assert_eq!(rt; counts(rt.alloc(), &copy)?, (1, 1, true));
     Ok(())
 }

@@ -5,10 +5,12 @@ use Rattle.grpc_wire.specs.Messages.{framed}
 use Rattle.fault_lines.specs.Lines.{spaced_all}
 use Rattle.wl_document.specs.declared.fault.DocFault.{DocFault}
 use Rattle.wl_document.specs.States.{State}
+use Rattle.wl_core.specs.declared.counts.Counts.{Counts}
 use Rattle.wl_replay.specs.declared.fault.ScriptFault.{ScriptFault}
 use Rattle.wl_replay.specs.declared.fault.ScriptFault.TheVariants as script
 use Rattle.wl_replay.specs.Faults.{fault_numbers}
 use Rattle.wl_replay.specs.Hex.{hex_text}
+use Rattle.wl_agent.specs.declared.command.Simulation.{Simulation}
 
 -- ---- faults
 
@@ -34,6 +36,15 @@ script_line e = codes "fault script" ++ spaced_all (script_numbers e) ++ 10 ∷ 
 -- `ok entries=E bundles=B svids=S` and a newline
 unfoldable pub count_line : State → List ℕ
 count_line s = codes "ok entries=" ++ decimal (length s.entries) ++ codes " bundles=" ++ decimal (length s.bundles) ++ codes " svids=" ++ decimal (length s.svids) ++ 10 ∷ []
+
+-- ---- a simulation
+
+-- `entries=E callers=C steps=S publications=P responses=R bytes=B` and a newline
+unfoldable pub simulation_line : Simulation → Counts → List ℕ
+simulation_line s counts =
+    codes "entries=" ++ decimal s.entries ++ codes " callers=" ++ decimal s.callers ++ codes " steps=" ++ decimal s.steps
+    ++ codes " publications=" ++ decimal counts.publications ++ codes " responses=" ++ decimal counts.responses
+    ++ codes " bytes=" ++ decimal counts.octets ++ 10 ∷ []
 
 -- ---- a message
 

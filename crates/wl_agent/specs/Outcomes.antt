@@ -11,13 +11,15 @@ use Rattle.wl_snapshot.specs.declared.answers.Method3.TheVariants.{X509Svid}
 use Rattle.wl_replay.specs.declared.fault.ScriptFault.{ScriptFault}
 use Rattle.wl_replay.specs.declared.script.Script.{Script}
 use Rattle.wl_replay.specs.Scripts.{script_of}
+use Rattle.wl_core.specs.declared.counts.Counts.{Counts}
 use Rattle.wl_replay.specs.Replays.{replayed}
-use Rattle.wl_agent.specs.declared.command.Command.{Command}
-use Rattle.wl_agent.specs.declared.command.Command.TheVariants.{Preview, Check, Replay}
+use Rattle.wl_agent.specs.declared.command.Reading.{Reading}
+use Rattle.wl_agent.specs.declared.command.Reading.TheVariants.{Preview, Check, Replay}
+use Rattle.wl_agent.specs.declared.command.Simulation.{Simulation}
 use Rattle.wl_agent.specs.declared.outcome.Outcome.{Outcome}
 use Rattle.wl_agent.specs.declared.status.TheConstants.{DONE, USAGE, DOCUMENT_FAULT, DENIED, NO_SVID, TOO_LONG}
 use Rattle.wl_agent.specs.Kept.{publication_of}
-use Rattle.wl_agent.specs.Lines.{fault_line, script_line, count_line, message_line}
+use Rattle.wl_agent.specs.Lines.{fault_line, script_line, count_line, message_line, simulation_line}
 
 -- words that fit no command
 abbrev pub usage_outcome : Outcome
@@ -55,8 +57,12 @@ abbrev pub script_outcome : Result Script ScriptFault → Outcome
 script_outcome (Ok s) = transcript_outcome (replayed s)
 script_outcome (Err e) = record { status = DOCUMENT_FAULT; output = script_line e }
 
--- what a command ends with on the input that was read
-unfoldable pub outcome_of : Command → List ℕ → Outcome
+-- `simulate`: what the simulated world did
+abbrev pub counts_outcome : Simulation → Counts → Outcome
+counts_outcome s counts = record { status = DONE; output = simulation_line s counts }
+
+-- what is asked of the input that was read ends with this
+unfoldable pub outcome_of : Reading → List ℕ → Outcome
 outcome_of (Preview selectors) input = preview_outcome selectors (document_state None input)
 outcome_of Check input = check_outcome (document_state None input)
 outcome_of Replay input = script_outcome (script_of input)

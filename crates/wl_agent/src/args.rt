@@ -1,14 +1,16 @@
 //! Reading the words of a command line.
 
-ghost use Rattle.std.specs.Prelude.{◌≡◌, ◌++◌, ◌≤◌, List, drop, length, map, Option, option_map, option_and_then, string_bytes, if◌then◌else◌, IfOk, OnOk, Some, None};
+ghost use Rattle.std.specs.Prelude.{◌≡◌, ◌++◌, ◌≤◌, List, drop, length, map, Option, option_map, option_and_then, string_bytes, if◌then◌else◌, IfOk, IfSome, OnOk, Some, None};
 ghost use Rattle.std.specs.List.{list_all, list_any};
 ghost use Rattle.wl_selector.specs.Selectors.{sorted_texts};
-ghost use Rattle.wl_agent.specs.Args.{command_of, operands, dashes_at, before_dashes, behind_dashes, preview_of, alone, is_option, is_selector};
+ghost use Rattle.wl_agent.specs.Args.{command_of, operands, dashes_at, before_dashes, behind_dashes, preview_of, alone, unsigned, number_of, simulate_of, command_by, CommandFits, is_option, is_selector};
 
-use crate::command::Command;
+use crate::command::{Command, Reading, Simulation};
 use std::alloc::Global;
 use std::string::String;
+use wl_core::CONNS;
 use wl_octets::{Memory, Octets, Row};
+use wl_replay::{MAX_ENTRIES, MAX_STEPS, number_in};
 use wl_selector::{Selector, SelectorFault, Selectors, SelectorsFault};
 
 /// The most selectors of a caller.
@@ -143,20 +145,24 @@ fn selector_set(alloc: Global, selectors: Vec<Selector>) -> Result<Selectors, Me
 /// `preview SELECTOR..`, where these are its operands.
 #[tactic(auto, unfolding(crate::specs::Args::preview_of))]
 fn preview(alloc: Global, texts: &[Octets]) -> Result<Option<Command>, Memory>
-    ensures { IfOk result (λ o. o ≡ preview_of texts.now) }
+    ensures value { IfOk result (λ o. o ≡ preview_of texts.now) }
+    ensures fits { IfOk result (λ o. IfSome o CommandFits) }
 {
     if texts.is_empty() || texts.len() > SELECTORS as usize {
         return Ok(None);
     }
     match read_selectors(alloc, texts)? {
-        Some(selectors) => Ok(Some(Command::Preview(selector_set(alloc, selectors)?))),
+        Some(selectors) => Ok(Some(Command::Read(Reading::Preview(selector_set(
+            alloc, selectors,
+        )?)))),
         None => Ok(None),
     }
 }
 
 /// A command that stands alone, where these are its operands.
 fn alone(command: Command, texts: &[Octets]) -> Option<Command>
-    ensures { result ≡ alone command texts.now }
+    ensures value { result ≡ alone command texts.now }
+    ensures same { IfSome result (λ c. c ≡ command) }
 {
     match texts {
         [] => Some(command),
@@ -164,28 +170,81 @@ fn alone(command: Command, texts: &[Octets]) -> Option<Command>
     }
 }
 
+/// A number without its `+`, where it has one.
+fn unsigned(word: &[u8]) -> &[u8]
+    ensures { result.now ≡ unsigned word.now }
+{
+    match word.split_first() {
+        Some((b'+', rest)) => rest,
+        _ => word,
+    }
+}
+
+/// The number that a word is, where it is one from `least` to `most`.
+#[tactic(auto, unfolding(crate::specs::Args::number_of))]
+fn number(word: &[u8], least: u64, most: u64) -> Option<u64>
+    ensures value { result ≡ number_of least most word.now }
+    ensures within { IfSome result (λ n. (least ≤ n) × (n ≤ most)) }
+{
+    let number = number_in(unsigned(word))?;
+    if number < least || number > most {
+        return None;
+    }
+    Some(number)
+}
+
+/// `simulate SEED ENTRIES CALLERS STEPS`, where these are its operands.
+#[tactic(auto, unfolding(crate::specs::Args::simulate_of))]
+fn simulate(texts: &[Octets]) -> Option<Command>
+    ensures value { result ≡ simulate_of texts.now }
+    ensures fits { IfSome result CommandFits }
+{
+    let [seed, entries, callers, steps] = texts else {
+        return None;
+    };
+    let seed = number(seed.as_slice(), 0, u64::MAX)?;
+    let entries = number(entries.as_slice(), 1, u64::from(MAX_ENTRIES))?;
+    let callers = number(callers.as_slice(), 1, u64::from(CONNS))?;
+    let steps = number(steps.as_slice(), 0, u64::from(MAX_STEPS))?;
+    Some(Command::Simulate(Simulation {
+        seed,
+        entries: entries as u32,
+        callers: callers as u32,
+        steps: steps as u32,
+    }))
+}
+
+/// The command of this name with these operands, where they fit one.
+fn command_by(alloc: Global, name: &[u8], texts: &[Octets]) -> Result<Option<Command>, Memory>
+    ensures value { IfOk result (λ o. o ≡ command_by name.now texts.now) }
+    ensures fits { IfOk result (λ o. IfSome o CommandFits) }
+{
+    if name == b"preview".as_slice() {
+        return preview(alloc, texts);
+    }
+    if name == b"check".as_slice() {
+        return Ok(alone(Command::Read(Reading::Check), texts));
+    }
+    if name == b"replay".as_slice() {
+        return Ok(alone(Command::Read(Reading::Replay), texts));
+    }
+    if name == b"simulate".as_slice() {
+        return Ok(simulate(texts));
+    }
+    Ok(None)
+}
+
 /// The command that the words fit, if any.
 #[tactic(auto, unfolding(crate::specs::Args::command_of))]
 pub(crate) fn read_command(alloc: Global, words: &[String]) -> Result<Option<Command>, Memory>
-    ensures { IfOk result (λ o. o ≡ command_of (map string_bytes words.now)) }
+    ensures value { IfOk result (λ o. o ≡ command_of (map string_bytes words.now)) }
+    ensures fits { IfOk result (λ o. IfSome o CommandFits) }
 {
     let Some((first, after)) = words.split_first() else {
         return Ok(None);
     };
-    let name = first.as_bytes();
-    let previews = name == b"preview".as_slice();
-    let checks = name == b"check".as_slice();
-    if !previews && !checks && name != b"replay".as_slice() {
-        return Ok(None);
-    }
-    let Some(texts) = read_operands(alloc, after)? else {
-        return Ok(None);
-    };
-    if previews {
-        preview(alloc, texts.as_slice())
-    } else if checks {
-        Ok(alone(Command::Check, texts.as_slice()))
-    } else {
-        Ok(alone(Command::Replay, texts.as_slice()))
+    match read_operands(alloc, after)? {
+        Some(texts) => command_by(alloc, first.as_bytes(), texts.as_slice()),
+        None => Ok(None),
     }
 }

@@ -7,16 +7,20 @@ ghost use Rattle.wl_snapshot.specs.Answers.{IsShort};
 ghost use Rattle.wl_core.specs.Events.{IsWithin};
 ghost use Rattle.wl_replay.specs.Scripts.{script_of};
 ghost use Rattle.wl_replay.specs.Replays.{replayed};
+ghost use Rattle.wl_agent.specs.Args.{SimulationFits};
+ghost use Rattle.wl_agent.specs.Ends.{IsCounted};
 ghost use Rattle.wl_agent.specs.Outcomes.{outcome_of, preview_outcome, check_outcome, script_outcome, transcript_outcome, fault_outcome, preview_answer, answer_outcome};
 
-use crate::command::Command;
-use crate::output::{line_of_counts, line_of_fault, line_of_message, line_of_script};
+use crate::command::{Reading, Simulation};
+use crate::output::{
+    line_of_counts, line_of_fault, line_of_message, line_of_script, line_of_simulation,
+};
 use crate::publication::publication;
 use crate::status::{DENIED, DOCUMENT_FAULT, DONE, NO_SVID, TOO_LONG};
 use std::alloc::Global;
 use wl_document::{AuthorityState, DocFault, read_state};
 use wl_octets::{Memory, Octets};
-use wl_replay::{Script, ScriptFault, read_script, replay};
+use wl_replay::{Script, ScriptFault, read_script, replay, simulate};
 use wl_selector::Selectors;
 use wl_snapshot::{Answer, Method3, answer, view};
 
@@ -116,14 +120,32 @@ fn script_outcome(alloc: Global, input: &[u8]) -> Result<Outcome, Memory>
     }
 }
 
-/// What a command ends with on its input.
+/// What is asked of the input ends with this.
 #[tactic(auto, unfolding(crate::specs::Outcomes::outcome_of))]
-pub(crate) fn outcome_of(alloc: Global, command: &Command, input: &[u8]) -> Result<Outcome, Memory>
-    ensures { IfOk result (λ o. o ≡ outcome_of command.now input.now) }
+pub(crate) fn outcome_of(alloc: Global, reading: &Reading, input: &[u8]) -> Result<Outcome, Memory>
+    ensures { IfOk result (λ o. o ≡ outcome_of reading.now input.now) }
 {
-    match command {
-        Command::Preview(selectors) => preview_outcome(alloc, selectors, input),
-        Command::Check => check_outcome(alloc, input),
-        Command::Replay => script_outcome(alloc, input),
+    match reading {
+        Reading::Preview(selectors) => preview_outcome(alloc, selectors, input),
+        Reading::Check => check_outcome(alloc, input),
+        Reading::Replay => script_outcome(alloc, input),
     }
+}
+
+/// What a simulation ends with.
+pub(crate) fn simulation_outcome(alloc: Global, simulation: Simulation) -> Result<Outcome, Memory>
+    requires { SimulationFits simulation }
+    ensures { IfOk result (IsCounted simulation) }
+{
+    let Simulation {
+        seed,
+        entries,
+        callers,
+        steps,
+    } = simulation;
+    let counts = simulate(alloc, seed, entries, callers, steps)?;
+    Ok(Outcome {
+        status: DONE,
+        output: line_of_simulation(alloc, simulation, counts)?,
+    })
 }

@@ -3,10 +3,12 @@
 ghost use Rattle.std.specs.Prelude.{◌≡◌, ◌++◌, [], ◌∷◌, ◌≤◌, codes, length, IfOk, OnOk};
 ghost use Rattle.std.specs.Fmt.{decimal};
 ghost use Rattle.fault_lines.specs.Lines.{spaced_all};
-ghost use Rattle.wl_agent.specs.Lines.{script_numbers, script_line, fault_line, count_line, message_line};
+ghost use Rattle.wl_agent.specs.Lines.{script_numbers, script_line, simulation_line, fault_line, count_line, message_line};
 
+use crate::command::Simulation;
 use grpc_wire::message_prefix;
 use std::alloc::Global;
+use wl_core::Counts;
 use wl_document::{AuthorityState, DocFault};
 use wl_octets::{Memory, Octets};
 use wl_replay::{ScriptFault, put_all, put_decimal, put_fault, put_hex};
@@ -62,6 +64,34 @@ pub(crate) fn line_of_script(alloc: Global, fault: ScriptFault) -> Result<Octets
     let mut out = Vec::new(alloc);
     out.extend_from_slice(b"fault script")?;
     put_script(&mut out, fault)?;
+    out.push(b'\n')?;
+    Ok(Octets::from_vec(out))
+}
+
+/// A text and a number.
+fn put_count(out: &mut Vec<u8>, text: &[u8], count: u64) -> Result<(), Memory>
+    ensures { OnOk result (out.new.items ≡ out.old.items ++ text.now ++ decimal count) }
+{
+    out.extend_from_slice(text)?;
+    put_decimal(out, count)
+}
+
+/// The line of a simulation's counts.
+#[tactic(auto, unfolding(crate::specs::Lines::simulation_line))]
+pub(crate) fn line_of_simulation(
+    alloc: Global,
+    simulation: Simulation,
+    counts: Counts,
+) -> Result<Octets, Memory>
+    ensures { IfOk result (λ o. o ≡ simulation_line simulation counts) }
+{
+    let mut out = Vec::new(alloc);
+    put_count(&mut out, b"entries=", u64::from(simulation.entries))?;
+    put_count(&mut out, b" callers=", u64::from(simulation.callers))?;
+    put_count(&mut out, b" steps=", u64::from(simulation.steps))?;
+    put_count(&mut out, b" publications=", counts.publications)?;
+    put_count(&mut out, b" responses=", counts.responses)?;
+    put_count(&mut out, b" bytes=", counts.octets)?;
     out.push(b'\n')?;
     Ok(Octets::from_vec(out))
 }

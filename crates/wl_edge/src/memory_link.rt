@@ -1,6 +1,7 @@
 //! A link in memory.
 
-ghost use Rattle.std.specs.Prelude.{◌≡◌, ◌+◌, ◌-◌, ◌^◌, ◌≤◌, ◌++◌, [], Some, IfOk, min, length, take};
+ghost use Rattle.std.specs.Prelude.{◌≡◌, ◌+◌, ◌-◌, ◌^◌, ◌≤◌, ◌++◌, [], Some, IfOk, IfSome, min, length, take};
+ghost use Rattle.list_laws.specs.Lists.{BeginsWith};
 ghost use Rattle.wl_edge.specs.Links.{IsFresh, gave_in_memory};
 
 use crate::link::{Heard, Link, Received, TrySent};
@@ -30,7 +31,11 @@ pub struct LinkPlan {
 
 impl LinkPlan {
     /// A link that gives this, with room for so many answers and bytes, and never fails or stalls within that.
-    pub fn smooth(alloc: Global, gives: Row<Heard>, answers: usize, room: usize) -> LinkPlan {
+    pub fn smooth(alloc: Global, gives: Row<Heard>, answers: usize, room: usize) -> LinkPlan
+        ensures gives { result.gives ≡ gives }
+        ensures rooms { (result.answers ≡ answers) × (result.room ≡ room) }
+        ensures never_fails { (result.failing_receives ≡ []) × (result.failing_sends ≡ []) × (result.stalling ≡ []) }
+    {
         LinkPlan {
             gives,
             failing_receives: Row::empty(alloc),
@@ -115,12 +120,16 @@ impl MemoryLink {
     }
 
     /// Its answers to receives within its room, with the bytes that came.
-    pub fn gave(&self) -> &[Heard] {
+    pub fn gave(&self) -> &[Heard]
+        ensures { IfSome (⟦<MemoryLink as Link>⟧.told self.now) (λ log. BeginsWith log.gave result.now) }
+    {
         self.gave.as_slice()
     }
 
     /// The bytes that it took.
-    pub fn took(&self) -> &[u8] {
+    pub fn took(&self) -> &[u8]
+        ensures { IfSome (⟦<MemoryLink as Link>⟧.told self.now) (λ log. log.took ≡ result.now) }
+    {
         self.took.as_slice()
     }
 

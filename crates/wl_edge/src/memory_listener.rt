@@ -1,6 +1,7 @@
 //! A listener in memory.
 
-ghost use Rattle.std.specs.Prelude.{◌≡◌, ◌+◌, ◌-◌, ◌^◌, ◌≤◌, [], Some, min, vec_len, vec_capacity, length, map, IfOk};
+ghost use Rattle.std.specs.Prelude.{◌≡◌, ◌+◌, ◌-◌, ◌^◌, ◌≤◌, [], Some, min, vec_len, vec_capacity, length, map, IfOk, IfSome};
+ghost use Rattle.list_laws.specs.Lists.{BeginsWith};
 ghost use Rattle.wl_edge.specs.Listeners.{kinds_in_memory, links_given};
 
 use crate::link::Link;
@@ -76,12 +77,16 @@ impl MemoryListener {
     }
 
     /// The kinds of its answers within its room.
-    pub fn kinds(&self) -> &[AcceptKind] {
+    pub fn kinds(&self) -> &[AcceptKind]
+        ensures { IfSome (⟦<MemoryListener as Listener>⟧.told self.now) (λ log. BeginsWith log.kinds result.now) }
+    {
         self.kinds.as_slice()
     }
 
     /// The links that were finished.
-    pub fn finished(&self) -> &[MemoryLink] {
+    pub fn finished(&self) -> &[MemoryLink]
+        ensures { IfSome (⟦<MemoryListener as Listener>⟧.told self.now) (λ log. length log.finished ≡ length result.now) }
+    {
         self.finished.as_slice()
     }
 

@@ -6,6 +6,7 @@ ghost use Rattle.wl_edge.specs.Edge.{FailsOrStays};
 
 use crate::fault::EdgeFault;
 use crate::link::Link;
+use crate::memory_link::MemoryLink;
 use crate::ready::{Bell, Ready};
 use std::alloc::Global;
 use std::sync::atomic::{AtomicU64, Ordering};
@@ -26,6 +27,7 @@ impl MemoryReady {
     /// A watcher of no links.
     pub fn start(alloc: Global, failing: Row<u64>) -> MemoryReady
         ensures empty { result.numbers ≡ [] }
+        ensures fresh { ⟦<MemoryReady as Ready<MemoryLink>>⟧.faults result ≡ 0 }
     {
         MemoryReady {
             numbers: Row::empty(alloc),

@@ -99,12 +99,16 @@ impl MemoryUpstream {
     }
 
     /// Its calls, but for those that found no memory.
-    pub fn calls(&self) -> &[PullCall] {
+    pub fn calls(&self) -> &[PullCall]
+        ensures { IfSome (⟦<MemoryUpstream as Upstream>⟧.told self.now) (λ log. log.calls ≡ result.now) }
+    {
         self.calls.as_slice()
     }
 
     /// How many calls there were. At 2^64-1 it stays.
-    pub fn number(&self) -> u64 {
+    pub fn number(&self) -> u64
+        ensures { IfSome (⟦<MemoryUpstream as Upstream>⟧.told self.now) (λ log. log.number ≡ result) }
+    {
         self.number
     }
 }

@@ -1,5 +1,7 @@
 mod memory;
 
+ghost use Rattle.std.specs.Prelude.{◌<◌, ◌^◌};
+
 use crate::{
     MemorySink, MemorySource, ReadFault, RealSink, RealSource, Sent, Sink, Source, Taken, read_all,
     write_all,
@@ -17,60 +19,79 @@ fn only(alloc: Global, number: u64) -> Result<Row<u64>, Memory> {
     Ok(row)
 }
 
+/// A source of `abcdef`, of which the reads of these numbers fail.
+fn source(alloc: Global, piece: usize, failing: Row<u64>) -> Result<MemorySource, Memory> {
+    let bytes = Octets::from_slice(alloc, b"abcdef")?;
+    Ok(MemorySource::start(bytes, piece, failing))
+}
+
+/// Whether so much of the source is read as is due, and then the next byte.
+fn reads(
+    alloc: Global,
+    piece: usize,
+    limit: usize,
+    due: &[u8],
+    next: (Taken, [u8; 1]),
+) -> Result<bool, Fail>
+    requires { limit < 2 ^ 60 }
+{
+    let mut source = source(alloc, piece, Row::empty(alloc))?;
+    let bytes = read_all(alloc, &mut source, limit)?;
+    let mut one = [0];
+    let taken = source.read(&mut one);
+    Ok(bytes.as_slice() == due && (taken, one) == next)
+}
+
 #[test]
 fn reads_to_the_end(rt: HostRuntime) -> Result<(), Fail> {
-    let alloc = rt.alloc();
     for piece in 0..8 {
-        let mut source = MemorySource::start(
-            Octets::from_slice(alloc, b"abcdef")?,
-            piece,
-            Row::empty(alloc),
-        );
-        let bytes = read_all(alloc, &mut source, 100)?;
-        assert_eq!(rt; bytes.as_slice(), b"abcdef".as_slice());
+        assert!(rt; reads(rt.alloc(), piece, 100, b"abcdef", (Taken::End, [0]))?);
     }
-    let mut source = MemorySource::start(
-        Octets::from_slice(alloc, b"abcdef")?,
-        4,
-        Row::empty(alloc),
-    );
-    let bytes = read_all(alloc, &mut source, 5)?;
-    assert_eq!(rt; bytes.as_slice(), b"abcde".as_slice());
-    let mut one = [0];
-    assert_eq!(rt; source.read(&mut one), Taken::Got(1));
-    assert_eq!(rt; one, *b"f");
-    assert_eq!(rt; source.read(&mut one), Taken::End);
+    assert!(rt; reads(rt.alloc(), 4, 5, b"abcde", (Taken::Got(1), *b"f"))?);
     Ok(())
 }
 
 #[test]
 fn a_failing_read_is_told_and_the_next_goes_on(rt: HostRuntime) -> Result<(), Fail> {
-    let alloc = rt.alloc();
-    let mut source = MemorySource::start(Octets::from_slice(alloc, b"abcdef")?, 4, only(alloc, 1)?);
-    assert_eq!(rt;
-        read_all(alloc, &mut source, 100).err(),
-        Some(ReadFault::Failed)
-    );
-    let bytes = read_all(alloc, &mut source, 100)?;
-    assert_eq!(rt; bytes.as_slice(), b"ef".as_slice());
+    let failing = only(rt.alloc(), 1)?;
+    let mut source = source(rt.alloc(), 4, failing)?;
+    let first = read_all(rt.alloc(), &mut source, 100).err();
+    let second = read_all(rt.alloc(), &mut source, 100)?;
+    assert!(rt; first == Some(ReadFault::Failed) && second.as_slice() == b"ef".as_slice());
     Ok(())
+}
+
+/// Whether a sink with so much room, which takes two bytes at once, takes this front of `abcde`, and tells
+/// whether that is the whole.
+fn takes(
+    alloc: Global,
+    sendings: u64,
+    room: usize,
+    failing: Row<u64>,
+    due: (bool, &[u8]),
+) -> Result<bool, Memory> {
+    let mut sink = MemorySink::start(alloc, sendings, room, 2, failing)?;
+    let whole = write_all(&mut sink, b"abcde");
+    Ok((whole, sink.bytes()) == due)
 }
 
 #[test]
 fn writes_the_whole_or_a_front(rt: HostRuntime) -> Result<(), Fail> {
-    let alloc = rt.alloc();
-    let mut sink = MemorySink::start(alloc, 10, 100, 2, Row::empty(alloc))?;
-    assert!(rt; write_all(&mut sink, b"abcde"));
-    assert_eq!(rt; sink.bytes(), b"abcde".as_slice());
-    let mut failing = MemorySink::start(alloc, 10, 100, 2, only(alloc, 1)?)?;
-    assert!(rt; !write_all(&mut failing, b"abcde"));
-    assert_eq!(rt; failing.bytes(), b"ab".as_slice());
-    let mut small = MemorySink::start(alloc, 10, 3, 2, Row::empty(alloc))?;
-    assert!(rt; !write_all(&mut small, b"abcde"));
-    assert_eq!(rt; small.bytes(), b"abc".as_slice());
-    let mut few = MemorySink::start(alloc, 1, 100, 2, Row::empty(alloc))?;
-    assert!(rt; !write_all(&mut few, b"abcde"));
-    assert_eq!(rt; few.bytes(), b"ab".as_slice());
+    let cases: [(u64, usize, (bool, &[u8])); 3] = [
+        (10, 100, (true, b"abcde")),
+        (10, 3, (false, b"abc")),
+        (1, 100, (false, b"ab")),
+    ];
+    for (sendings, room, due) in cases {
+        assert!(rt; takes(rt.alloc(), sendings, room, Row::empty(rt.alloc()), due)?);
+    }
+    Ok(())
+}
+
+#[test]
+fn a_failing_write_is_told(rt: HostRuntime) -> Result<(), Fail> {
+    let failing = only(rt.alloc(), 1)?;
+    assert!(rt; takes(rt.alloc(), 10, 100, failing, (false, b"ab"))?);
     Ok(())
 }
 

@@ -11,6 +11,7 @@ use std::io::ErrorKind;
 use std::net::Net;
 use std::os::unix::fs::FileTypeExt;
 use std::os::unix::net::UnixListener;
+use wl_edge::Listener;
 
 /// Why nobody listens at a path.
 #[derive(Clone, Copy, Debug, Drop, PartialEq, Eq)]
@@ -45,7 +46,9 @@ fn clear(rt: &(impl Files + Net), path: &str) -> Result<(), BindFault> {
 
 /// Listens at the path of a Unix socket. The new socket may be opened by those whom the process's umask lets write.
 /// A socket at which nobody listens any more is replaced; nothing else is ever removed.
-pub fn bind<R: Files + Net>(rt: &R, path: &str) -> Result<RealListener, BindFault> {
+pub fn bind<R: Files + Net>(rt: &R, path: &str) -> Result<RealListener, BindFault>
+    ensures fresh { IfOk result (λ l. ⟦<RealListener as Listener>⟧.faults l ≡ 0) }
+{
     clear(rt, path)?;
     let listener = UnixListener::bind(rt, path).map_err(|e| BindFault::Refused(e.kind()))?;
     RealListener::start(listener).map_err(|e| BindFault::Refused(e.kind()))

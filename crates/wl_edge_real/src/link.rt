@@ -5,11 +5,18 @@ ghost use Rattle.wl_edge.specs.Links.{IsFresh};
 
 use std::io;
 use std::io::{ErrorKind, Read, Write};
+use std::net::Shutdown;
 use std::os::fd::{AsRawFd, RawFd};
 use std::os::unix::net::UnixStream;
 use std::sync::Arc;
 use std::sync::atomic::{AtomicBool, Ordering};
 use wl_edge::{Link, Received, Sent, TrySent};
+
+/// How many bytes a read takes when a connection is closed.
+const CLOSING_ROOM: usize = 4_096;
+
+/// How many such reads there are at most.
+const CLOSING_READS: usize = 64;
 
 /// A link over a Unix socket. It tells no content. A receive that finds nothing is idle at once, so that one who has
 /// nothing else to do waits with a `RealReady`.
@@ -51,6 +58,21 @@ impl RealLink {
     /// The socket.
     pub(crate) fn descriptor(&self) -> RawFd {
         self.stream.as_raw_fd()
+    }
+
+    /// Closes the connection. Nothing more is written, and what the peer has sent is read away first, up to a bound:
+    /// a socket that is closed over bytes that nobody read tells its peer of a reset, in place of the end that follows
+    /// the last message.
+    pub(crate) fn close(self) {
+        let RealLink { mut stream, .. } = self;
+        let _ = stream.shutdown(Shutdown::Write);
+        let mut room = [0; CLOSING_ROOM];
+        for _ in 0..CLOSING_READS {
+            match stream.read(&mut room) {
+                Ok(count) if count > 0 => {}
+                _ => return,
+            }
+        }
     }
 
     /// Shares whether more may be there with one who watches the link, or with nobody.

@@ -95,5 +95,7 @@ impl Listener for RealListener {
         }
     }
 
-    fn finish(&mut self, _link: RealLink) {}
+    fn finish(&mut self, link: RealLink) {
+        link.close();
+    }
 }

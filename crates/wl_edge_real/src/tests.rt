@@ -4,8 +4,10 @@ use crate::{
     BindFault, DialedLink, RealBell, RealClock, RealGate, RealLink, RealListener, RealReady,
     RealUpstream, bind, bind_all,
 };
-use std::alloc::Global;
-use std::io::Write;
+use std::alloc::{AllocGlobal, Global};
+use std::fs::Files;
+use std::io::{Read, Write};
+use std::net::Net;
 use std::os::unix::net::{UnixListener, UnixStream};
 use std::test::Fail;
 use std::time::{Duration, Instant};
@@ -34,34 +36,91 @@ fn accepted(listener: &mut RealListener) -> Result<RealLink, Fail> {
     }
 }
 
+/// A listener at this path.
+fn bound<R: Files + Net>(rt: &R, path: &str) -> Result<RealListener, Fail> {
+    match bind(rt, path) {
+        Ok(listener) => Ok(listener),
+        Err(_) => Err("bind")?,
+    }
+}
+
+/// Whether a file that is no socket stays.
+fn leaves_a_file<R: AllocGlobal + Files + Net>(rt: &R, path: &str) -> Result<bool, Fail> {
+    fs::write(rt, path, "abc")?;
+    let refused = bind(rt, path).err();
+    let text = fs::read_to_string(rt, path)?;
+    fs::remove_file(rt, path)?;
+    Ok(refused == Some(BindFault::NotASocket) && text.as_str() == "abc")
+}
+
+/// Whether nobody else can listen where one listens.
+fn is_taken<R: Files + Net>(rt: &R, alloc: Global, path: &str) -> Result<bool, Fail> {
+    let paths = [String::from_str(alloc, path)?];
+    let all = bind_all(rt, alloc, &paths).err();
+    Ok(all == Some((0, BindFault::Taken)) && bind(rt, path).err() == Some(BindFault::Taken))
+}
+
 #[test]
-fn a_listener_gives_links_and_replaces_what_is_stale(rt: HostRuntime) -> Result<(), Fail> {
-    let path = path_of(&rt, "listen")?;
-    fs::write(&rt, path.as_str(), "abc")?;
-    assert_eq!(rt; bind(&rt, path.as_str()).err(), Some(BindFault::NotASocket));
-    assert_eq!(rt; fs::read_to_string(&rt, path.as_str())?.as_str(), "abc");
-    fs::remove_file(&rt, path.as_str())?;
-
-    let mut listener = bind(&rt, path.as_str()).map_err(|_| "bind")?;
+fn a_listener_replaces_what_is_stale(rt: HostRuntime) -> Result<(), Fail> {
+    let path = path_of(&rt, "stale")?;
+    assert!(rt; leaves_a_file(&rt, path.as_str())?);
+    let mut listener = bound(&rt, path.as_str())?;
     assert!(rt; matches!(listener.accept(), Accepted::Idle));
-    assert_eq!(rt; bind(&rt, path.as_str()).err(), Some(BindFault::Taken));
-    let paths = [String::from_str(rt.alloc(), path.as_str())?];
-    let taken = bind_all(&rt, rt.alloc(), &paths).err();
-    assert_eq!(rt; taken, Some((0, BindFault::Taken)));
+    assert!(rt; is_taken(&rt, rt.alloc(), path.as_str())?);
     drop(listener);
-    let mut listener = bind(&rt, path.as_str()).map_err(|_| "bind again")?;
+    drop(bound(&rt, path.as_str())?);
+    fs::remove_file(&rt, path.as_str())?;
+    Ok(())
+}
 
-    let mut peer = UnixStream::connect(&rt, path.as_str())?;
-    let mut link = accepted(&mut listener)?;
+/// Whether a link hears its peer, and it the link, until the peer is gone.
+fn carries(link: &mut RealLink, mut peer: UnixStream) -> Result<bool, Fail> {
     let mut room = [0; 8];
-    assert_eq!(rt; link.receive(&mut room), Received::Idle);
+    let idle = link.receive(&mut room);
     peer.write_all(b"abc")?;
-    assert_eq!(rt; link.receive(&mut room), Received::Got(3));
-    assert_eq!(rt; &room[..3], b"abc".as_slice());
-    assert_eq!(rt; link.send(b"de"), Sent::Took(2));
+    let got = link.receive(&mut room);
+    let sent = link.send(b"de");
     drop(peer);
-    assert_eq!(rt; link.try_send(b"f"), TrySent::Failed);
+    let heard = (idle, got) == (Received::Idle, Received::Got(3)) && room.starts_with(b"abc");
+    Ok(heard && sent == Sent::Took(2) && link.try_send(b"f") == TrySent::Failed)
+}
+
+#[test]
+fn a_listener_gives_links(rt: HostRuntime) -> Result<(), Fail> {
+    let path = path_of(&rt, "listen")?;
+    let mut listener = bound(&rt, path.as_str())?;
+    let peer = UnixStream::connect(&rt, path.as_str())?;
+    let mut link = accepted(&mut listener)?;
+    assert!(rt; carries(&mut link, peer)?);
     listener.finish(link);
+    fs::remove_file(&rt, path.as_str())?;
+    Ok(())
+}
+
+/// Whether the next link takes three bytes and is then finished.
+fn says_bye(listener: &mut RealListener) -> Result<bool, Fail> {
+    let mut link = accepted(listener)?;
+    let answer = link.try_send(b"bye");
+    listener.finish(link);
+    Ok(answer == TrySent::Took(3))
+}
+
+/// Whether these three bytes come, and then the end.
+fn reads_bye(alloc: Global, peer: &mut UnixStream) -> Result<bool, Fail> {
+    let mut text = Vec::new(alloc);
+    peer.read_to_end(&mut text)?;
+    Ok(text.as_slice() == b"bye".as_slice())
+}
+
+/// What a peer reads of a connection that was finished over bytes of its own that nobody read: the last bytes, then
+/// the end.
+#[test]
+fn a_finished_link_gives_its_peer_the_end(rt: HostRuntime) -> Result<(), Fail> {
+    let path = path_of(&rt, "finish")?;
+    let mut listener = bound(&rt, path.as_str())?;
+    let mut peer = UnixStream::connect(&rt, path.as_str())?;
+    peer.write_all(b"unread")?;
+    assert!(rt; says_bye(&mut listener)? && reads_bye(rt.alloc(), &mut peer)?);
     fs::remove_file(&rt, path.as_str())?;
     Ok(())
 }

@@ -6,3 +6,8 @@ pub mod Words
 pub mod Events
 pub mod Scripts
 pub mod Replays
+pub mod Draws
+pub mod Callers
+pub mod Generated
+pub mod Simulations
+pub mod Stands

@@ -63,9 +63,9 @@ fn digits(word: &[u8]) -> Option<u64>
     Some(number)
 }
 
-/// The number that a word is, leading zeros allowed.
+/// The number below 2^64 that a word writes in decimal digits, leading zeros allowed, where it is one.
 #[tactic(auto, unfolding(crate::specs::Words::number_in))]
-pub(crate) fn number_in(word: &[u8]) -> Option<u64>
+pub fn number_in(word: &[u8]) -> Option<u64>
     ensures { result ≡ number_in word.now }
 {
     match word {

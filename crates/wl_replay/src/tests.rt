@@ -1,6 +1,7 @@
 //! Scripts with one fault or one rule each, and each line of a transcript.
 
 mod cases;
+mod simulations;
 mod words;
 
 use crate::{MAX_CALLER_SELECTORS, SCRIPT_LIMIT, ScriptFault, put_line, read_script};

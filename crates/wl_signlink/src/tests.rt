@@ -6,15 +6,15 @@ use std::alloc::{AllocError, Global};
 use std::io;
 use std::io::{Read, Write};
 use std::os::unix::net::UnixListener;
-use std::process::{Abort, id};
+use std::process::id;
 use std::rt::Clock;
 use std::sync::atomic::{AtomicUsize, Ordering};
 use std::test::Fail;
 use std::thread::{join, sleep};
 use std::time::Duration;
 use wl_edge::{EdgeFault, MemorySink, MemorySource, Signer};
-use wl_entry::Ask;
-use wl_octets::{Octets, Row};
+use wl_entry::{Ask, JwtToken, Signed};
+use wl_octets::{Memory, Octets, Row};
 
 const IDENTITY: &str = r#"{"chain":"AQ==","key":"Ag==","not_before":100,"not_after":200}"#;
 
@@ -59,47 +59,107 @@ fn outcomes(alloc: Global, line: &[u8]) -> Result<(bool, bool), AllocError> {
     Ok((identity, token))
 }
 
+/// Whether these bytes are the texts, one behind the other.
+fn are_texts_of(bytes: &[u8], texts: &[&str]) -> bool {
+    let mut rest = bytes;
+    for text in texts {
+        let text = text.as_bytes();
+        if rest.len() < text.len() {
+            return false;
+        }
+        let (front, back) = rest.split_at(text.len());
+        if front != text {
+            return false;
+        }
+        rest = back;
+    }
+    rest.is_empty()
+}
+
+/// What stood before, and the lines of both asks, where they are text.
+fn lines(alloc: Global, ask: &Ask, audience: &[Octets]) -> Result<Octets, Memory> {
+    let mut out = Octets::from_slice(alloc, b"before")?;
+    if is_text_ask(ask) && are_texts(audience) {
+        put_x509(alloc, ask, &mut out)?;
+        put_jwt(alloc, ask, audience, &mut out)?;
+    }
+    Ok(out)
+}
+
+/// Whether these lines are put for an ask of an entry with this id and these DNS names, and for these audiences.
+fn puts(
+    alloc: Global,
+    entry_id: &[u8],
+    dns_names: &[&[u8]],
+    audience: &[&[u8]],
+    wanted: &[&str],
+) -> Result<bool, Fail> {
+    let ask = ask_of(alloc, entry_id, dns_names)?;
+    let audience = list(alloc, audience)?;
+    let out = lines(alloc, &ask, audience.as_slice())?;
+    Ok(are_texts_of(out.as_slice(), wanted))
+}
+
 #[test]
 fn signer_lines(rt: HostRuntime) -> Result<(), Fail> {
-    let alloc = rt.alloc();
-    let ask = ask_of(alloc, b"e1", &[])?;
-    let audience = list(alloc, &[b"x"])?;
-    assert!(rt; is_text_ask(&ask) && are_texts(audience.as_slice()));
-    let mut out = Octets::from_slice(alloc, b"before")?;
-    put_x509(alloc, &ask, &mut out)?;
-    put_jwt(alloc, &ask, audience.as_slice(), &mut out)?;
-    let mut wanted = String::from_str(alloc, "before")?;
-    wanted.push_str(X509_LINE)?;
-    wanted.push_str(JWT_LINE)?;
-    assert_eq!(rt; out.as_slice(), wanted.as_bytes());
-    let signed = read_signed(alloc, IDENTITY.as_bytes())?;
-    assert_eq!(rt; signed.chain.as_slice(), [1].as_slice());
-    assert_eq!(rt; signed.key.as_slice(), [2].as_slice());
-    assert_eq!(rt; (signed.not_before, signed.not_after), (100, 200));
-    let token = read_token(alloc, TOKEN.as_bytes())?;
-    assert_eq!(rt; token.token.as_slice(), b"t".as_slice());
-    assert_eq!(rt; (token.issued_at, token.expires_at), (100, 200));
-    assert_eq!(rt; outcomes(alloc, b"{}")?, (false, false));
+    let wanted = ["before", X509_LINE, JWT_LINE];
+    assert!(rt; puts(rt.alloc(), b"e1", &[], &[b"x"], &wanted)?);
     Ok(())
 }
+
+/// Whether an identity has these bytes and times.
+fn is_identity(signed: &Signed, chain: &[u8], key: &[u8], times: (u64, u64)) -> bool {
+    signed.chain.as_slice() == chain
+        && signed.key.as_slice() == key
+        && (signed.not_before, signed.not_after) == times
+}
+
+/// Whether a token has these bytes and times.
+fn is_token(token: &JwtToken, text: &[u8], times: (u64, u64)) -> bool {
+    token.token.as_slice() == text && (token.issued_at, token.expires_at) == times
+}
+
+#[test]
+fn answers_of_lines(rt: HostRuntime) -> Result<(), Fail> {
+    let signed = read_signed(rt.alloc(), IDENTITY.as_bytes())?;
+    assert!(rt; is_identity(&signed, &[1], &[2], (100, 200)));
+    let token = read_token(rt.alloc(), TOKEN.as_bytes())?;
+    assert!(rt; is_token(&token, b"t", (100, 200)));
+    Ok(())
+}
+
+const ESCAPED_X509_LINE: &str =
+    "{\"dns_names\":[\"x.y\",\"z\"],\"entry\":\"a\\\"\\n\\\\\u{e9}\",\"kind\":\"x509\",\"spiffe_id\":\"spiffe://a.b/w\",\"ttl\":3600,\"version\":1}\n";
+
+const ESCAPED_JWT_LINE: &str =
+    "{\"audience\":[],\"entry\":\"a\\\"\\n\\\\\u{e9}\",\"kind\":\"jwt\",\"spiffe_id\":\"spiffe://a.b/w\",\"version\":1}\n";
 
 #[test]
 fn escaped_lines(rt: HostRuntime) -> Result<(), Fail> {
-    let alloc = rt.alloc();
-    let ask = ask_of(alloc, b"a\"\n\\\xc3\xa9", &[b"x.y", b"z"])?;
-    assert!(rt; is_text_ask(&ask));
-    let mut out = Octets::empty(alloc);
-    put_x509(alloc, &ask, &mut out)?;
-    let wanted =
-        "{\"dns_names\":[\"x.y\",\"z\"],\"entry\":\"a\\\"\\n\\\\\u{e9}\",\"kind\":\"x509\",\"spiffe_id\":\"spiffe://a.b/w\",\"ttl\":3600,\"version\":1}\n";
-    assert_eq!(rt; out.as_slice(), wanted.as_bytes());
-    assert!(rt; !is_text_ask(&ask_of(alloc, b"\xff", &[])?));
-    assert!(rt; !is_text_ask(&ask_of(alloc, b"e", &[b"a", b"\xff"])?));
+    let wanted = ["before", ESCAPED_X509_LINE, ESCAPED_JWT_LINE];
+    assert!(rt;
+        puts(
+            rt.alloc(),
+            b"a\"\n\\\xc3\xa9",
+            &[b"x.y", b"z"],
+            &[],
+            &wanted
+        )?
+    );
     Ok(())
 }
 
-static REPLIES: [(&str, bool, bool); 22] = [
+#[test]
+fn asks_that_are_no_text(rt: HostRuntime) -> Result<(), Fail> {
+    assert!(rt; puts(rt.alloc(), b"\xff", &[], &[], &["before"])?);
+    assert!(rt; puts(rt.alloc(), b"e", &[b"a", b"\xff"], &[], &["before"])?);
+    assert!(rt; puts(rt.alloc(), b"e", &[], &[b"\xff"], &["before"])?);
+    Ok(())
+}
+
+static REPLIES: [(&str, bool, bool); 23] = [
     ("", false, false),
+    ("{}", false, false),
     ("null", false, false),
     ("[]", false, false),
     ("7", false, false),
@@ -192,28 +252,37 @@ fn replies_of_each_kind(rt: HostRuntime) -> Result<(), Fail> {
     Ok(())
 }
 
-/// Asserts that the reply, cut anywhere or with any of its bytes changed to one that no such reply has, is none.
-fn cut_and_changed(rt: &impl Abort, alloc: Global, reply: &[u8], byte: u8) -> Result<(), Fail> {
-    for at in 0..reply.len() {
-        assert_eq!(rt;
-            outcomes(alloc, reply.split_at(at).0)?,
-            (false, false),
-            "{at}"
-        );
-        let mut changed = Vec::from_slice(alloc, reply)?;
-        if let Some(place) = changed.get_mut(at) {
-            *place = byte;
-        }
-        assert_eq!(rt; outcomes(alloc, &changed)?, (false, false), "{at}");
+/// Whether a line is no reply.
+fn is_none(alloc: Global, line: &[u8]) -> Result<bool, AllocError> {
+    Ok(outcomes(alloc, line)? == (false, false))
+}
+
+/// A reply with another byte at this place.
+fn changed(alloc: Global, reply: &[u8], at: usize, byte: u8) -> Result<Vec<u8>, AllocError> {
+    let mut changed = Vec::from_slice(alloc, reply)?;
+    if let Some(place) = changed.get_mut(at) {
+        *place = byte;
     }
-    Ok(())
+    Ok(changed)
+}
+
+/// Whether a reply, cut anywhere or with any of its bytes changed to one that no such reply has, is none.
+fn is_whole(alloc: Global, reply: &[u8], byte: u8) -> Result<bool, AllocError> {
+    for at in 0..reply.len() {
+        let changed = changed(alloc, reply, at, byte)?;
+        if !is_none(alloc, reply.split_at(at).0)? || !is_none(alloc, &changed)? {
+            return Ok(false);
+        }
+    }
+    Ok(true)
 }
 
 #[test]
 fn replies_cut_and_changed(rt: HostRuntime) -> Result<(), Fail> {
-    cut_and_changed(&rt, rt.alloc(), IDENTITY.as_bytes(), b'~')?;
-    cut_and_changed(&rt, rt.alloc(), IDENTITY.as_bytes(), 0xff)?;
-    cut_and_changed(&rt, rt.alloc(), TOKEN.as_bytes(), 0xff)
+    assert!(rt; is_whole(rt.alloc(), IDENTITY.as_bytes(), b'~')?);
+    assert!(rt; is_whole(rt.alloc(), IDENTITY.as_bytes(), 0xff)?);
+    assert!(rt; is_whole(rt.alloc(), TOKEN.as_bytes(), 0xff)?);
+    Ok(())
 }
 
 /// A reply with spaces behind it, so many bytes in all.
@@ -225,17 +294,17 @@ fn padded(alloc: Global, length: usize) -> Result<Vec<u8>, AllocError> {
     Ok(reply)
 }
 
+/// What a reply of this length gives.
+fn padded_outcomes(alloc: Global, length: usize) -> Result<(bool, bool), AllocError> {
+    let reply = padded(alloc, length)?;
+    outcomes(alloc, &reply)
+}
+
 #[test]
 fn replies_at_their_limit(rt: HostRuntime) -> Result<(), Fail> {
-    let alloc = rt.alloc();
-    assert_eq!(rt;
-        outcomes(alloc, &padded(alloc, REPLY_LIMIT)?)?,
-        (false, true)
-    );
-    assert_eq!(rt;
-        outcomes(alloc, &padded(alloc, REPLY_LIMIT + 1)?)?,
-        (false, false)
-    );
+    let longest = padded_outcomes(rt.alloc(), REPLY_LIMIT)?;
+    let longer = padded_outcomes(rt.alloc(), REPLY_LIMIT + 1)?;
+    assert_eq!(rt; (longest, longer), ((false, true), (false, false)));
     Ok(())
 }
 
@@ -244,72 +313,155 @@ fn source(alloc: Global, bytes: &[u8], piece: usize) -> Result<MemorySource, Fai
     Ok(MemorySource::start(Octets::from_slice(alloc, bytes)?, piece, Row::empty(alloc)))
 }
 
-/// Asserts which line comes first, and whether it is told as the last.
+/// Whether this line comes first, and is told as the last or not.
 fn reads(
-    rt: &impl Abort,
     alloc: Global,
     bytes: &[u8],
     piece: usize,
     wanted: Option<(&[u8], bool)>,
-) -> Result<(), Fail> {
-    let reply = read_line(alloc, &mut source(alloc, bytes, piece)?)?;
-    match (reply, wanted) {
+) -> Result<bool, Fail> {
+    let mut source = source(alloc, bytes, piece)?;
+    Ok(match (read_line(alloc, &mut source)?, wanted) {
         (Some(reply), Some((line, is_last))) => {
-            assert_eq!(rt; reply.line.as_slice(), line);
-            assert_eq!(rt; reply.is_last, is_last);
+            reply.line.as_slice() == line && reply.is_last == is_last
         }
-        (reply, wanted) => assert!(rt; reply.is_none() && wanted.is_none()),
+        (reply, wanted) => reply.is_none() && wanted.is_none(),
+    })
+}
+
+/// Bytes, and the line that comes first.
+const LINES: [(&[u8], Option<(&[u8], bool)>); 4] = [
+    (b"", None),
+    (b"abc", None),
+    (b"\n", Some((b"", true))),
+    (b"abc\n", Some((b"abc", true))),
+];
+
+/// Whether all of them come so in pieces of this size.
+fn all_read(alloc: Global, piece: usize) -> Result<bool, Fail> {
+    for (bytes, wanted) in &LINES {
+        if !reads(alloc, bytes, piece, *wanted)? {
+            return Ok(false);
+        }
+    }
+    Ok(true)
+}
+
+#[test]
+fn first_lines(rt: HostRuntime) -> Result<(), Fail> {
+    for piece in 1..6 {
+        assert!(rt; all_read(rt.alloc(), piece)?);
     }
     Ok(())
 }
 
 #[test]
-fn first_lines(rt: HostRuntime) -> Result<(), Fail> {
-    let alloc = rt.alloc();
-    for piece in 1..6 {
-        reads(&rt, alloc, b"", piece, None)?;
-        reads(&rt, alloc, b"abc", piece, None)?;
-        reads(&rt, alloc, b"\n", piece, Some((b"", true)))?;
-        reads(&rt, alloc, b"abc\n", piece, Some((b"abc", true)))?;
-    }
-    reads(&rt, alloc, b"abc\nd\n", 4, Some((b"abc", true)))?;
-    reads(&rt, alloc, b"abc\nd\n", 5, Some((b"abc", false)))?;
+fn lines_before_others(rt: HostRuntime) -> Result<(), Fail> {
+    assert!(rt; reads(rt.alloc(), b"abc\nd\n", 4, Some((b"abc", true)))?);
+    assert!(rt; reads(rt.alloc(), b"abc\nd\n", 5, Some((b"abc", false)))?);
+    Ok(())
+}
+
+/// A reply of so many bytes and the newline.
+fn ended(alloc: Global, length: usize) -> Result<Vec<u8>, AllocError> {
+    let mut reply = padded(alloc, length)?;
+    reply.push(b'\n')?;
+    Ok(reply)
+}
+
+/// Whether the longest line comes where its newline does.
+fn reads_longest(alloc: Global) -> Result<bool, Fail> {
     let line = padded(alloc, REPLY_LIMIT)?;
-    reads(&rt, alloc, &line, 4_000, None)?;
-    let mut long = padded(alloc, REPLY_LIMIT)?;
-    long.push(b'\n')?;
-    reads(&rt, alloc, &long, 4_000, Some((line.as_slice(), true)))?;
-    let mut longer = padded(alloc, REPLY_LIMIT + 1)?;
-    longer.push(b'\n')?;
-    reads(&rt, alloc, &longer, 4_000, None)
+    let ended = ended(alloc, REPLY_LIMIT)?;
+    Ok(
+        reads(alloc, &line, 4_000, None)?
+            && reads(alloc, &ended, 4_000, Some((line.as_slice(), true)))?,
+    )
+}
+
+#[test]
+fn longest_line(rt: HostRuntime) -> Result<(), Fail> {
+    let longer = ended(rt.alloc(), REPLY_LIMIT + 1)?;
+    assert!(rt; reads_longest(rt.alloc())?);
+    assert!(rt; reads(rt.alloc(), &longer, 4_000, None)?);
+    Ok(())
+}
+
+/// Whether an identity is answered, and it is the one that is due.
+fn asks_identity(
+    alloc: Global,
+    output: &mut MemorySink,
+    input: &mut MemorySource,
+    ask: &Ask,
+) -> Result<Option<bool>, Memory> {
+    if !is_text_ask(ask) {
+        return Ok(Some(false));
+    }
+    match ask_x509(alloc, output, input, ask)? {
+        Some(answer) => Ok(Some(is_identity(&answer.value, &[1], &[2], (100, 200)))),
+        None => Ok(None),
+    }
+}
+
+/// The same of a token for these audiences.
+fn asks_token(
+    alloc: Global,
+    output: &mut MemorySink,
+    input: &mut MemorySource,
+    ask: &Ask,
+    audience: &[Octets],
+) -> Result<Option<bool>, Memory> {
+    if !is_text_ask(ask) || !are_texts(audience) {
+        return Ok(Some(false));
+    }
+    match ask_jwt(alloc, output, input, ask, audience)? {
+        Some(answer) => Ok(Some(is_token(&answer.value, b"t", (100, 200)))),
+        None => Ok(None),
+    }
+}
+
+/// Replies of an identity, a token, and neither, a byte at a time.
+fn replies(alloc: Global) -> Result<MemorySource, Fail> {
+    let mut text = String::from_str(alloc, IDENTITY)?;
+    for part in ["\n", TOKEN, "\n{}\n"] {
+        text.push_str(part)?;
+    }
+    source(alloc, text.as_bytes(), 1)
+}
+
+/// What four asks get: for an identity, for a token, and for identities again.
+fn four_answers(
+    alloc: Global,
+    output: &mut MemorySink,
+    ask: &Ask,
+    audience: &[Octets],
+) -> Result<[Option<bool>; 4], Fail> {
+    let mut input = replies(alloc)?;
+    let identity = asks_identity(alloc, output, &mut input, ask)?;
+    let token = asks_token(alloc, output, &mut input, ask, audience)?;
+    let wrong = asks_identity(alloc, output, &mut input, ask)?;
+    Ok([
+        identity,
+        token,
+        wrong,
+        asks_identity(alloc, output, &mut input, ask)?,
+    ])
+}
+
+/// The same for the ask of the entry `e1` and the audience `x`.
+fn answers_in_memory(alloc: Global, output: &mut MemorySink) -> Result<[Option<bool>; 4], Fail> {
+    let ask = ask_of(alloc, b"e1", &[])?;
+    let audience = list(alloc, &[b"x"])?;
+    four_answers(alloc, output, &ask, audience.as_slice())
 }
 
 #[test]
 fn asked_in_memory(rt: HostRuntime) -> Result<(), Fail> {
     let alloc = rt.alloc();
-    let ask = ask_of(alloc, b"e1", &[])?;
-    let audience = list(alloc, &[b"x"])?;
-    assert!(rt; is_text_ask(&ask) && are_texts(audience.as_slice()));
     let mut output = MemorySink::start(alloc, 1_000, 10_000, 7, Row::empty(alloc))?;
-    let mut replies = String::from_str(alloc, IDENTITY)?;
-    replies.push('\n')?;
-    replies.push_str(TOKEN)?;
-    replies.push_str("\n{}\n")?;
-    let mut input = source(alloc, replies.as_bytes(), 1)?;
-    let first = ask_x509(alloc, &mut output, &mut input, &ask)?.ok_or("an identity")?;
-    assert_eq!(rt; first.value.chain.as_slice(), [1].as_slice());
-    let second = ask_jwt(alloc, &mut output, &mut input, &ask, audience.as_slice())?;
-    assert_eq!(rt;
-        second.ok_or("a token")?.value.token.as_slice(),
-        b"t".as_slice()
-    );
-    assert!(rt; ask_x509(alloc, &mut output, &mut input, &ask)?.is_none());
-    assert!(rt; ask_x509(alloc, &mut output, &mut input, &ask)?.is_none());
-    let mut wanted = String::from_str(alloc, X509_LINE)?;
-    wanted.push_str(JWT_LINE)?;
-    wanted.push_str(X509_LINE)?;
-    wanted.push_str(X509_LINE)?;
-    assert_eq!(rt; output.bytes(), wanted.as_bytes());
+    let answers = answers_in_memory(alloc, &mut output)?;
+    assert!(rt; answers == [Some(true), Some(true), None, None]);
+    assert!(rt; are_texts_of(output.bytes(), &[X509_LINE, JWT_LINE, X509_LINE, X509_LINE]));
     Ok(())
 }
 
@@ -435,38 +587,51 @@ fn asked<S: Signer>(signer: &mut S, ask: &Ask, other: &Ask, audience: &[Octets])
     ]
 }
 
-#[test]
-fn a_signer_behind_a_socket(rt: HostRuntime) -> Result<(), Fail> {
-    let alloc = rt.alloc();
-    let path = format!(in alloc; "/tmp/wl_signlink_{}.sock", id(rt.process()))?;
-    let _ = std::fs::remove_file(&rt, path.as_str());
-    let listener = UnixListener::bind(&rt, path.as_str())?;
-    let mut link = SignLink::start(&rt, alloc, path.as_bytes())?;
+/// An ask, one that is no text, and audiences.
+#[derive(Drop)]
+struct Asks {
+    ask: Ask,
+    other: Ask,
+    audience: Row<Octets>,
+}
+
+fn asks(alloc: Global) -> Result<Asks, Fail> {
     let ask = ask_of(alloc, b"e1", &[])?;
     let other = ask_of(alloc, b"\xff", &[])?;
-    let audience = list(alloc, &[b"x"])?;
+    Ok(Asks {
+        ask,
+        other,
+        audience: list(alloc, &[b"x"])?,
+    })
+}
+
+const FOUND: [Outcome; 5] = [
+    Outcome::Due,
+    Outcome::Due,
+    Outcome::Failed,
+    Outcome::Due,
+    Outcome::Failed,
+];
+
+#[test]
+fn a_signer_behind_a_socket(rt: HostRuntime) -> Result<(), Fail> {
+    let path = format!(in rt.alloc(); "/tmp/wl_signlink_{}.sock", id(rt.process()))?;
+    let _ = std::fs::remove_file(&rt, path.as_str());
+    let listener = UnixListener::bind(&rt, path.as_str())?;
+    let mut link = SignLink::start(&rt, rt.alloc(), path.as_bytes())?;
+    let asks = asks(rt.alloc())?;
+    let audience = asks.audience.as_slice();
     let ended = AtomicUsize::new(0);
     let (served, (found, last)) = join(
         &rt,
         || answers(&listener, &CONNECTIONS, &ended).is_ok(),
         || {
-            let found = asked(&mut link, &ask, &other, audience.as_slice());
+            let found = asked(&mut link, &asks.ask, &asks.other, audience);
             wait_for(&rt, &ended, 3);
-            (found, jwt_outcome(&mut link, &ask, audience.as_slice()))
+            (found, jwt_outcome(&mut link, &asks.ask, audience))
         },
     );
     let _ = std::fs::remove_file(&rt, path.as_str());
-    assert!(rt; served);
-    assert_eq!(rt;
-        found,
-        [
-            Outcome::Due,
-            Outcome::Due,
-            Outcome::Failed,
-            Outcome::Due,
-            Outcome::Failed
-        ]
-    );
-    assert_eq!(rt; last, Outcome::Due);
+    assert!(rt; served && found == FOUND && last == Outcome::Due);
     Ok(())
 }

@@ -3,3 +3,4 @@ mod Untouched
 mod Filings
 mod Numbering
 mod Reasons
+mod Samples

@@ -9,5 +9,7 @@ mod differences;
 mod filing;
 mod hits;
 mod subscribers;
+#[cfg(test)]
+mod tests;
 
 pub use subscribers::{SubId, Subscribers};

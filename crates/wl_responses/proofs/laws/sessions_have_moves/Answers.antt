@@ -1,0 +1,5 @@
+use Rattle.wl_responses.proofs.Living.{sessions_have_moves}
+use Rattle.wl_responses.proofs.laws.sessions_have_moves.Goals as goal
+
+pub returns : goal.returns
+returns c = sessions_have_moves

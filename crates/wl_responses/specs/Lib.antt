@@ -1,0 +1,5 @@
+pub mod Steps
+pub mod Replies
+pub mod Responses
+pub mod Moves
+pub mod Runs
