@@ -13,3 +13,4 @@ pub mod Ending
 pub mod Counting
 pub mod Connecting
 pub mod Determined
+pub mod Going

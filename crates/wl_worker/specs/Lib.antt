@@ -7,3 +7,5 @@ pub mod Served
 pub mod Sending
 pub mod Stepping
 pub mod Connections
+pub mod Tended
+pub mod Seating

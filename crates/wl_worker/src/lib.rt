@@ -17,7 +17,14 @@ mod identities;
 mod laws;
 mod naming;
 mod outcomes;
+mod places;
+mod seat;
+mod seat_rounds;
+#[cfg(test)]
+mod seat_tests;
+mod seating;
 mod served;
+mod step;
 mod stepping;
 #[cfg(test)]
 mod tests;
@@ -28,5 +35,6 @@ pub use documents::{Synced, sync_once};
 pub use ended::{Ended, RoundEnd};
 pub use identities::{Rotated, rotate_once};
 pub use laws::rounds_are_determined;
+pub use seat::{Seat, SeatEnd, serve_seat};
 pub use served::Served;
 pub use upkeep::maintain;

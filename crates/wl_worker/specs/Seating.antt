@@ -1,0 +1,144 @@
+-- A seat while it serves (own rules).
+use Rattle.std.specs.Prelude.{◌≡◌, ⊤, ℕ, ◌+◌, ◌≤◌, List, [], ◌++◌, length, Option, Some, None, IfSome}
+use Rattle.std.specs.List.{AllByRecursion}
+use mathlib.Core.List.{IsPrefix}
+use Rattle.wl_snapshot.specs.Snapshots.{Publication}
+use Rattle.wl_edge.specs.Edge.{Rose}
+use Rattle.wl_edge.specs.Links.{LinkLog}
+use Rattle.wl_edge.specs.declared.fault.EdgeFault.{EdgeFault}
+use Rattle.wl_edge.specs.declared.fault.EdgeFault.TheVariants as edge
+use Rattle.wl_edge.specs.Listeners.{ListenerLog, FinishedLink, links_given}
+use Rattle.wl_edge.specs.declared.listener.AcceptKind.{AcceptKind}
+use Rattle.wl_worker.specs.Served.{ServedState, HasSeenLast}
+use Rattle.wl_worker.specs.Tended.{SeatWorld, HasNoEnd, HasLastEnd, AcceptsTo}
+use Rattle.wl_worker.specs.declared.ended.Ended.{Ended}
+use Rattle.wl_worker.specs.declared.ended.Ended.TheVariants as ended
+use Rattle.wl_worker.specs.declared.seat.SeatEnd.{SeatEnd}
+use Rattle.wl_worker.specs.declared.seat.SeatEnd.TheVariants as seat
+use Rattle.wl_worker.specs.declared.step.Step.{Step}
+use Rattle.wl_worker.specs.declared.step.Step.TheVariants as step
+
+-- ---- what is seen
+
+-- a link that is served
+pub record Under : Type 0 where
+  pub link : FinishedLink
+  pub served : ServedState
+
+abbrev pub finished_link : Option LinkLog → ℕ → ℕ → ℕ → FinishedLink
+finished_link log failed_receives failed_sends stalls = record { log = log; failed_receives = failed_receives; failed_sends = failed_sends; stalls = stalls }
+
+abbrev pub under : FinishedLink → ServedState → Under
+under link served = record { link = link; served = served }
+
+-- a seat with its pass
+pub record SeatView : Type 0 where
+  pub socket : ℕ
+  pub room : ℕ
+  pub listener_faults : ℕ
+  pub ready_faults : ℕ
+  pub world : SeatWorld
+
+abbrev pub seat_view : ℕ → ℕ → ℕ → ℕ → SeatWorld → SeatView
+seat_view socket room listener_faults ready_faults world =
+    record { socket = socket; room = room; listener_faults = listener_faults; ready_faults = ready_faults; world = world }
+
+abbrev pub seen_by : SeatView → List Publication
+seen_by w = w.world.around.pass.seen
+
+-- ---- what has to hold of the links that are served
+
+-- The listener gave so many links more than it finished, or more.
+abbrev pub HasOpen : Option ListenerLog → ℕ → Type 0
+HasOpen told n = IfSome told (λ log. length log.finished + n ≤ links_given log.kinds)
+
+-- The publication of each one's last turn was seen.
+abbrev pub HaveSeenLast : List Publication → List Under → Type 0
+HaveSeenLast seen links = AllByRecursion (λ u. HasSeenLast seen u.served.session) links
+
+pub record Fit (w : SeatView) (links : List Under) : Type 0 where
+  pub is_open : HasOpen w.world.listener (length links)
+  pub seen : HaveSeenLast (seen_by w) links
+
+-- ---- what a part of serving does
+
+-- The listener gave these answers; of the links that were open and those that it gave so many are open now, and
+-- the others were finished.
+pub record Listens (before after : ListenerLog) (was_open now_open : ℕ) (kinds : List AcceptKind) : Type 0 where
+  pub finished : List FinishedLink
+  pub kinds_are : after.kinds ≡ before.kinds ++ kinds
+  pub finished_are : after.finished ≡ before.finished ++ finished
+  pub count : was_open + links_given kinds ≡ length finished + now_open
+
+abbrev pub ListensOn : Option ListenerLog → Option ListenerLog → ℕ → ℕ → List AcceptKind → Type 0
+ListensOn None new was_open now_open kinds = new ≡ None
+ListensOn (Some before) new was_open now_open kinds = (after : ListenerLog) × (new ≡ Some after) × Listens before after was_open now_open kinds
+
+-- from these links to those
+pub record Goes (old new : SeatView) (links_before links_now : List Under) (kinds : List AcceptKind) : Type 0 where
+  pub socket : new.socket ≡ old.socket
+  pub room : new.room ≡ old.room
+  pub listens : old.listener_faults ≤ new.listener_faults
+  pub waits : old.ready_faults ≤ new.ready_faults
+  pub sees : IsPrefix (seen_by old) (seen_by new)
+  pub listener : ListensOn old.world.listener new.world.listener (length links_before) (length links_now) kinds
+  pub keep_seen : HaveSeenLast (seen_by old) links_before → HaveSeenLast (seen_by new) links_now
+
+-- an end of a link after which its seat goes on
+abbrev pub IsWithMemory : Ended → Type 0
+IsWithMemory ended.Closed = ⊤
+IsWithMemory (ended.Protocol f) = ⊤
+IsWithMemory ended.ReadFault = ⊤
+IsWithMemory ended.WriteFault = ⊤
+IsWithMemory ended.Memory = ⊥
+
+-- which answers the listener gave by the end of a step
+abbrev pub StepAccepts : Step → List AcceptKind → Type 0
+StepAccepts step.On kinds = HasNoEnd kinds
+StepAccepts step.Idle kinds = HasNoEnd kinds
+StepAccepts step.Closed kinds = HasLastEnd kinds
+StepAccepts (step.Over end) kinds = AcceptsTo end kinds
+
+-- a fault comes only where its count rose
+abbrev pub EndFits : SeatEnd → SeatView → SeatView → Type 0
+EndFits seat.End old new = ⊤
+EndFits seat.ListenFault old new = Rose old.listener_faults new.listener_faults
+EndFits seat.WaitFault old new = Rose old.ready_faults new.ready_faults
+EndFits seat.Memory old new = ⊤
+
+abbrev pub StepFits : Step → SeatView → SeatView → Type 0
+StepFits step.On old new = ⊤
+StepFits step.Idle old new = ⊤
+StepFits step.Closed old new = ⊤
+StepFits (step.Over end) old new = EndFits end old new
+
+-- a step
+pub record Stepped (old new : SeatView) (links_before links_now : List Under) (s : Step) : Type 0 where
+  pub kinds : List AcceptKind
+  pub goes : Goes old new links_before links_now kinds
+  pub accepts : StepAccepts s kinds
+  pub fits : StepFits s old new
+
+-- the end of a seat whose watcher had no answer
+abbrev pub seat_end_of : EdgeFault → SeatEnd
+seat_end_of edge.Failed = seat.WaitFault
+seat_end_of edge.Memory = seat.Memory
+
+-- the links that are left once there will be no more; at the end none is
+abbrev pub RestsAt : SeatEnd → List Under → Type 0
+RestsAt seat.End links = links ≡ []
+RestsAt seat.ListenFault links = ⊥
+RestsAt seat.WaitFault links = ⊤
+RestsAt seat.Memory links = ⊤
+
+pub record Rests (old new : SeatView) (links_before links_now : List Under) (end : SeatEnd) : Type 0 where
+  pub goes : Goes old new links_before links_now []
+  pub rests : RestsAt end links_now
+  pub fits : EndFits end old new
+
+-- all of them until the seat has ended, but for the links that it still serves
+pub record EndedBy (old new : SeatView) (links_before links_now : List Under) (end : SeatEnd) : Type 0 where
+  pub kinds : List AcceptKind
+  pub goes : Goes old new links_before links_now kinds
+  pub accepts : AcceptsTo end kinds
+  pub fits : EndFits end old new

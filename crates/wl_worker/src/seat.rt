@@ -1,0 +1,78 @@
+//! A seat: one listener, whose links are served in turn.
+
+ghost use Rattle.std.specs.Prelude.{◌≡◌, ◌≤◌, IsSome, IfSome, IsSomeAnd, is_some, length};
+ghost use mathlib.Core.List.{IsPrefix};
+ghost use Rattle.wl_edge.specs.Edge.{Rose};
+ghost use Rattle.wl_edge.specs.Listeners.{links_given};
+ghost use Rattle.wl_worker.specs.Tended.{ListenedTo};
+
+use crate::seating::serve_links;
+use std::alloc::Global;
+use std::sync::{Mutex, Wait};
+use wl_desk::Desk;
+use wl_edge::{Attestor, Clock, Gate, Listener, Ready, Signer};
+use wl_publish::Pass;
+
+/// A place at which links are served.
+#[derive(Drop)]
+pub struct Seat<L: Listener, S: Signer, A, C, P> {
+    pub listener: L,
+    /// The number of the socket, from 0, for the attestor.
+    pub socket: u32,
+    pub signer: S,
+    pub attestor: A,
+    pub clock: C,
+    pub pass: Option<Pass<S::V>>,
+    /// How it ended, once it was served; whoever has it served writes it.
+    pub end: Option<SeatEnd>,
+    pub ready: P,
+    /// How many links are served at once.
+    pub room: u32,
+    // All listeners of its type tell their content, or none does.
+    ghost alike: { (one other : L) → is_some (L.told one) ≡ is_some (L.told other) },
+}
+
+/// How a seat ended.
+#[derive(Clone, Copy, Debug, Drop, PartialEq, Eq)]
+pub enum SeatEnd {
+    /// There will be no more links, and all were served.
+    End,
+    /// An accept failed.
+    ListenFault,
+    /// The watching of links failed.
+    WaitFault,
+    /// Memory ran out.
+    Memory,
+}
+
+/// Serves the links of a seat, as many at once as it has room for, each a round at a time: those that may be
+/// ready, or all where none is listed. Each link is given to `finish`, whatever its end was. After the
+/// listener's end the seat goes on until all its links are finished; at any other end of its own it first
+/// finishes every link as it stands. It tells the desk once that it has ended.
+pub fn serve_seat<L: Listener, S: Signer, A: Attestor, C: Clock, P: Ready<L::L>, G: Gate, R: Wait>(
+    rt: &R,
+    alloc: Global,
+    desk: &Mutex<Desk<S::V>>,
+    seat: &mut Seat<L, S, A, C, P>,
+    gate: &G,
+) -> SeatEnd
+    requires pass { IsSome seat.old.pass }
+    requires open { IfSome (L.told seat.old.listener) (λ log. length log.finished ≤ links_given log.kinds) }
+    ensures place { (seat.new.socket ≡ seat.old.socket) × (seat.new.room ≡ seat.old.room) }
+    ensures sees { IsSomeAnd seat.old.pass (λ p. IsSomeAnd seat.new.pass (λ q. IsPrefix p.seen q.seen)) }
+    ensures listens { L.faults seat.old.listener ≤ L.faults seat.new.listener }
+    ensures waits { P.faults seat.old.ready ≤ P.faults seat.new.ready }
+    ensures listen_fault { result ≡ SeatEnd.ListenFault
+        → Rose (L.faults seat.old.listener) (L.faults seat.new.listener) }
+    ensures wait_fault { result ≡ SeatEnd.WaitFault → Rose (P.faults seat.old.ready) (P.faults seat.new.ready) }
+    ensures finishes { ListenedTo result (L.told seat.old.listener) (L.told seat.new.listener) }
+{
+    let mut pass = match seat.pass.take() {
+        Some(pass) => pass,
+        None => unreachable!(),
+    };
+    let end = serve_links(rt, alloc, desk, seat, &mut pass, gate);
+    seat.pass = Some(pass);
+    desk.lock(rt).seat_ended();
+    end
+}

@@ -1,0 +1,197 @@
+//! Rounds of the links of a seat.
+
+ghost use Rattle.std.specs.Prelude.{◌≡◌, ◌<◌, [], ◌∷◌, map, IsErrOf, OnOk, OnErr};
+ghost use Rattle.std.specs.VecDeque.{deque_len, deque_capacity};
+ghost use Rattle.wl_edge.specs.Edge.{Rose};
+ghost use Rattle.wl_publish.specs.Listings.{Passing};
+ghost use Rattle.wl_worker.specs.Served.{around};
+ghost use Rattle.wl_worker.specs.Tended.{seat_world};
+ghost use Rattle.wl_worker.specs.Seating.{SeatView, Under, Fit, Goes, IsWithMemory, seat_view, under, finished_link};
+
+use crate::ended::{Ended, RoundEnd};
+use crate::places::{Connection, Numbers, release};
+use crate::seat::Seat;
+use std::alloc::Global;
+use std::collections::VecDeque;
+use std::sync::{Mutex, Wait};
+use wl_desk::Desk;
+use wl_edge::{Attestor, Clock, EdgeFault, Gate, Link, Listener, Ready, Signer};
+use wl_octets::{Memory, Row};
+use wl_publish::Pass;
+
+/// What contracts see of a seat, with the pass that was taken out of it.
+pub(crate) trait SeatShown {
+    ghost view: { Self → Passing → SeatView };
+}
+
+impl<L: Listener, S: Signer, A: Attestor, C: Clock, P: Ready<L::L>> SeatShown
+    for Seat<L, S, A, C, P> {
+    ghost view = { λ s pass. seat_view s.socket s.room (L.faults s.listener) (P.faults s.ready)
+        (seat_world (L.told s.listener) (around (A.calls s.attestor) (A.faults s.attestor) (S.calls s.signer)
+        (S.faults s.signer) (C.answers s.clock) pass)) };
+}
+
+/// What contracts see of a link that is served.
+pub(crate) trait LinkShown {
+    ghost shown: { Self → Under };
+}
+
+impl<L: Link> LinkShown for Connection<L> {
+    ghost shown = { λ c. under (finished_link (L.told c.link) (L.failed_receives c.link) (L.failed_sends c.link)
+        (L.stalls c.link)) c.served };
+}
+
+/// Serves one round of a link that was taken out. It goes to the end of the queue, or is finished where it is
+/// over.
+fn serve_one<L: Listener, S: Signer, A: Attestor, C: Clock, P: Ready<L::L>, G: Gate, R: Wait>(
+    rt: &R,
+    desk: &Mutex<Desk<S::V>>,
+    seat: &mut Seat<L, S, A, C, P>,
+    pass: &mut Pass<S::V>,
+    links: &mut VecDeque<Connection<L::L>>,
+    numbers: &mut Numbers,
+    connection: Connection<L::L>,
+    gate: &G,
+) -> Result<(), Memory>
+    requires place { deque_len links.old < deque_capacity links.old }
+    requires fit { Fit (⟦<Seat<L, S, A, C, P> as SeatShown>⟧.view seat.old pass.old)
+        (⟦<Connection<L::L> as LinkShown>⟧.shown connection
+        ∷ map ⟦<Connection<L::L> as LinkShown>⟧.shown links.old.items) }
+    ensures { Goes (⟦<Seat<L, S, A, C, P> as SeatShown>⟧.view seat.old pass.old)
+        (⟦<Seat<L, S, A, C, P> as SeatShown>⟧.view seat.new pass.new)
+        (⟦<Connection<L::L> as LinkShown>⟧.shown connection
+        ∷ map ⟦<Connection<L::L> as LinkShown>⟧.shown links.old.items)
+        (map ⟦<Connection<L::L> as LinkShown>⟧.shown links.new.items) [] }
+{
+    let Connection {
+        number,
+        mut link,
+        mut served,
+    } = connection;
+    let socket = seat.socket;
+    let end = served.round(
+        rt,
+        desk,
+        pass,
+        &mut link,
+        socket,
+        &mut seat.attestor,
+        &mut seat.signer,
+        &mut seat.clock,
+        gate,
+    );
+    if let RoundEnd::Ended(ended) = end {
+        release(&mut seat.listener, &mut seat.ready, numbers, number, link);
+        return with_memory(ended);
+    }
+    links.push_back_reserved(Connection {
+        number,
+        link,
+        served,
+    });
+    Ok(())
+}
+
+/// A seat goes on after any end of a link but want of memory.
+fn with_memory(ended: Ended) -> Result<(), Memory>
+    ensures some { OnOk result (IsWithMemory ended) }
+    ensures none { OnErr result (ended ≡ Ended.Memory) }
+{
+    match ended {
+        Ended::Memory => Err(Memory),
+        _ => Ok(()),
+    }
+}
+
+/// The first link is served a round where it may be ready, and goes to the end of the queue.
+fn serve_first<L: Listener, S: Signer, A: Attestor, C: Clock, P: Ready<L::L>, G: Gate, R: Wait>(
+    rt: &R,
+    desk: &Mutex<Desk<S::V>>,
+    seat: &mut Seat<L, S, A, C, P>,
+    pass: &mut Pass<S::V>,
+    links: &mut VecDeque<Connection<L::L>>,
+    numbers: &mut Numbers,
+    all: bool,
+    gate: &G,
+) -> Result<(), Memory>
+    requires { Fit (⟦<Seat<L, S, A, C, P> as SeatShown>⟧.view seat.old pass.old)
+        (map ⟦<Connection<L::L> as LinkShown>⟧.shown links.old.items) }
+    ensures { Goes (⟦<Seat<L, S, A, C, P> as SeatShown>⟧.view seat.old pass.old)
+        (⟦<Seat<L, S, A, C, P> as SeatShown>⟧.view seat.new pass.new)
+        (map ⟦<Connection<L::L> as LinkShown>⟧.shown links.old.items)
+        (map ⟦<Connection<L::L> as LinkShown>⟧.shown links.new.items) [] }
+{
+    let connection = match links.pop_front() {
+        Some(connection) => connection,
+        None => return Ok(()),
+    };
+    let due = all || numbers.unlist(connection.number);
+    if !due {
+        links.push_back_reserved(connection);
+        return Ok(());
+    }
+    serve_one(rt, desk, seat, pass, links, numbers, connection, gate)
+}
+
+/// Serves a round of each link that was listed, or of all.
+fn serve_listed<L: Listener, S: Signer, A: Attestor, C: Clock, P: Ready<L::L>, G: Gate, R: Wait>(
+    rt: &R,
+    desk: &Mutex<Desk<S::V>>,
+    seat: &mut Seat<L, S, A, C, P>,
+    pass: &mut Pass<S::V>,
+    links: &mut VecDeque<Connection<L::L>>,
+    numbers: &mut Numbers,
+    all: bool,
+    gate: &G,
+) -> Result<(), Memory>
+    requires { Fit (⟦<Seat<L, S, A, C, P> as SeatShown>⟧.view seat.old pass.old)
+        (map ⟦<Connection<L::L> as LinkShown>⟧.shown links.old.items) }
+    ensures { Goes (⟦<Seat<L, S, A, C, P> as SeatShown>⟧.view seat.old pass.old)
+        (⟦<Seat<L, S, A, C, P> as SeatShown>⟧.view seat.new pass.new)
+        (map ⟦<Connection<L::L> as LinkShown>⟧.shown links.old.items)
+        (map ⟦<Connection<L::L> as LinkShown>⟧.shown links.new.items) [] }
+{
+    'links: for _ in 0..links.len() {
+        serve_first(rt, desk, seat, pass, links, numbers, all, gate)?;
+    }
+    Ok(())
+}
+
+/// Waits until links may be ready, and serves a round of each that was listed, or of all where none was.
+pub(crate) fn serve_turn<
+    L: Listener,
+    S: Signer,
+    A: Attestor,
+    C: Clock,
+    P: Ready<L::L>,
+    G: Gate,
+    R: Wait,
+>(
+    rt: &R,
+    alloc: Global,
+    desk: &Mutex<Desk<S::V>>,
+    seat: &mut Seat<L, S, A, C, P>,
+    pass: &mut Pass<S::V>,
+    links: &mut VecDeque<Connection<L::L>>,
+    numbers: &mut Numbers,
+    gate: &G,
+) -> Result<(), EdgeFault>
+    requires { Fit (⟦<Seat<L, S, A, C, P> as SeatShown>⟧.view seat.old pass.old)
+        (map ⟦<Connection<L::L> as LinkShown>⟧.shown links.old.items) }
+    ensures goes { Goes (⟦<Seat<L, S, A, C, P> as SeatShown>⟧.view seat.old pass.old)
+        (⟦<Seat<L, S, A, C, P> as SeatShown>⟧.view seat.new pass.new)
+        (map ⟦<Connection<L::L> as LinkShown>⟧.shown links.old.items)
+        (map ⟦<Connection<L::L> as LinkShown>⟧.shown links.new.items) [] }
+    ensures failed { IsErrOf result EdgeFault.Failed → Rose (P.faults seat.old.ready) (P.faults seat.new.ready) }
+{
+    let mut listed = Row::empty(alloc);
+    if let Err(fault) = seat.ready.wait(&mut listed) {
+        return Err(fault);
+    }
+    numbers.list(listed.as_slice());
+    let all = listed.len() == 0;
+    match serve_listed(rt, desk, seat, pass, links, numbers, all, gate) {
+        Ok(()) => Ok(()),
+        Err(Memory) => Err(EdgeFault::Memory),
+    }
+}
