@@ -20,8 +20,6 @@ mod outcomes;
 mod places;
 mod seat;
 mod seat_rounds;
-#[cfg(test)]
-mod seat_tests;
 mod seating;
 mod served;
 mod step;
