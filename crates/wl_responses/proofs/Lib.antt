@@ -1,9 +1,9 @@
-mod Bytes
+pub mod Bytes
 mod Sizes
 mod Outgoing
 mod Writing
 mod Opened
-mod Asides
+pub mod Asides
 mod Owning
 mod Serving
 mod Frames
@@ -13,6 +13,6 @@ mod Falling
 mod Taking
 mod Attesting
 mod Cutting
-mod Moving
+pub mod Moving
 mod Running
 mod Living
