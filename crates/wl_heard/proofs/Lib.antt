@@ -1,0 +1,7 @@
+pub mod Found
+pub mod Rounds
+pub mod Queues
+pub mod Tidy
+pub mod Blocks
+pub mod Serving
+pub mod Reading

@@ -1,0 +1,5 @@
+use Rattle.wl_heard.proofs.Reading.{data_is_read}
+use Rattle.wl_heard.proofs.laws.data_is_read.Goals as goal
+
+pub returns : goal.returns
+returns c = data_is_read

@@ -1,0 +1,21 @@
+//! What a reader of HTTP/2 finds in the bytes of a talk.
+
+ghost use Rattle.wl_heard.specs.Written.{TalksAreRead, ControlIsRead, DataIsRead, SessionsAreRead, SessionDataIsRead};
+
+/// A reader of HTTP/2 that awaits no preface finds in the bytes of a talk exactly the frames that were written, in their
+/// order: this side's SETTINGS before all else, and of each step the control frames and then its HEADERS and DATA.
+pub fn talks_are_read()
+    ensures frames { TalksAreRead }
+    ensures control { ControlIsRead }
+{}
+
+/// What it finds of DATA on a stream is what was written there of responses.
+pub fn data_is_read()
+    ensures { DataIsRead }
+{}
+
+/// The same of the bytes of each session.
+pub fn sessions_are_read()
+    ensures frames { SessionsAreRead }
+    ensures content { SessionDataIsRead }
+{}

@@ -1,0 +1,6 @@
+//! What a client hears in the bytes of a session is what the session wrote.
+#![tactic(auto)]
+
+mod laws;
+
+pub use laws::{data_is_read, sessions_are_read, talks_are_read};
