@@ -34,6 +34,15 @@ fn pair<T: Drop>(alloc: Global, first: T, second: T) -> Result<Row<T>, Memory> {
     Ok(row)
 }
 
+/// What a call gave, or nothing where it failed. Want of memory stays a fault.
+fn value_unless_failed<T: Drop>(answer: Result<T, EdgeFault>) -> Result<Option<T>, EdgeFault> {
+    match answer {
+        Ok(value) => Ok(Some(value)),
+        Err(EdgeFault::Failed) => Ok(None),
+        Err(EdgeFault::Memory) => Err(EdgeFault::Memory),
+    }
+}
+
 fn ask(alloc: Global) -> Result<Ask, Fail> {
     Ok(Ask {
         entry_id: Octets::from_slice(alloc, b"e1")?,
@@ -80,11 +89,10 @@ fn signer(alloc: Global) -> Result<MemorySigner, Memory> {
 }
 
 /// Whether it fails to sign, and then gives the identity.
-fn signs_then(alloc: Global, signer: &mut MemorySigner, ask: &Ask) -> Result<bool, Memory> {
+fn signs_then(alloc: Global, signer: &mut MemorySigner, ask: &Ask) -> Result<bool, EdgeFault> {
     let due = signed(alloc)?;
-    let first = signer.sign_x509(ask).err();
-    let second = signer.sign_x509(ask).ok();
-    Ok(first == Some(EdgeFault::Failed) && second == Some(due))
+    let first = value_unless_failed(signer.sign_x509(ask))?;
+    Ok(first.is_none() && signer.sign_x509(ask)? == due)
 }
 
 /// The same of the token.
@@ -93,11 +101,10 @@ fn gives_token_then(
     signer: &mut MemorySigner,
     ask: &Ask,
     audience: &[Octets],
-) -> Result<bool, Memory> {
+) -> Result<bool, EdgeFault> {
     let due = token(alloc)?;
-    let first = signer.sign_jwt(ask, audience).err();
-    let second = signer.sign_jwt(ask, audience).ok();
-    Ok(first == Some(EdgeFault::Failed) && second == Some(due))
+    let first = value_unless_failed(signer.sign_jwt(ask, audience))?;
+    Ok(first.is_none() && signer.sign_jwt(ask, audience)? == due)
 }
 
 /// Whether it tells of four calls, of which the last gave the token.
@@ -118,7 +125,7 @@ fn audience(alloc: Global) -> Result<Row<Octets>, Memory> {
 }
 
 /// Whether it fails, signs and gives a token as it should, and tells of that.
-fn signs_and_tells(alloc: Global, signer: &mut MemorySigner, ask: Ask) -> Result<bool, Memory> {
+fn signs_and_tells(alloc: Global, signer: &mut MemorySigner, ask: Ask) -> Result<bool, EdgeFault> {
     let audience = audience(alloc)?;
     let signs = signs_then(alloc, signer, &ask)?;
     let gives = gives_token_then(alloc, signer, &ask, audience.as_slice())?;
@@ -134,17 +141,11 @@ fn a_signer_fails_once_and_then_signs(rt: HostRuntime) -> Result<(), Fail> {
 }
 
 fn selector(alloc: Global) -> Result<Selector, Fail> {
-    match Selector::parse(alloc, b"unix:uid:1") {
-        Ok(selector) => Ok(selector),
-        Err(_) => Err(Fail::from("no selector")),
-    }
+    Ok(Selector::parse(alloc, b"unix:uid:1")?)
 }
 
 fn set(alloc: Global, items: Row<Selector>) -> Result<Selectors, Fail> {
-    match Selectors::from_list(alloc, items.into_vec(), 9) {
-        Ok(set) => Ok(set),
-        Err(_) => Err(Fail::from("no set")),
-    }
+    Ok(Selectors::from_list(alloc, items.into_vec(), 9)?)
 }
 
 /// The set of one selector.
@@ -163,9 +164,10 @@ fn attestor(alloc: Global) -> Result<MemoryAttestor, Fail> {
     Ok(MemoryAttestor::start(alloc, script))
 }
 
-/// How many selectors a caller over a socket has.
-fn count_of(attestor: &mut MemoryAttestor, socket: u32) -> Option<usize> {
-    Some(attestor.attest(socket).ok()?.as_slice().len())
+/// How many selectors a caller over a socket has, or nothing where the call failed.
+fn count_of(attestor: &mut MemoryAttestor, socket: u32) -> Result<Option<usize>, EdgeFault> {
+    let selectors = value_unless_failed(attestor.attest(socket))?;
+    Ok(selectors.map(|set| set.as_slice().len()))
 }
 
 /// Whether the call of this number failed.
@@ -185,7 +187,7 @@ fn an_attestor_gives_its_answers_in_turn(rt: HostRuntime) -> Result<(), Fail> {
     let mut attestor = attestor(rt.alloc())?;
     let mut counts = [None; 4];
     for (socket, count) in (0..4).zip(counts.iter_mut()) {
-        *count = count_of(&mut attestor, socket);
+        *count = count_of(&mut attestor, socket)?;
     }
     assert_eq!(rt; counts, [Some(1), Some(0), None, Some(0)]);
     assert!(rt; is_failed(&attestor, 2, 2));
@@ -211,22 +213,19 @@ fn tells_pulls(alloc: Global, upstream: &MemoryUpstream) -> Result<bool, Memory>
     Ok(is_last && upstream.number() == 2)
 }
 
-/// Whether a pull answers this, and leaves these bytes.
-fn pulls(
-    upstream: &mut MemoryUpstream,
-    into: &mut Octets,
-    answer: Result<(), EdgeFault>,
-    bytes: &[u8],
-) -> bool {
-    upstream.pull(into) == answer && into.as_slice() == bytes
+/// Whether a pull fails and leaves what was there, and the next one appends the document.
+fn fails_then_appends(upstream: &mut MemoryUpstream, into: &mut Octets) -> Result<bool, EdgeFault> {
+    let first = value_unless_failed(upstream.pull(into))?;
+    let left = into.as_slice() == b"a".as_slice();
+    upstream.pull(into)?;
+    Ok(first.is_none() && left && into.as_slice() == b"a{}".as_slice())
 }
 
 #[test]
 fn an_upstream_fails_once_and_then_appends(rt: HostRuntime) -> Result<(), Fail> {
     let mut upstream = upstream(rt.alloc())?;
     let mut into = Octets::from_slice(rt.alloc(), b"a")?;
-    assert!(rt; pulls(&mut upstream, &mut into, Err(EdgeFault::Failed), b"a"));
-    assert!(rt; pulls(&mut upstream, &mut into, Ok(()), b"a{}"));
+    assert!(rt; fails_then_appends(&mut upstream, &mut into)?);
     assert!(rt; tells_pulls(rt.alloc(), &upstream)?);
     Ok(())
 }
@@ -382,16 +381,26 @@ fn watcher(alloc: Global) -> Result<MemoryReady, Memory> {
 }
 
 /// Whether it takes two links, and then fails.
-fn takes_and_fails(ready: &mut MemoryReady, link: &mut MemoryLink, told: &mut Row<u32>) -> bool {
-    ready.add(7, link).is_ok()
-        && ready.add(8, link).is_ok()
-        && Ready::<MemoryLink>::wait(ready, told) == Err(EdgeFault::Failed)
+fn takes_and_fails(
+    ready: &mut MemoryReady,
+    link: &mut MemoryLink,
+    told: &mut Row<u32>,
+) -> Result<bool, EdgeFault> {
+    ready.add(7, link)?;
+    ready.add(8, link)?;
+    let waited = value_unless_failed(Ready::<MemoryLink>::wait(ready, told))?;
+    Ok(waited.is_none())
 }
 
-/// Whether it then gives one up, takes another one, and tells.
-fn tells_again(ready: &mut MemoryReady, link: &mut MemoryLink, told: &mut Row<u32>) -> bool {
+/// It gives one link up, takes another one, and tells.
+fn tell_again(
+    ready: &mut MemoryReady,
+    link: &mut MemoryLink,
+    told: &mut Row<u32>,
+) -> Result<(), EdgeFault> {
     ready.remove(7, link);
-    ready.add(9, link).is_ok() && Ready::<MemoryLink>::wait(ready, told).is_ok()
+    ready.add(9, link)?;
+    Ready::<MemoryLink>::wait(ready, told)
 }
 
 #[test]
@@ -399,8 +408,8 @@ fn a_watcher_tells_of_all_and_fails_once(rt: HostRuntime) -> Result<(), Fail> {
     let mut ready = watcher(rt.alloc())?;
     let mut link = link(rt.alloc())?;
     let mut told = Row::empty(rt.alloc());
-    assert!(rt; takes_and_fails(&mut ready, &mut link, &mut told));
-    assert!(rt; tells_again(&mut ready, &mut link, &mut told));
+    assert!(rt; takes_and_fails(&mut ready, &mut link, &mut told)?);
+    tell_again(&mut ready, &mut link, &mut told)?;
     assert!(rt; told.as_slice() == [8, 9].as_slice());
     Ok(())
 }
