@@ -1,12 +1,16 @@
 -- A world stands for one event more, and its counts are those of its events.
-use Rattle.std.proofs.Common.{◌≡◌, ℕ, ◌+◌, arith, false, List, ◌∷◌, map, sum, Option, Some, None, ap, ◌∙◌}
+use Rattle.std.proofs.Common.{◌≡◌, ℕ, ◌+◌, arith, false, List, [], ◌∷◌, ◌++◌, map, sum, Option, Some, None, refl, sym, subst, ap, ◌∙◌}
+use Rattle.std.proofs.lemmas.List.{append-nil, append_assoc}
+use Rattle.list_laws.specs.Lists.{GainsFront}
+use Rattle.list_laws.proofs.Fronts.{gains_all, gains_before, gains_after}
 use Rattle.wl_manager.specs.Managers.{Managed}
 use Rattle.wl_core.specs.declared.counts.Counts.{Counts}
 use Rattle.wl_core.specs.declared.events.Event.{Event}
 use Rattle.wl_core.specs.declared.seats.Seat.{Seat}
 use Rattle.wl_core.specs.Seats.{begun_at, seat_at, HasMemoryAt, IsReady}
 use Rattle.wl_core.specs.Moments.{Beginning, Moment, moment, moment_after}
-use Rattle.wl_core.specs.Lines.{lines_at, transcript}
+use Rattle.wl_core.specs.declared.lines.Line.{Line}
+use Rattle.wl_core.specs.Lines.{lines_at, says, says_all, transcript}
 use Rattle.wl_core.specs.Counts.{counted, octets_of, responses, counts_of}
 use Rattle.wl_core.specs.Worlds.{WorldState, Holds, StandsFor, WorksOn}
 use Rattle.wl_core.proofs.Counting.{octets_more}
@@ -49,3 +53,32 @@ counts_are w d past publications begun stands numbered sums =
     let one : counts_by publications begun w.octets ≡ counts_by (counted (m.stored.published.number + 1)) begun w.octets = ap (λ (n : ℕ). counts_by n begun w.octets) p in
     let two : counts_by (counted (m.stored.published.number + 1)) begun w.octets ≡ counts_by (counted (m.stored.published.number + 1)) (counted (responses d past)) w.octets = ap (λ (n : ℕ). counts_by (counted (m.stored.published.number + 1)) n w.octets) r in
     one ∙ (two ∙ ap (λ (n : ℕ). counts_by (counted (m.stored.published.number + 1)) (counted (responses d past)) n) stands.octets)
+
+-- What was said of events so far, those before q after the first ones, and what is still to be said of the rest.
+pub record Saying (d : Beginning) (past events : List Event) (old : List Line) (q rest : List Event) (now : List Line) : Type 0 where
+  pub gained : List Line
+  pub said : now ≡ old ++ gained
+  pub due : says_all d past events ≡ gained ++ says_all d q rest
+
+pub says_nothing_yet : (d : Beginning) (past events : List Event) (old : List Line) → Saying d past events old past events old
+says_nothing_yet d past events old = record { gained = []; said = sym (append-nil old); due = refl }
+
+pub says_more : (d : Beginning) (past events : List Event) (old : List Line) (q : List Event) (e : Event) (rest : List Event) (mid now : List Line)
+    → Saying d past events old q (e ∷ rest) mid → now ≡ mid ++ says d q e → Saying d past events old (e ∷ q) rest now
+says_more d past events old q e rest mid now so more =
+    record {
+      gained = so.gained ++ says d q e;
+      said = more ∙ ap (λ xs. xs ++ says d q e) so.said ∙ append_assoc old so.gained (says d q e);
+      due = so.due ∙ sym (append_assoc so.gained (says d q e) (says_all d (e ∷ q) rest));
+    }
+
+pub says_a_front : (d : Beginning) (past events : List Event) (old : List Line) (q : List Event) (e : Event) (rest : List Event) (mid now : List Line)
+    → Saying d past events old q (e ∷ rest) mid → GainsFront (says d q e) mid now → GainsFront (says_all d past events) old now
+says_a_front d past events old q e rest mid now so gains =
+    subst (λ due. GainsFront due old now) (sym so.due)
+    (gains_after so.gained (says_all d q (e ∷ rest)) old mid now so.said (gains_before (says d q e) (says_all d (e ∷ q) rest) mid now gains))
+
+pub says_the_whole : (d : Beginning) (past events : List Event) (old : List Line) (q : List Event) (now : List Line)
+    → Saying d past events old q [] now → GainsFront (says_all d past events) old now
+says_the_whole d past events old q now so =
+    gains_all (says_all d past events) old now (so.said ∙ ap (λ xs. old ++ xs) (sym (so.due ∙ append-nil so.gained)))

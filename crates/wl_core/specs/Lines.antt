@@ -134,6 +134,11 @@ abbrev pub transcript : Beginning → List Event → List Line
 transcript d [] = lines.Published 0 ∷ []
 transcript d (e ∷ past) = transcript d past ++ says d past e
 
+-- what is said of these events, the first of them first, after those
+abbrev pub says_all : Beginning → List Event → List Event → List Line
+says_all d past [] = []
+says_all d past (e ∷ more) = says d past e ++ says_all d (e ∷ past) more
+
 -- these events, the first of them first, after those
 abbrev pub onto : List Event → List Event → List Event
 onto [] past = past

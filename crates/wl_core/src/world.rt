@@ -11,7 +11,7 @@ ghost use Rattle.wl_core.specs.Events.{IsWithin};
 ghost use Rattle.wl_core.specs.declared.events.Event.{Event};
 ghost use Rattle.wl_core.specs.declared.lines.Line.{Line};
 ghost use Rattle.wl_core.specs.Moments.{Beginning, Moment, moment_after};
-ghost use Rattle.wl_core.specs.Lines.{lines_at, says, transcript, onto};
+ghost use Rattle.wl_core.specs.Lines.{lines_at, says, says_all, transcript, onto};
 ghost use Rattle.wl_core.specs.Counts.{counted, octets_of, counts_of};
 ghost use Rattle.wl_core.specs.Worlds.{Holds, WorksOn, StandsFor, memory};
 
@@ -155,12 +155,16 @@ impl World {
         }
     }
 
-    /// Takes events in their order. Out of memory it stops at the event that met it.
+    /// Takes events in their order. Out of memory it stops at the event that met it: a prefix of what is to be said of all
+    /// of them was appended, and the world has failed for good.
     pub fn run(&mut self, events: Row<Event>, said: &mut Row<Line>) -> Result<(), Memory>
         requires { AllByRecursion IsWithin events }
-        ensures { (d : Beginning) (past : List Event) (before : List Line) → StandsFor self.old d past
+        ensures said { (d : Beginning) (past : List Event) (before : List Line) → StandsFor self.old d past
             → said.old ≡ before ++ transcript d past
             → OnOk result (StandsFor self.new d (onto events past) × (said.new ≡ before ++ transcript d (onto events past))) }
+        ensures front { (d : Beginning) (past : List Event) → StandsFor self.old d past
+            → GainsFront (says_all d past events) said.old said.new }
+        ensures failed { OnErr result (self.new.has_failed ≡ true) }
     {
         for event in events.into_vec() {
             self.apply(event, said)?;
