@@ -1,9 +1,8 @@
 -- Laws of what a signer was asked so far.
-use Rattle.std.specs.Prelude.{◌≡◌, ◌⊎◌, ℕ, ◌+◌, ◌<◌, ◌≤◌, ◌^◌, Bool, true, false, cond, List, [], ◌∷◌, ◌++◌, length, Option, Some, None, IfSome}
+use Rattle.std.specs.Prelude.{◌≡◌, ℕ, ◌+◌, ◌<◌, ◌≤◌, ◌^◌, true, false, cond, List, [], ◌∷◌, ◌++◌, length, Option, Some, None, IfSome}
 use Rattle.std.proofs.Common.{arith, refl, sym, ◌∙◌, ap, subst, append_assoc, length-append, inl, inr, ⊎_elim}
 use Rattle.std.proofs.lemmas.List.Sums.{sum_by-cons}
 use Rattle.wl_publish.specs.Listings.{Listing}
-use Rattle.wl_edge.specs.Calls.{Gains}
 use Rattle.wl_edge.specs.Edge.{Rose}
 use Rattle.wl_edge.specs.declared.signer.SignerCall.{SignerCall}
 use Rattle.wl_edge.specs.declared.signer.SignerCall.TheVariants.{X509, Jwt}
@@ -11,7 +10,7 @@ use Rattle.wl_worker.specs.declared.identities.Asked.{Asked}
 use Rattle.wl_worker.specs.declared.identities.Asked.TheVariants as asked
 use Rattle.wl_worker.proofs.Owners.{none_after}
 use Rattle.wl_worker.specs.Counts.{RoseBy}
-use Rattle.wl_worker.specs.Upkeep.{is_identity, identities, IsShown, BelongTo, AskGives, Asks, AskedSoFar, AllAsked, Rotates}
+use Rattle.wl_worker.specs.Upkeep.{is_identity, identities, IsShown, BelongTo, Asks, AskedSoFar, Rotates}
 
 -- ---- counts
 

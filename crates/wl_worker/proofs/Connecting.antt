@@ -1,5 +1,5 @@
 -- A connection goes through its rounds, from its start to its end.
-use Rattle.std.proofs.Common.{◌≡◌, ℕ, ◌⊎◌, inl, inr, Bool, true, List, [], ◌∷◌, ◌++◌, length, Option, Some, None, refl, sym, ap, subst, ◌∙◌, append_assoc}
+use Rattle.std.proofs.Common.{◌≡◌, ℕ, List, [], ◌∷◌, ◌++◌, Option, Some, None, refl, sym, ap, subst, ◌∙◌, append_assoc}
 use Rattle.std.proofs.lemmas.List.{append-nil, map-append}
 use mathlib.Core.List.{IsPrefix}
 use Rattle.list_laws.specs.Lists.{BeginsWith}
@@ -11,27 +11,25 @@ use Rattle.wl_publish.specs.Lists.{NonFallingFrom}
 use Rattle.wl_publish.specs.Listings.{Passing}
 use Rattle.wl_edge.specs.Links.{LinkLog}
 use Rattle.wl_edge.specs.declared.link.Heard.{Heard}
-use Rattle.wl_edge.specs.declared.link.Heard.TheVariants as heard
 use Rattle.wl_edge.specs.declared.attestor.AttestorCall.{AttestorCall}
 use Rattle.wl_edge.specs.declared.signer.SignerCall.{SignerCall}
 use Rattle.wl_session.specs.declared.asks.JwtAsk.{JwtAsk}
 use Rattle.wl_session.specs.declared.asks.JwtOutcome.{JwtOutcome}
-use Rattle.wl_session.specs.declared.asks.SessionFault.TheVariants as faults
-use Rattle.wl_session.specs.Sessions.{SessionState, fresh_session, is_done_in, failure_in}
+use Rattle.wl_session.specs.Sessions.{SessionState, fresh_session}
 use Rattle.wl_session.specs.Items.{talk}
 use Rattle.wl_worker.specs.declared.ended.Ended.{Ended}
 use Rattle.wl_worker.specs.declared.ended.Ended.TheVariants as ended
 use Rattle.wl_worker.specs.declared.ended.RoundEnd.{RoundEnd}
 use Rattle.wl_worker.specs.declared.ended.RoundEnd.TheVariants as ends
-use Rattle.wl_worker.specs.Rounds.{Round, HaveAsks, turned_session, session_after, trace, numbers, number_of, answers, outcomes, AreRounds, AreOutcomes, AreKnown, IsIn, pieces_given}
+use Rattle.wl_worker.specs.Rounds.{Round, HaveAsks, turned_session, session_after, trace, numbers, number_of, answers, outcomes, AreRounds, AreOutcomes, AreKnown, IsIn}
 use Rattle.wl_worker.specs.Counts.{RoseBy}
 use Rattle.wl_worker.specs.Outcomes.{unanswered, unsigned, GainsAll, attestor_call, attestor_calls, IsOutcome}
 use Rattle.wl_worker.specs.Served.{ServedState, Around, Stands, Began, ReadIn, ReadBy, OutcomesBy, RoundTells, HasSeenLast}
-use Rattle.wl_worker.specs.Connections.{GaveEnd, CameTo, Gathers, ConnectionTells, Serving}
+use Rattle.wl_worker.specs.Connections.{CameTo, Gathers, ConnectionTells, Serving}
 use Rattle.wl_worker.proofs.Gaining.{gains_none, gains_then, ticked_none, ticked_then, link_none, link_then, rose_none, rose_then, unanswered_append, unsigned_append, in_front, in_back, outcome_grows, have_such}
 use Rattle.wl_worker.proofs.Reading.{read_prefix, rises_over, prefix_then, prefix_same, known_longer}
 use Rattle.wl_worker.proofs.Following.{nothing_talked}
-use Rattle.wl_worker.proofs.Counting.{all_read, one_unread}
+use Rattle.wl_worker.proofs.Coming.{all_taken, each_read, came_closed, came_failed}
 
 -- ---- lists of rounds
 
@@ -47,7 +45,7 @@ pub outcomes_such : (P Q : JwtAsk → JwtOutcome → Type 0) → ((a : JwtAsk) (
 outcomes_such P Q so [] are = tt
 outcomes_such P Q so (r ∷ past) are = (have_such P Q so r.outcomes (turned_session r (session_after past)) are.0, outcomes_such P Q so past are.1)
 
-outcomes_by_such : (P Q : JwtAsk → JwtOutcome → Type 0) → ((a : JwtAsk) (o : JwtOutcome) → P a o → Q a o) → (added : List Round) (s : SessionState) → OutcomesBy P added s → OutcomesBy Q added s
+pub outcomes_by_such : (P Q : JwtAsk → JwtOutcome → Type 0) → ((a : JwtAsk) (o : JwtOutcome) → P a o → Q a o) → (added : List Round) (s : SessionState) → OutcomesBy P added s → OutcomesBy Q added s
 outcomes_by_such P Q so [] s are = tt
 outcomes_by_such P Q so (r ∷ more) s are = have_such P Q so r.outcomes (turned_session r s) are
 
@@ -188,21 +186,6 @@ module _ (valid : Ask → Signed → Type 0) (vouched : Ask → List (List ℕ) 
 
   -- ---- the end
 
-  all_taken : (log : LinkLog) (s : ServedState) (seen : List Publication) (past : List Round) → s.unsent ≡ [] → Stands log s seen past → log.took ≡ talk (trace past)
-  all_taken log s seen past none stands = sym (append-nil log.took) ∙ (ap (λ (xs : List ℕ). log.took ++ xs) (sym none) ∙ stands.talked)
-
-  each_read : (log : LinkLog) (s : ServedState) (seen : List Publication) (past : List Round) → failure_in s.session ≡ None → Stands log s seen past → length (numbers past) ≡ length (pieces_given log.gave)
-  each_read log s seen past goes stands = all_read past stands.whole (ap failure_in (sym stands.session) ∙ goes) ∙ ap length (sym stands.pieces)
-
-  -- the link gave its end, or the session is done
-  ended_so : (heards more : List Heard) (b c : Bool) → b ≡ c → (GaveEnd (heards ++ more) ⊎ (b ≡ true)) → GaveEnd (heards ++ more) ⊎ (c ≡ true)
-  ended_so heards more b c same (inl gave) = inl gave
-  ended_so heards more b c same (inr done) = inr (sym same ∙ done)
-
-  gave_end : {A B : Type 0} (heards more : List Heard) (b : Bool) → (((more ≡ heard.End ∷ []) × A) ⊎ ((b ≡ true) × B)) → GaveEnd (heards ++ more) ⊎ (b ≡ true)
-  gave_end heards more b (inl gave) = inl (heards, ap (λ (hs : List Heard). heards ++ hs) gave.0)
-  gave_end heards more b (inr done) = inr done.0
-
   -- it broke off
   broke : {old new : ServedState} {k l m : Option LinkLog} {before mid now : Around} (e : Ended) (so_far : Serving vouched socket old k l before mid) (tells : RoundTells valid vouched socket old new l m mid now (ends.Ended e))
       → Began (record { gave = so_far.heards ++ tells.heards; took = so_far.took ++ tells.took }) now.pass.seen (tells.added ++ so_far.past)
@@ -237,18 +220,12 @@ module _ (valid : Ask → Signed → Type 0) (vouched : Ask → List (List ℕ) 
         pieces_are = stands.pieces;
         known = stands.known;
         rising = stands.rising;
-        came_to = (
-          all_taken log new now.pass.seen past tells.end_is.0 stands,
-          stands.whole,
-          each_read log new now.pass.seen past tells.end_is.1 stands,
-          ended_so so_far.heards tells.heards (is_done_in new.session) (is_done_in (session_after past)) (ap is_done_in stands.session) (gave_end so_far.heards tells.heards (is_done_in new.session) tells.end_is.2),
-        );
+        came_to = came_closed (record { gave = so_far.heards; took = so_far.took }) tells.heards tells.took new now.pass.seen tells.added past stands tells.end_is;
       }
   ends_serving {old} {new} {k} {l} {m} {before} {mid} {now} (ended.Protocol f) so_far tells =
       let log : LinkLog = record { gave = so_far.heards ++ tells.heards; took = so_far.took ++ tells.took } in
       let past = tells.added ++ so_far.past in
       let stands : Stands log new now.pass.seen past = tells.goes_on (record { gave = so_far.heards; took = so_far.took }) so_far.past so_far.stands in
-      let fails : failure_in (session_after past) ≡ Some (faults.Protocol f) = ap failure_in (sym stands.session) ∙ tells.end_is.1 in
       record {
         heards = so_far.heards ++ tells.heards;
         took = so_far.took ++ tells.took;
@@ -259,12 +236,7 @@ module _ (valid : Ask → Signed → Type 0) (vouched : Ask → List (List ℕ) 
         pieces_are = stands.pieces;
         known = stands.known;
         rising = stands.rising;
-        came_to = (
-          all_taken log new now.pass.seen past tells.end_is.0 stands,
-          stands.whole,
-          one_unread past (faults.Protocol f) stands.whole fails ∙ ap length (sym stands.pieces),
-          fails,
-        );
+        came_to = came_failed (record { gave = so_far.heards; took = so_far.took }) tells.heards tells.took new now.pass.seen tells.added past stands f tells.end_is;
       }
   ends_serving {old} {new} {k} {l} {m} {before} {mid} {now} ended.ReadFault so_far tells =
       let log : LinkLog = record { gave = so_far.heards ++ tells.heards; took = so_far.took ++ tells.took } in

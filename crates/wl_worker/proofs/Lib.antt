@@ -11,6 +11,12 @@ pub mod Following
 pub mod Standing
 pub mod Ending
 pub mod Counting
+pub mod Coming
 pub mod Connecting
 pub mod Determined
 pub mod Going
+pub mod Numbering
+pub mod Holding
+pub mod Seated
+pub mod Tending
+pub mod Keeping

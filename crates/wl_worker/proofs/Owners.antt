@@ -34,17 +34,9 @@ pub other_tag : {A : Type 0} (k j : ℕ) (ys : List A) → (k == j) ≡ false �
 other_tag k j [] apart = refl
 other_tag k j (y ∷ ys) apart = passed (k == j) y (owned_by j (tag k ys)) apart ∙ other_tag k j ys apart
 
--- what is added for k is k's
-pub own_more : {A : Type 0} (k : ℕ) (xs : List (ℕ × A)) (ys : List A) → owned_by k (xs ++ tag k ys) ≡ owned_by k xs ++ ys
-own_more k xs ys = owned_append k xs (tag k ys) ∙ ap (λ l. owned_by k xs ++ l) (own_tag k ys)
-
 pub none_after : {A : Type 0} (xs : List A) → xs ++ [] ≡ xs
 none_after [] = refl
 none_after (x ∷ xs) = ap (λ l. x ∷ l) (none_after xs)
-
--- and no other's
-pub other_more : {A : Type 0} (k j : ℕ) (xs : List (ℕ × A)) (ys : List A) → (k == j) ≡ false → owned_by j (xs ++ tag k ys) ≡ owned_by j xs
-other_more k j xs ys apart = owned_append j xs (tag k ys) ∙ ap (λ l. owned_by j xs ++ l) (other_tag k j ys apart) ∙ none_after (owned_by j xs)
 
 -- ---- all items
 
@@ -55,9 +47,6 @@ items_append (x ∷ xs) ys = ap (λ l. x.1 ∷ l) (items_append xs ys)
 pub items_tag : {A : Type 0} (k : ℕ) (ys : List A) → items_of (tag k ys) ≡ ys
 items_tag k [] = refl
 items_tag k (y ∷ ys) = ap (λ l. y ∷ l) (items_tag k ys)
-
-pub items_more : {A : Type 0} (xs : List (ℕ × A)) (k : ℕ) (ys : List A) → items_of (xs ++ tag k ys) ≡ items_of xs ++ ys
-items_more xs k ys = items_append xs (tag k ys) ∙ ap (λ l. items_of xs ++ l) (items_tag k ys)
 
 -- ---- how often one is the owner
 

@@ -1,9 +1,8 @@
 -- Laws of an upstream that is asked again and again.
-use Rattle.std.specs.Prelude.{◌≡◌, ◌⊎◌, ℕ, ◌+◌, ◌<◌, ◌≤◌, ◌^◌, List, [], ◌∷◌, ◌++◌, Option, Some, None, IfSome}
-use Rattle.std.proofs.Common.{arith, ◌∙◌, ap, sym, subst, append_assoc, inl, inr, ⊎_elim}
+use Rattle.std.specs.Prelude.{ℕ, ◌+◌, ◌<◌, ◌≤◌, ◌^◌, [], ◌++◌, Option, Some, None}
+use Rattle.std.proofs.Common.{arith, ◌∙◌, sym, subst, append_assoc, inl, inr, ⊎_elim}
 use Rattle.wl_edge.specs.Edge.{Rose}
 use Rattle.wl_edge.specs.Upstreams.{UpstreamLog, one_more}
-use Rattle.wl_edge.specs.declared.upstream.PullCall.{PullCall}
 use Rattle.wl_worker.proofs.Owners.{none_after}
 use Rattle.wl_worker.specs.Counts.{RoseBy}
 use Rattle.wl_worker.specs.Upkeep.{PulledOnce, PulledLater, PulledAgain}

@@ -1,7 +1,7 @@
 -- What the last publication shows after a step of the store.
-use Rattle.std.specs.Prelude.{◌≡◌, ℕ, ◌+◌, ◌<◌, Bool, true, false, List, [], ◌∷◌, ◌++◌, filter, length, slice_index_or, Option, Some, None, IfSome, Result, Ok, Err, IsOkAnd}
+use Rattle.std.specs.Prelude.{◌≡◌, ℕ, ◌+◌, Bool, true, false, List, [], ◌∷◌, ◌++◌, filter, Option, Some, None, IfSome, Result, Ok, Err, IsOkAnd}
 use Rattle.std.specs.List.{Contains}
-use Rattle.std.proofs.Common.{arith, refl, sym, ◌∙◌, ap, subst, length-append}
+use Rattle.std.proofs.Common.{arith, refl, sym, ◌∙◌, ap, subst}
 use Rattle.logbook.specs.Pages.{Book}
 use Rattle.wl_entry.specs.declared.asks.Ask.{Ask}
 use Rattle.wl_entry.specs.declared.signing.Signed.{Signed}
@@ -17,8 +17,8 @@ use Rattle.svid_cache.specs.declared.install.Installed.{Installed}
 use Rattle.svid_cache.specs.declared.install.Installed.TheVariants as installed
 use Rattle.wl_store.specs.declared.tickets.Change.{Change}
 use Rattle.wl_store.specs.declared.tickets.Change.TheVariants as change
-use Rattle.wl_store.specs.Stores.{Store, with_entries, after_signed, install, svids_after, shows_parts, publish}
-use Rattle.wl_store.specs.Steps.{Stored, stored_of, stored_after, after_sync, change_to}
+use Rattle.wl_store.specs.Stores.{Store, with_entries, after_signed, install, svids_after, shows_parts}
+use Rattle.wl_store.specs.Steps.{Stored, stored_after, after_sync, change_to}
 use Rattle.wl_store.proofs.Settling.{settled_same, settled_new, change_same}
 use Rattle.wl_publish.specs.Lists.{IsLast}
 use Rattle.wl_publish.specs.Listings.{Listing, listing}

@@ -1,5 +1,6 @@
 pub mod Counts
 pub mod Owners
+pub mod Numbering
 pub mod Upkeep
 pub mod Rounds
 pub mod Outcomes

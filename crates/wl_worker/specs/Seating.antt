@@ -1,7 +1,10 @@
 -- A seat while it serves (own rules).
-use Rattle.std.specs.Prelude.{◌≡◌, ⊤, ℕ, ◌+◌, ◌≤◌, List, [], ◌++◌, length, Option, Some, None, IfSome}
+use Rattle.std.specs.Prelude.{◌≡◌, ⊤, ℕ, ◌+◌, ◌≤◌, List, [], ◌++◌, length, Option, Some, None, IfSome, Result, Ok, Err}
 use Rattle.std.specs.List.{AllByRecursion}
 use mathlib.Core.List.{IsPrefix}
+use Rattle.wl_entry.specs.declared.asks.Ask.{Ask}
+use Rattle.wl_entry.specs.declared.tokens.JwtToken.{JwtToken}
+use Rattle.wl_octets.specs.declared.memory.Memory.{Memory}
 use Rattle.wl_snapshot.specs.Snapshots.{Publication}
 use Rattle.wl_edge.specs.Edge.{Rose}
 use Rattle.wl_edge.specs.Links.{LinkLog}
@@ -9,8 +12,12 @@ use Rattle.wl_edge.specs.declared.fault.EdgeFault.{EdgeFault}
 use Rattle.wl_edge.specs.declared.fault.EdgeFault.TheVariants as edge
 use Rattle.wl_edge.specs.Listeners.{ListenerLog, FinishedLink, links_given}
 use Rattle.wl_edge.specs.declared.listener.AcceptKind.{AcceptKind}
-use Rattle.wl_worker.specs.Served.{ServedState, HasSeenLast}
-use Rattle.wl_worker.specs.Tended.{SeatWorld, HasNoEnd, HasLastEnd, AcceptsTo}
+use Rattle.wl_edge.specs.declared.signer.SignerCall.{SignerCall}
+use Rattle.wl_worker.specs.Owners.{items_of}
+use Rattle.wl_worker.specs.Numbering.{Numbered, none_apart}
+use Rattle.wl_worker.specs.Rounds.{Round}
+use Rattle.wl_worker.specs.Served.{ServedState, Stands, HasSeenLast}
+use Rattle.wl_worker.specs.Tended.{Known, AreJudged, TookPart, TookFully, SeatWorld, SeatGathers, known, HasNoEnd, HasLastEnd, AcceptsTo}
 use Rattle.wl_worker.specs.declared.ended.Ended.{Ended}
 use Rattle.wl_worker.specs.declared.ended.Ended.TheVariants as ended
 use Rattle.wl_worker.specs.declared.seat.SeatEnd.{SeatEnd}
@@ -142,3 +149,69 @@ pub record EndedBy (old new : SeatView) (links_before links_now : List Under) (e
   pub goes : Goes old new links_before links_now kinds
   pub accepts : AcceptsTo end kinds
   pub fits : EndFits end old new
+
+-- ---- what holds of all links of a seat
+
+-- It stands between two of its rounds.
+abbrev pub Runs : Known → Under → List Round → Type 0
+Runs k u past = IfSome u.link.log (λ log. Stands log u.served k.seen past × AreJudged k past)
+
+-- A seat while it serves: the links under way, in their order, and so many that were finished as they stood.
+pub record Tending (vouched : Ask → List (List ℕ) → JwtToken → Type 0) (socket : ℕ) (old new : SeatWorld) (broken : ℕ) (links : List Under) : Type 0 where
+  pub running : List (ℕ × Under)
+  pub fulls : List (ℕ × FinishedLink)
+  pub lates : List (ℕ × FinishedLink)
+  pub rounds : List (ℕ × Round)
+  pub next : ℕ
+  pub signed : List SignerCall
+  pub times : List ℕ
+  pub links_are : items_of running ≡ links
+  pub count : length lates ≡ broken
+  pub gathers : SeatGathers socket old new (items_of rounds) signed times (items_of fulls ++ items_of lates) (length links)
+  pub numbered : Numbered (Runs (known vouched new signed times)) (TookFully (known vouched new signed times)) (TookPart (known vouched new signed times)) none_apart running fulls lates rounds next
+
+-- By which relation tokens are vouched for, and what the seat was at its start.
+module _ (vouched : Ask → List (List ℕ) → JwtToken → Type 0) (first : SeatWorld) where
+  -- it goes on
+  abbrev pub TendsOn : SeatView → List Under → Type 0
+  TendsOn w links = Tending vouched w.socket first w.world 0 links × (length links ≤ w.room)
+
+  -- It has ended, but for these links; with those that it finished as they stood they are no more than its room.
+  abbrev pub TendsRest : SeatView → List Under → Type 0
+  TendsRest w links = (broken : ℕ) × Tending vouched w.socket first w.world broken links × (broken + length links ≤ w.room)
+
+  -- The same, where those links and these are so many together.
+  abbrev pub TendsLast : SeatView → ℕ → List Under → Type 0
+  TendsLast w n links = (broken : ℕ) × Tending vouched w.socket first w.world broken links × (broken + length links ≡ n)
+
+  -- by its end
+  abbrev pub TendsBy : SeatView → List Under → SeatEnd → Type 0
+  TendsBy w links seat.End = TendsOn w links × (links ≡ [])
+  TendsBy w links seat.ListenFault = TendsRest w links
+  TendsBy w links seat.WaitFault = TendsRest w links
+  TendsBy w links seat.Memory = TendsRest w links
+
+  -- by the end of a step
+  abbrev pub TendsAfter : SeatView → List Under → Step → Type 0
+  TendsAfter w links step.On = TendsOn w links
+  TendsAfter w links step.Idle = TendsOn w links
+  TendsAfter w links step.Closed = TendsOn w links
+  TendsAfter w links (step.Over end) = TendsBy w links end
+
+-- A part of serving, from where the seat goes on, if all its links tell their content.
+pub record KeepsTending (tells : Type 0) (vouched : Ask → List (List ℕ) → JwtToken → Type 0) (old new : SeatView) (links_before links_now : List Under) (s : Step) : Type 0 where
+  pub keeps : tells → (first : SeatWorld) → TendsOn vouched first old links_before → TendsAfter vouched first new links_now s
+
+-- links are finished as they stand, and none else
+pub record FinishesTending (vouched : Ask → List (List ℕ) → JwtToken → Type 0) (old new : SeatView) (links_before links_now : List Under) : Type 0 where
+  pub keeps : (first : SeatWorld) (n : ℕ) → TendsLast vouched first old n links_before → TendsLast vouched first new n links_now
+
+-- what serving some links comes to
+abbrev pub served_step : Result (Unit {0}) Memory → Step
+served_step (Ok done) = step.On
+served_step (Err m) = step.Over seat.Memory
+
+-- what a turn comes to
+abbrev pub turn_step : Result (Unit {0}) EdgeFault → Step
+turn_step (Ok done) = step.On
+turn_step (Err fault) = step.Over (seat_end_of fault)

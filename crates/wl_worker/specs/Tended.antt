@@ -1,9 +1,23 @@
--- A seat: what its listener did (own rules).
-use Rattle.std.specs.Prelude.{◌≡◌, ⊤, List, [], ◌∷◌, ◌++◌, length, Option, Some, IfSome}
+-- A seat: what its links took, and to which of them each of its rounds belongs (own rules).
+use Rattle.std.specs.Prelude.{◌≡◌, ◌⊎◌, ⊤, ℕ, ◌+◌, ◌<◌, ◌≤◌, List, [], ◌∷◌, ◌++◌, length, Option, Some, IfSome}
+use Rattle.std.specs.List.{AllByRecursion}
+use mathlib.Core.List.{IsPrefix}
+use Rattle.h2_conn.specs.declared.fault.ConnFault.{ConnFault}
+use Rattle.wl_entry.specs.declared.asks.Ask.{Ask}
+use Rattle.wl_entry.specs.declared.tokens.JwtToken.{JwtToken}
+use Rattle.wl_snapshot.specs.Snapshots.{Publication}
+use Rattle.wl_edge.specs.Links.{LinkLog}
 use Rattle.wl_edge.specs.Listeners.{ListenerLog, FinishedLink, links_given}
 use Rattle.wl_edge.specs.declared.listener.AcceptKind.{AcceptKind}
 use Rattle.wl_edge.specs.declared.listener.AcceptKind.TheVariants as kind
-use Rattle.wl_worker.specs.Served.{Around}
+use Rattle.wl_edge.specs.declared.signer.SignerCall.{SignerCall}
+use Rattle.wl_worker.specs.Counts.{RoseBy}
+use Rattle.wl_worker.specs.Outcomes.{unanswered, unsigned, GainsAll, Ticked, attestor_calls, IsOutcome}
+use Rattle.wl_worker.specs.Owners.{owned_by, items_of, tally}
+use Rattle.wl_worker.specs.Rounds.{Round, numbers, answers, outcomes, AreOutcomes}
+use Rattle.wl_worker.specs.Served.{Around, Began}
+use Rattle.wl_worker.specs.Connections.{CameTo}
+use Rattle.wl_worker.specs.declared.ended.Ended.TheVariants as ended
 use Rattle.wl_worker.specs.declared.seat.SeatEnd.{SeatEnd}
 use Rattle.wl_worker.specs.declared.seat.SeatEnd.TheVariants as seat
 
@@ -40,6 +54,36 @@ pub record FinishesAll (end : SeatEnd) (before after : ListenerLog) : Type 0 whe
 abbrev pub ListenedTo : SeatEnd → Option ListenerLog → Option ListenerLog → Type 0
 ListenedTo end old new = IfSome old (λ before. (after : ListenerLog) × (new ≡ Some after) × FinishesAll end before after)
 
+-- ---- one link
+
+-- The link took the whole of the talk of its rounds. Closed: it gave its end, or the talk is done, and one number was read for
+-- each piece. Protocol: the talk has failed, and one number fewer was read.
+abbrev pub TookAll : LinkLog → List Round → Type 0
+TookAll log past = CameTo ended.Closed log.gave log.took past ⊎ ((f : ConnFault) × CameTo (ended.Protocol f) log.gave log.took past)
+
+-- What is known of all links of a seat: what the pass has seen, which tokens are vouched for, what the signer
+-- was asked, and the times that the clock told.
+pub record Known : Type 1 where
+  pub seen : List Publication
+  pub vouched : Ask → List (List ℕ) → JwtToken → Type 0
+  pub signed : List SignerCall
+  pub times : List ℕ
+
+-- the outcomes of a link's rounds are as they may be
+abbrev pub AreJudged : Known → List Round → Type 0
+AreJudged k past = AreOutcomes (IsOutcome k.vouched k.signed k.times) past
+
+-- A link that was finished took a prefix of the talk of its rounds.
+abbrev pub TookPart : Known → FinishedLink → List Round → Type 0
+TookPart k link past = IfSome link.log (λ log. Began log k.seen past × AreJudged k past)
+
+-- It took the whole, unless a receive or a sending of it failed; so many of them did.
+abbrev pub TookAllUnless : ℕ → ℕ → LinkLog → List Round → Type 0
+TookAllUnless failed_receives failed_sends log past = (0 < failed_receives) ⊎ ((0 < failed_sends) ⊎ TookAll log past)
+
+abbrev pub TookFully : Known → FinishedLink → List Round → Type 0
+TookFully k link past = IfSome link.log (λ log. Began log k.seen past × AreJudged k past × TookAllUnless link.failed_receives link.failed_sends log past)
+
 -- ---- a seat
 
 -- what is seen of a seat's things of the outside, and its pass
@@ -49,3 +93,50 @@ pub record SeatWorld : Type 0 where
 
 abbrev pub seat_world : Option ListenerLog → Around → SeatWorld
 seat_world listener a = record { listener = listener; around = a }
+
+-- The listener gave so many links more than it finished then, and these were finished.
+pub record FinishesSome (old new : ListenerLog) (finished : List FinishedLink) (open_links : ℕ) : Type 0 where
+  pub kinds : List AcceptKind
+  pub kinds_are : new.kinds ≡ old.kinds ++ kinds
+  pub finished_are : new.finished ≡ old.finished ++ finished
+  pub count : links_given kinds ≡ length finished + open_links
+
+abbrev pub ListenerGains : Option ListenerLog → Option ListenerLog → List FinishedLink → ℕ → Type 0
+ListenerGains old new finished open_links = IfSome old (λ before. (after : ListenerLog) × (new ≡ Some after) × FinishesSome before after finished open_links)
+
+-- What a seat's things of the outside did for these rounds, the newest first: the attestor answered for the socket, the pass
+-- read, the signer was asked and the clock told the time. No more answers and outcomes are failures than the counts rose. These
+-- links were finished, and so many of those that the listener gave were not.
+pub record SeatGathers (socket : ℕ) (old new : SeatWorld) (rounds : List Round) (signed : List SignerCall) (times : List ℕ) (finished : List FinishedLink) (open_links : ℕ) : Type 0 where
+  pub listener : ListenerGains old.listener new.listener finished open_links
+  pub attested : GainsAll old.around.attested new.around.attested (attestor_calls socket (answers rounds))
+  pub attestor_fails : RoseBy (unanswered (answers rounds)) old.around.attestor_faults new.around.attestor_faults
+  pub mine : new.around.pass.mine ≡ old.around.pass.mine ++ numbers rounds
+  pub seen : IsPrefix old.around.pass.seen new.around.pass.seen
+  pub store : new.around.pass.store ≡ old.around.pass.store
+  pub signs : GainsAll old.around.signed new.around.signed signed
+  pub clock : Ticked old.around.times new.around.times times
+  pub signer_fails : RoseBy (unsigned (outcomes rounds)) old.around.signer_faults new.around.signer_faults
+
+abbrev pub known : (Ask → List (List ℕ) → JwtToken → Type 0) → SeatWorld → List SignerCall → List ℕ → Known
+known vouched w signed times = record { seen = w.around.pass.seen; vouched = vouched; signed = signed; times = times }
+
+-- ---- Tended
+
+-- What a seat came to. Each finished link, whose number is its own, took a prefix of the talk of its rounds. These are all rounds
+-- of the seat, each of one finished link: so no answer of the attestor, no number that was read and no outcome belongs to two.
+-- `fulls` took the whole, unless a call of theirs failed; after them come `lates`, which need not have. They are no more than the
+-- seat's room, and none where its end is End.
+pub record Tends (vouched : Ask → List (List ℕ) → JwtToken → Type 0) (socket room : ℕ) (end : SeatEnd) (old new : SeatWorld) : Type 0 where
+  pub fulls : List (ℕ × FinishedLink)
+  pub lates : List (ℕ × FinishedLink)
+  pub rounds : List (ℕ × Round)
+  pub signed : List SignerCall
+  pub times : List ℕ
+  pub gathers : SeatGathers socket old new (items_of rounds) signed times (items_of fulls ++ items_of lates) 0
+  pub once : (k : ℕ) → tally k fulls + tally k lates ≤ 1
+  pub owners : (k : ℕ) → tally k fulls + tally k lates ≡ 0 → owned_by k rounds ≡ []
+  pub each_full : AllByRecursion (λ f. TookFully (known vouched new signed times) f.1 (owned_by f.0 rounds)) fulls
+  pub each_late : AllByRecursion (λ f. TookPart (known vouched new signed times) f.1 (owned_by f.0 rounds)) lates
+  pub few : length lates ≤ room
+  pub none : end ≡ seat.End → lates ≡ []

@@ -1,10 +1,12 @@
 //! A seat: one listener, whose links are served in turn.
 
-ghost use Rattle.std.specs.Prelude.{◌≡◌, ◌≤◌, IsSome, IfSome, IsSomeAnd, is_some, length};
+ghost use Rattle.std.specs.Prelude.{◌≡◌, ◌≤◌, Some, IsSome, IfSome, IsSomeAnd, is_some, length};
 ghost use mathlib.Core.List.{IsPrefix};
 ghost use Rattle.wl_edge.specs.Edge.{Rose};
 ghost use Rattle.wl_edge.specs.Listeners.{links_given};
-ghost use Rattle.wl_worker.specs.Tended.{ListenedTo};
+ghost use Rattle.wl_publish.specs.Listings.{Passing};
+ghost use Rattle.wl_worker.specs.Served.{around};
+ghost use Rattle.wl_worker.specs.Tended.{ListenedTo, Tends, seat_world};
 
 use crate::seating::serve_links;
 use std::alloc::Global;
@@ -66,6 +68,16 @@ pub fn serve_seat<L: Listener, S: Signer, A: Attestor, C: Clock, P: Ready<L::L>,
         → Rose (L.faults seat.old.listener) (L.faults seat.new.listener) }
     ensures wait_fault { result ≡ SeatEnd.WaitFault → Rose (P.faults seat.old.ready) (P.faults seat.new.ready) }
     ensures finishes { ListenedTo result (L.told seat.old.listener) (L.told seat.new.listener) }
+    // Where links tell their content: what each took.
+    ensures tends { ((l : L.L) → IsSome (L.L.told l))
+        → (p q : Passing) → seat.old.pass ≡ Some p → seat.new.pass ≡ Some q
+        → Tends S.V.token seat.old.socket seat.old.room result
+        (seat_world (L.told seat.old.listener) (around (A.calls seat.old.attestor)
+        (A.faults seat.old.attestor) (S.calls seat.old.signer) (S.faults seat.old.signer)
+        (C.answers seat.old.clock) p))
+        (seat_world (L.told seat.new.listener) (around (A.calls seat.new.attestor)
+        (A.faults seat.new.attestor) (S.calls seat.new.signer) (S.faults seat.new.signer)
+        (C.answers seat.new.clock) q)) }
 {
     let mut pass = match seat.pass.take() {
         Some(pass) => pass,

@@ -1,12 +1,14 @@
 //! Rounds of the links of a seat.
 
-ghost use Rattle.std.specs.Prelude.{◌≡◌, ◌<◌, [], ◌∷◌, map, IsErrOf, OnOk, OnErr};
+ghost use Rattle.std.specs.Prelude.{◌≡◌, ◌<◌, [], ◌∷◌, map, IsErrOf, IsSome, OnOk, OnErr};
 ghost use Rattle.std.specs.VecDeque.{deque_len, deque_capacity};
 ghost use Rattle.wl_edge.specs.Edge.{Rose};
 ghost use Rattle.wl_publish.specs.Listings.{Passing};
 ghost use Rattle.wl_worker.specs.Served.{around};
 ghost use Rattle.wl_worker.specs.Tended.{seat_world};
-ghost use Rattle.wl_worker.specs.Seating.{SeatView, Under, Fit, Goes, IsWithMemory, seat_view, under, finished_link};
+ghost use Rattle.wl_worker.specs.Seating.{SeatView, Under, Fit, Goes, IsWithMemory};
+ghost use Rattle.wl_worker.specs.Seating.{seat_view, under, finished_link};
+ghost use Rattle.wl_worker.specs.Seating.{KeepsTending, served_step, turn_step};
 
 use crate::ended::{Ended, RoundEnd};
 use crate::places::{Connection, Numbers, release};
@@ -57,11 +59,17 @@ fn serve_one<L: Listener, S: Signer, A: Attestor, C: Clock, P: Ready<L::L>, G: G
     requires fit { Fit (⟦<Seat<L, S, A, C, P> as SeatShown>⟧.view seat.old pass.old)
         (⟦<Connection<L::L> as LinkShown>⟧.shown connection
         ∷ map ⟦<Connection<L::L> as LinkShown>⟧.shown links.old.items) }
-    ensures { Goes (⟦<Seat<L, S, A, C, P> as SeatShown>⟧.view seat.old pass.old)
+    ensures goes { Goes (⟦<Seat<L, S, A, C, P> as SeatShown>⟧.view seat.old pass.old)
         (⟦<Seat<L, S, A, C, P> as SeatShown>⟧.view seat.new pass.new)
         (⟦<Connection<L::L> as LinkShown>⟧.shown connection
         ∷ map ⟦<Connection<L::L> as LinkShown>⟧.shown links.old.items)
         (map ⟦<Connection<L::L> as LinkShown>⟧.shown links.new.items) [] }
+    ensures tends { KeepsTending ((l : L.L) → IsSome (L.L.told l)) S.V.token
+        (⟦<Seat<L, S, A, C, P> as SeatShown>⟧.view seat.old pass.old)
+        (⟦<Seat<L, S, A, C, P> as SeatShown>⟧.view seat.new pass.new)
+        (⟦<Connection<L::L> as LinkShown>⟧.shown connection
+        ∷ map ⟦<Connection<L::L> as LinkShown>⟧.shown links.old.items)
+        (map ⟦<Connection<L::L> as LinkShown>⟧.shown links.new.items) (served_step result) }
 {
     let Connection {
         number,
@@ -116,10 +124,15 @@ fn serve_first<L: Listener, S: Signer, A: Attestor, C: Clock, P: Ready<L::L>, G:
 ) -> Result<(), Memory>
     requires { Fit (⟦<Seat<L, S, A, C, P> as SeatShown>⟧.view seat.old pass.old)
         (map ⟦<Connection<L::L> as LinkShown>⟧.shown links.old.items) }
-    ensures { Goes (⟦<Seat<L, S, A, C, P> as SeatShown>⟧.view seat.old pass.old)
+    ensures goes { Goes (⟦<Seat<L, S, A, C, P> as SeatShown>⟧.view seat.old pass.old)
         (⟦<Seat<L, S, A, C, P> as SeatShown>⟧.view seat.new pass.new)
         (map ⟦<Connection<L::L> as LinkShown>⟧.shown links.old.items)
         (map ⟦<Connection<L::L> as LinkShown>⟧.shown links.new.items) [] }
+    ensures tends { KeepsTending ((l : L.L) → IsSome (L.L.told l)) S.V.token
+        (⟦<Seat<L, S, A, C, P> as SeatShown>⟧.view seat.old pass.old)
+        (⟦<Seat<L, S, A, C, P> as SeatShown>⟧.view seat.new pass.new)
+        (map ⟦<Connection<L::L> as LinkShown>⟧.shown links.old.items)
+        (map ⟦<Connection<L::L> as LinkShown>⟧.shown links.new.items) (served_step result) }
 {
     let connection = match links.pop_front() {
         Some(connection) => connection,
@@ -146,10 +159,15 @@ fn serve_listed<L: Listener, S: Signer, A: Attestor, C: Clock, P: Ready<L::L>, G
 ) -> Result<(), Memory>
     requires { Fit (⟦<Seat<L, S, A, C, P> as SeatShown>⟧.view seat.old pass.old)
         (map ⟦<Connection<L::L> as LinkShown>⟧.shown links.old.items) }
-    ensures { Goes (⟦<Seat<L, S, A, C, P> as SeatShown>⟧.view seat.old pass.old)
+    ensures goes { Goes (⟦<Seat<L, S, A, C, P> as SeatShown>⟧.view seat.old pass.old)
         (⟦<Seat<L, S, A, C, P> as SeatShown>⟧.view seat.new pass.new)
         (map ⟦<Connection<L::L> as LinkShown>⟧.shown links.old.items)
         (map ⟦<Connection<L::L> as LinkShown>⟧.shown links.new.items) [] }
+    ensures tends { KeepsTending ((l : L.L) → IsSome (L.L.told l)) S.V.token
+        (⟦<Seat<L, S, A, C, P> as SeatShown>⟧.view seat.old pass.old)
+        (⟦<Seat<L, S, A, C, P> as SeatShown>⟧.view seat.new pass.new)
+        (map ⟦<Connection<L::L> as LinkShown>⟧.shown links.old.items)
+        (map ⟦<Connection<L::L> as LinkShown>⟧.shown links.new.items) (served_step result) }
 {
     'links: for _ in 0..links.len() {
         serve_first(rt, desk, seat, pass, links, numbers, all, gate)?;
@@ -182,6 +200,11 @@ pub(crate) fn serve_turn<
         (⟦<Seat<L, S, A, C, P> as SeatShown>⟧.view seat.new pass.new)
         (map ⟦<Connection<L::L> as LinkShown>⟧.shown links.old.items)
         (map ⟦<Connection<L::L> as LinkShown>⟧.shown links.new.items) [] }
+    ensures tends { KeepsTending ((l : L.L) → IsSome (L.L.told l)) S.V.token
+        (⟦<Seat<L, S, A, C, P> as SeatShown>⟧.view seat.old pass.old)
+        (⟦<Seat<L, S, A, C, P> as SeatShown>⟧.view seat.new pass.new)
+        (map ⟦<Connection<L::L> as LinkShown>⟧.shown links.old.items)
+        (map ⟦<Connection<L::L> as LinkShown>⟧.shown links.new.items) (turn_step result) }
     ensures failed { IsErrOf result EdgeFault.Failed → Rose (P.faults seat.old.ready) (P.faults seat.new.ready) }
 {
     let mut listed = Row::empty(alloc);

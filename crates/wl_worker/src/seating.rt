@@ -1,10 +1,12 @@
 //! A seat takes links and serves them until it ends.
 
-ghost use Rattle.std.specs.Prelude.{◌≡◌, ◌≤◌, ◌<◌, [], map, length, IfOk, OnOk, vec_len};
+ghost use Rattle.std.specs.Prelude.{◌≡◌, ◌≤◌, ◌<◌, [], map, length, IfOk, OnOk, IsSome, vec_len};
 ghost use Rattle.std.specs.VecDeque.{deque_len, deque_capacity};
 ghost use Rattle.wl_publish.specs.Listings.{Passing};
 ghost use Rattle.wl_session.specs.Sessions.{fresh_session};
 ghost use Rattle.wl_worker.specs.Seating.{HasOpen, Fit, Goes, Stepped, Rests, EndedBy, seat_end_of};
+ghost use Rattle.wl_worker.specs.Seating.{KeepsTending, FinishesTending};
+ghost use Rattle.wl_worker.specs.Tended.{Tends};
 
 use crate::places::{Connection, Numbers, release};
 use crate::seat::{Seat, SeatEnd};
@@ -48,7 +50,12 @@ fn admit<L: Listener, S: Signer, A: Attestor, C: Clock, P: Ready<L::L>>(
 ) -> Step
     requires { HasOpen (L.told seat.old.listener)
         (length (map ⟦<Connection<L::L> as LinkShown>⟧.shown links.old.items)) }
-    ensures { (p : Passing) → Stepped (⟦<Seat<L, S, A, C, P> as SeatShown>⟧.view seat.old p)
+    ensures goes { (p : Passing) → Stepped (⟦<Seat<L, S, A, C, P> as SeatShown>⟧.view seat.old p)
+        (⟦<Seat<L, S, A, C, P> as SeatShown>⟧.view seat.new p)
+        (map ⟦<Connection<L::L> as LinkShown>⟧.shown links.old.items)
+        (map ⟦<Connection<L::L> as LinkShown>⟧.shown links.new.items) result }
+    ensures tends { (p : Passing) → KeepsTending ((l : L.L) → IsSome (L.L.told l)) S.V.token
+        (⟦<Seat<L, S, A, C, P> as SeatShown>⟧.view seat.old p)
         (⟦<Seat<L, S, A, C, P> as SeatShown>⟧.view seat.new p)
         (map ⟦<Connection<L::L> as LinkShown>⟧.shown links.old.items)
         (map ⟦<Connection<L::L> as LinkShown>⟧.shown links.new.items) result }
@@ -92,7 +99,12 @@ fn admit_all<L: Listener, S: Signer, A: Attestor, C: Clock, P: Ready<L::L>>(
 ) -> Step
     requires { HasOpen (L.told seat.old.listener)
         (length (map ⟦<Connection<L::L> as LinkShown>⟧.shown links.old.items)) }
-    ensures { (p : Passing) → Stepped (⟦<Seat<L, S, A, C, P> as SeatShown>⟧.view seat.old p)
+    ensures goes { (p : Passing) → Stepped (⟦<Seat<L, S, A, C, P> as SeatShown>⟧.view seat.old p)
+        (⟦<Seat<L, S, A, C, P> as SeatShown>⟧.view seat.new p)
+        (map ⟦<Connection<L::L> as LinkShown>⟧.shown links.old.items)
+        (map ⟦<Connection<L::L> as LinkShown>⟧.shown links.new.items) result }
+    ensures tends { (p : Passing) → KeepsTending ((l : L.L) → IsSome (L.L.told l)) S.V.token
+        (⟦<Seat<L, S, A, C, P> as SeatShown>⟧.view seat.old p)
         (⟦<Seat<L, S, A, C, P> as SeatShown>⟧.view seat.new p)
         (map ⟦<Connection<L::L> as LinkShown>⟧.shown links.old.items)
         (map ⟦<Connection<L::L> as LinkShown>⟧.shown links.new.items) result }
@@ -119,7 +131,12 @@ fn go_on<L: Listener, S: Signer, A: Attestor, C: Clock, P: Ready<L::L>, G: Gate,
 ) -> Step
     requires { Fit (⟦<Seat<L, S, A, C, P> as SeatShown>⟧.view seat.old pass.old)
         (map ⟦<Connection<L::L> as LinkShown>⟧.shown links.old.items) }
-    ensures { Stepped (⟦<Seat<L, S, A, C, P> as SeatShown>⟧.view seat.old pass.old)
+    ensures goes { Stepped (⟦<Seat<L, S, A, C, P> as SeatShown>⟧.view seat.old pass.old)
+        (⟦<Seat<L, S, A, C, P> as SeatShown>⟧.view seat.new pass.new)
+        (map ⟦<Connection<L::L> as LinkShown>⟧.shown links.old.items)
+        (map ⟦<Connection<L::L> as LinkShown>⟧.shown links.new.items) result }
+    ensures tends { KeepsTending ((l : L.L) → IsSome (L.L.told l)) S.V.token
+        (⟦<Seat<L, S, A, C, P> as SeatShown>⟧.view seat.old pass.old)
         (⟦<Seat<L, S, A, C, P> as SeatShown>⟧.view seat.new pass.new)
         (map ⟦<Connection<L::L> as LinkShown>⟧.shown links.old.items)
         (map ⟦<Connection<L::L> as LinkShown>⟧.shown links.new.items) result }
@@ -147,10 +164,15 @@ fn serve_rest<L: Listener, S: Signer, A: Attestor, C: Clock, P: Ready<L::L>, G: 
 ) -> SeatEnd
     requires { Fit (⟦<Seat<L, S, A, C, P> as SeatShown>⟧.view seat.old pass.old)
         (map ⟦<Connection<L::L> as LinkShown>⟧.shown links.old.items) }
-    ensures { Rests (⟦<Seat<L, S, A, C, P> as SeatShown>⟧.view seat.old pass.old)
+    ensures goes { Rests (⟦<Seat<L, S, A, C, P> as SeatShown>⟧.view seat.old pass.old)
         (⟦<Seat<L, S, A, C, P> as SeatShown>⟧.view seat.new pass.new)
         (map ⟦<Connection<L::L> as LinkShown>⟧.shown links.old.items)
         (map ⟦<Connection<L::L> as LinkShown>⟧.shown links.new.items) result }
+    ensures tends { KeepsTending ((l : L.L) → IsSome (L.L.told l)) S.V.token
+        (⟦<Seat<L, S, A, C, P> as SeatShown>⟧.view seat.old pass.old)
+        (⟦<Seat<L, S, A, C, P> as SeatShown>⟧.view seat.new pass.new)
+        (map ⟦<Connection<L::L> as LinkShown>⟧.shown links.old.items)
+        (map ⟦<Connection<L::L> as LinkShown>⟧.shown links.new.items) (Step.Over result) }
 {
     'rest: for _ in rt.forever() {
         if links.is_empty() {
@@ -176,10 +198,15 @@ fn serve_all<L: Listener, S: Signer, A: Attestor, C: Clock, P: Ready<L::L>, G: G
 ) -> SeatEnd
     requires { Fit (⟦<Seat<L, S, A, C, P> as SeatShown>⟧.view seat.old pass.old)
         (map ⟦<Connection<L::L> as LinkShown>⟧.shown links.old.items) }
-    ensures { EndedBy (⟦<Seat<L, S, A, C, P> as SeatShown>⟧.view seat.old pass.old)
+    ensures goes { EndedBy (⟦<Seat<L, S, A, C, P> as SeatShown>⟧.view seat.old pass.old)
         (⟦<Seat<L, S, A, C, P> as SeatShown>⟧.view seat.new pass.new)
         (map ⟦<Connection<L::L> as LinkShown>⟧.shown links.old.items)
         (map ⟦<Connection<L::L> as LinkShown>⟧.shown links.new.items) result }
+    ensures tends { KeepsTending ((l : L.L) → IsSome (L.L.told l)) S.V.token
+        (⟦<Seat<L, S, A, C, P> as SeatShown>⟧.view seat.old pass.old)
+        (⟦<Seat<L, S, A, C, P> as SeatShown>⟧.view seat.new pass.new)
+        (map ⟦<Connection<L::L> as LinkShown>⟧.shown links.old.items)
+        (map ⟦<Connection<L::L> as LinkShown>⟧.shown links.new.items) (Step.Over result) }
 {
     'seat: for _ in rt.forever() {
         match go_on(rt, alloc, desk, seat, pass, links, numbers, gate) {
@@ -204,6 +231,11 @@ fn finish_all<L: Listener, S: Signer, A: Attestor, C: Clock, P: Ready<L::L>>(
         (⟦<Seat<L, S, A, C, P> as SeatShown>⟧.view seat.new p)
         (map ⟦<Connection<L::L> as LinkShown>⟧.shown links.old.items)
         [] [] }
+    ensures tends { (p : Passing) → FinishesTending S.V.token
+        (⟦<Seat<L, S, A, C, P> as SeatShown>⟧.view seat.old p)
+        (⟦<Seat<L, S, A, C, P> as SeatShown>⟧.view seat.new p)
+        (map ⟦<Connection<L::L> as LinkShown>⟧.shown links.old.items)
+        [] }
 {
     'links: while let Some(connection) = links.pop_front() {
         let Connection {
@@ -233,10 +265,13 @@ pub(crate) fn serve_links<
     gate: &G,
 ) -> SeatEnd
     requires { HasOpen (L.told seat.old.listener) 0 }
-    ensures { EndedBy (⟦<Seat<L, S, A, C, P> as SeatShown>⟧.view seat.old pass.old)
+    ensures goes { EndedBy (⟦<Seat<L, S, A, C, P> as SeatShown>⟧.view seat.old pass.old)
         (⟦<Seat<L, S, A, C, P> as SeatShown>⟧.view seat.new pass.new)
         []
         [] result }
+    ensures tends { ((l : L.L) → IsSome (L.L.told l)) → Tends S.V.token seat.old.socket seat.old.room result
+        (⟦<Seat<L, S, A, C, P> as SeatShown>⟧.view seat.old pass.old).world
+        (⟦<Seat<L, S, A, C, P> as SeatShown>⟧.view seat.new pass.new).world }
 {
     let mut numbers = match Numbers::start(alloc, seat.room) {
         Ok(numbers) => numbers,

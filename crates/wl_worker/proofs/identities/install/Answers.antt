@@ -1,4 +1,3 @@
-use Rattle.std.proofs.Common.{◌∙◌, sym, ap}
 use Rattle.wl_store.specs.Stores.{has_ticket}
 use Rattle.wl_worker.proofs.Showing.{kept_note}
 use Rattle.wl_worker.proofs.identities.install.Goals as goal

@@ -1,20 +1,25 @@
+use Rattle.std.proofs.Common.{refl, sym, ◌∙◌}
 use Rattle.wl_worker.proofs.Going.{listen_rose, wait_rose, listened}
+use Rattle.wl_worker.proofs.Keeping.{of_passes}
 use Rattle.wl_worker.proofs.seat.serve_seat.Goals as goal
 
 pub returns-clause-place : goal.returns-clause-place
-returns-clause-place g c = (c.serve_links-end.ensures.goes.socket, c.serve_links-end.ensures.goes.room)
+returns-clause-place g c = (c.serve_links-end.ensures.goes.goes.socket, c.serve_links-end.ensures.goes.goes.room)
 
 pub returns-clause-listens : goal.returns-clause-listens
-returns-clause-listens g c = c.serve_links-end.ensures.goes.listens
+returns-clause-listens g c = c.serve_links-end.ensures.goes.goes.listens
 
 pub returns-clause-waits : goal.returns-clause-waits
-returns-clause-waits g c = c.serve_links-end.ensures.goes.waits
+returns-clause-waits g c = c.serve_links-end.ensures.goes.goes.waits
 
 pub returns-clause-listen_fault : goal.returns-clause-listen_fault
-returns-clause-listen_fault g c = listen_rose _ _ _ c.serve_links-end.ensures.fits
+returns-clause-listen_fault g c = listen_rose _ _ _ c.serve_links-end.ensures.goes.fits
 
 pub returns-clause-wait_fault : goal.returns-clause-wait_fault
-returns-clause-wait_fault g c = wait_rose _ _ _ c.serve_links-end.ensures.fits
+returns-clause-wait_fault g c = wait_rose _ _ _ c.serve_links-end.ensures.goes.fits
 
 pub returns-clause-finishes : goal.returns-clause-finishes
-returns-clause-finishes g c = listened _ _ _ c.serve_links-end.ensures
+returns-clause-finishes g c = listened _ _ _ c.serve_links-end.ensures.goes
+
+pub returns-clause-tends : goal.returns-clause-tends
+returns-clause-tends g c = λ t. of_passes _ _ _ _ _ (sym c.take.ensures.value ∙ c.in-Some.is) refl (c.serve_links-end.ensures.tends t)

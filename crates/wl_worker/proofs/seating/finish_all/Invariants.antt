@@ -2,17 +2,25 @@ use Rattle.std.specs.Prelude.{[], length}
 use Rattle.wl_publish.specs.Listings.{Passing}
 use Rattle.wl_worker.specs.Served.{around}
 use Rattle.wl_worker.specs.Tended.{seat_world}
-use Rattle.wl_worker.specs.Seating.{Goes, seat_view, under, finished_link}
+use Rattle.wl_worker.specs.Seating.{Goes, FinishesTending, seat_view, under, finished_link}
 use Rattle.wl_worker.proofs.Going.{each_of}
 use Rattle.wl_worker.proofs.seating.finish_all.Given as goal
 
 -- so far
 abbrev pub invariant-links : goal.invariant-links
 invariant-links g l =
-    (p : Passing) → Goes (seat_view l.fn.seat.socket l.fn.seat.room (g.L.Listener.faults l.fn.seat.listener) (g.P.Ready.faults l.fn.seat.ready) (seat_world (g.L.Listener.told l.fn.seat.listener) (around (g.A.Attestor.calls l.fn.seat.attestor) (g.A.Attestor.faults l.fn.seat.attestor) (g.S.Signer.calls l.fn.seat.signer) (g.S.Signer.faults l.fn.seat.signer) (g.C.Clock.answers l.fn.seat.clock) p)))
-    (seat_view l.seat.socket l.seat.room (g.L.Listener.faults l.seat.listener) (g.P.Ready.faults l.seat.ready) (seat_world (g.L.Listener.told l.seat.listener) (around (g.A.Attestor.calls l.seat.attestor) (g.A.Attestor.faults l.seat.attestor) (g.S.Signer.calls l.seat.signer) (g.S.Signer.faults l.seat.signer) (g.C.Clock.answers l.seat.clock) p)))
-    (each_of l.fn.links.items (λ c. under (finished_link (g.L.L.Link.told c.link) (g.L.L.Link.failed_receives c.link) (g.L.L.Link.failed_sends c.link) (g.L.L.Link.stalls c.link)) c.served))
-    (each_of l.links.items (λ c. under (finished_link (g.L.L.Link.told c.link) (g.L.L.Link.failed_receives c.link) (g.L.L.Link.failed_sends c.link) (g.L.L.Link.stalls c.link)) c.served)) []
+    record {
+      goes : (p : Passing) → Goes
+          (seat_view l.fn.seat.socket l.fn.seat.room (g.L.Listener.faults l.fn.seat.listener) (g.P.Ready.faults l.fn.seat.ready) (seat_world (g.L.Listener.told l.fn.seat.listener) (around (g.A.Attestor.calls l.fn.seat.attestor) (g.A.Attestor.faults l.fn.seat.attestor) (g.S.Signer.calls l.fn.seat.signer) (g.S.Signer.faults l.fn.seat.signer) (g.C.Clock.answers l.fn.seat.clock) p)))
+          (seat_view l.seat.socket l.seat.room (g.L.Listener.faults l.seat.listener) (g.P.Ready.faults l.seat.ready) (seat_world (g.L.Listener.told l.seat.listener) (around (g.A.Attestor.calls l.seat.attestor) (g.A.Attestor.faults l.seat.attestor) (g.S.Signer.calls l.seat.signer) (g.S.Signer.faults l.seat.signer) (g.C.Clock.answers l.seat.clock) p)))
+          (each_of l.fn.links.items (λ c. under (finished_link (g.L.L.Link.told c.link) (g.L.L.Link.failed_receives c.link) (g.L.L.Link.failed_sends c.link) (g.L.L.Link.stalls c.link)) c.served))
+          (each_of l.links.items (λ c. under (finished_link (g.L.L.Link.told c.link) (g.L.L.Link.failed_receives c.link) (g.L.L.Link.failed_sends c.link) (g.L.L.Link.stalls c.link)) c.served)) [];
+      tends : (p : Passing) → FinishesTending g.S.V.Voucher.token
+          (seat_view l.fn.seat.socket l.fn.seat.room (g.L.Listener.faults l.fn.seat.listener) (g.P.Ready.faults l.fn.seat.ready) (seat_world (g.L.Listener.told l.fn.seat.listener) (around (g.A.Attestor.calls l.fn.seat.attestor) (g.A.Attestor.faults l.fn.seat.attestor) (g.S.Signer.calls l.fn.seat.signer) (g.S.Signer.faults l.fn.seat.signer) (g.C.Clock.answers l.fn.seat.clock) p)))
+          (seat_view l.seat.socket l.seat.room (g.L.Listener.faults l.seat.listener) (g.P.Ready.faults l.seat.ready) (seat_world (g.L.Listener.told l.seat.listener) (around (g.A.Attestor.calls l.seat.attestor) (g.A.Attestor.faults l.seat.attestor) (g.S.Signer.calls l.seat.signer) (g.S.Signer.faults l.seat.signer) (g.C.Clock.answers l.seat.clock) p)))
+          (each_of l.fn.links.items (λ c. under (finished_link (g.L.L.Link.told c.link) (g.L.L.Link.failed_receives c.link) (g.L.L.Link.failed_sends c.link) (g.L.L.Link.stalls c.link)) c.served))
+          (each_of l.links.items (λ c. under (finished_link (g.L.L.Link.told c.link) (g.L.L.Link.failed_receives c.link) (g.L.L.Link.failed_sends c.link) (g.L.L.Link.stalls c.link)) c.served));
+    }
 
 abbrev pub decreases-links : goal.decreases-links
 decreases-links g l = length l.links.items

@@ -1,13 +1,23 @@
+use Rattle.std.specs.Prelude.{IsSome}
 use Rattle.wl_worker.specs.Served.{around}
 use Rattle.wl_worker.specs.Tended.{seat_world}
-use Rattle.wl_worker.specs.Seating.{seat_view, under, finished_link}
+use Rattle.wl_worker.specs.Seating.{KeepsTending, seat_view, under, finished_link}
+use Rattle.wl_worker.specs.declared.step.Step.TheVariants as step
 use Rattle.wl_worker.proofs.Going.{each_of, WentOn}
 use Rattle.wl_worker.proofs.seating.serve_all.Given as goal
 
 -- so far
 abbrev pub invariant-seat : goal.invariant-seat
 invariant-seat g l =
-    WentOn (seat_view l.fn.seat.socket l.fn.seat.room (g.L.Listener.faults l.fn.seat.listener) (g.P.Ready.faults l.fn.seat.ready) (seat_world (g.L.Listener.told l.fn.seat.listener) (around (g.A.Attestor.calls l.fn.seat.attestor) (g.A.Attestor.faults l.fn.seat.attestor) (g.S.Signer.calls l.fn.seat.signer) (g.S.Signer.faults l.fn.seat.signer) (g.C.Clock.answers l.fn.seat.clock) l.fn.pass)))
-    (seat_view l.seat.socket l.seat.room (g.L.Listener.faults l.seat.listener) (g.P.Ready.faults l.seat.ready) (seat_world (g.L.Listener.told l.seat.listener) (around (g.A.Attestor.calls l.seat.attestor) (g.A.Attestor.faults l.seat.attestor) (g.S.Signer.calls l.seat.signer) (g.S.Signer.faults l.seat.signer) (g.C.Clock.answers l.seat.clock) l.pass)))
-    (each_of l.fn.links.items (λ c. under (finished_link (g.L.L.Link.told c.link) (g.L.L.Link.failed_receives c.link) (g.L.L.Link.failed_sends c.link) (g.L.L.Link.stalls c.link)) c.served))
-    (each_of l.links.items (λ c. under (finished_link (g.L.L.Link.told c.link) (g.L.L.Link.failed_receives c.link) (g.L.L.Link.failed_sends c.link) (g.L.L.Link.stalls c.link)) c.served))
+    record {
+      goes : WentOn
+          (seat_view l.fn.seat.socket l.fn.seat.room (g.L.Listener.faults l.fn.seat.listener) (g.P.Ready.faults l.fn.seat.ready) (seat_world (g.L.Listener.told l.fn.seat.listener) (around (g.A.Attestor.calls l.fn.seat.attestor) (g.A.Attestor.faults l.fn.seat.attestor) (g.S.Signer.calls l.fn.seat.signer) (g.S.Signer.faults l.fn.seat.signer) (g.C.Clock.answers l.fn.seat.clock) l.fn.pass)))
+          (seat_view l.seat.socket l.seat.room (g.L.Listener.faults l.seat.listener) (g.P.Ready.faults l.seat.ready) (seat_world (g.L.Listener.told l.seat.listener) (around (g.A.Attestor.calls l.seat.attestor) (g.A.Attestor.faults l.seat.attestor) (g.S.Signer.calls l.seat.signer) (g.S.Signer.faults l.seat.signer) (g.C.Clock.answers l.seat.clock) l.pass)))
+          (each_of l.fn.links.items (λ c. under (finished_link (g.L.L.Link.told c.link) (g.L.L.Link.failed_receives c.link) (g.L.L.Link.failed_sends c.link) (g.L.L.Link.stalls c.link)) c.served))
+          (each_of l.links.items (λ c. under (finished_link (g.L.L.Link.told c.link) (g.L.L.Link.failed_receives c.link) (g.L.L.Link.failed_sends c.link) (g.L.L.Link.stalls c.link)) c.served));
+      tends : KeepsTending ((k : g.row.L-L.Denot) → IsSome (g.L.L.Link.told k)) g.S.V.Voucher.token
+          (seat_view l.fn.seat.socket l.fn.seat.room (g.L.Listener.faults l.fn.seat.listener) (g.P.Ready.faults l.fn.seat.ready) (seat_world (g.L.Listener.told l.fn.seat.listener) (around (g.A.Attestor.calls l.fn.seat.attestor) (g.A.Attestor.faults l.fn.seat.attestor) (g.S.Signer.calls l.fn.seat.signer) (g.S.Signer.faults l.fn.seat.signer) (g.C.Clock.answers l.fn.seat.clock) l.fn.pass)))
+          (seat_view l.seat.socket l.seat.room (g.L.Listener.faults l.seat.listener) (g.P.Ready.faults l.seat.ready) (seat_world (g.L.Listener.told l.seat.listener) (around (g.A.Attestor.calls l.seat.attestor) (g.A.Attestor.faults l.seat.attestor) (g.S.Signer.calls l.seat.signer) (g.S.Signer.faults l.seat.signer) (g.C.Clock.answers l.seat.clock) l.pass)))
+          (each_of l.fn.links.items (λ c. under (finished_link (g.L.L.Link.told c.link) (g.L.L.Link.failed_receives c.link) (g.L.L.Link.failed_sends c.link) (g.L.L.Link.stalls c.link)) c.served))
+          (each_of l.links.items (λ c. under (finished_link (g.L.L.Link.told c.link) (g.L.L.Link.failed_receives c.link) (g.L.L.Link.failed_sends c.link) (g.L.L.Link.stalls c.link)) c.served)) step.On;
+    }

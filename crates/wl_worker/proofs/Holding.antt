@@ -1,0 +1,518 @@
+-- Laws of a seat while it serves.
+use Rattle.std.specs.Prelude.{◌≡◌, ◌⊎◌, ℕ, ◌+◌, ◌≤◌, List, [], ◌∷◌, ◌++◌, length, Option, Some, None, IfSome}
+use mathlib.Core.List.{IsPrefix}
+use Rattle.std.proofs.Common.{arith, refl, sym, ◌∙◌, ap, subst, append_assoc, length-append, ⊎_elim}
+use Rattle.wl_entry.specs.declared.asks.Ask.{Ask}
+use Rattle.wl_entry.specs.declared.signing.Signed.{Signed}
+use Rattle.wl_entry.specs.declared.tokens.JwtToken.{JwtToken}
+use Rattle.wl_snapshot.specs.Snapshots.{Publication}
+use Rattle.wl_publish.specs.Listings.{Passing}
+use Rattle.wl_edge.specs.declared.attestor.AttestorCall.{AttestorCall}
+use Rattle.wl_edge.specs.declared.signer.SignerCall.{SignerCall}
+use Rattle.wl_edge.specs.declared.listener.AcceptKind.{AcceptKind}
+use Rattle.wl_edge.specs.declared.listener.AcceptKind.TheVariants as kind
+use Rattle.wl_edge.specs.Links.{LinkLog}
+use Rattle.wl_edge.specs.Listeners.{ListenerLog, FinishedLink, links_given, with_kind, Finishes}
+use Rattle.wl_worker.specs.Outcomes.{unanswered, unsigned, GainsAll, Ticked, attestor_calls, attestor_call, IsOutcome}
+use Rattle.wl_worker.specs.Owners.{owned_by, items_of, tag, one_apart, tally}
+use Rattle.wl_worker.specs.Numbering.{Numbered, none_apart}
+use Rattle.wl_worker.specs.Rounds.{Round, numbers, answers, outcomes, number_of, AreOutcomes}
+use Rattle.wl_worker.specs.Served.{Around, ServedState, Stands, Began, ReadBy, ReadIn}
+use Rattle.wl_worker.specs.Counts.{RoseBy}
+use Rattle.wl_worker.specs.Tended.{Known, AreJudged, TookAllUnless, TookFully, TookPart, SeatWorld, ListenerGains, SeatGathers, known, Tends}
+use Rattle.wl_worker.specs.Seating.{Under, Runs, Tending}
+use Rattle.wl_worker.specs.declared.seat.SeatEnd.{SeatEnd}
+use Rattle.wl_worker.specs.declared.seat.SeatEnd.TheVariants as seat
+use Rattle.wl_worker.proofs.Gaining.{gains_none, gains_then, ticked_none, ticked_then, rose_none, rose_then, unanswered_append, unsigned_append, in_front, outcome_grows}
+use Rattle.wl_worker.proofs.Reading.{are_longer, prefix_then, prefix_same}
+use Rattle.wl_worker.proofs.Connecting.{answers_added, outcomes_added, outcomes_such}
+use Rattle.wl_worker.proofs.Going.{given_append}
+use Rattle.wl_worker.proofs.Owners.{none_after, items_append, items_tag, split}
+use Rattle.wl_worker.proofs.Numbering as numbering
+
+-- ---- what rounds took from the outside
+
+pub numbers_append : (xs ys : List Round) → numbers (xs ++ ys) ≡ numbers ys ++ numbers xs
+numbers_append [] ys = sym (none_after (numbers ys))
+numbers_append (r ∷ xs) ys = ap (λ (l : List ℕ). l ++ number_of r.shown) (numbers_append xs ys) ∙ append_assoc (numbers ys) (numbers xs) (number_of r.shown)
+
+calls_append : (socket : ℕ) (xs ys : List (Option (List (List ℕ)))) → attestor_calls socket (xs ++ ys) ≡ attestor_calls socket xs ++ attestor_calls socket ys
+calls_append socket [] ys = refl
+calls_append socket (x ∷ xs) ys = ap (λ (l : List AttestorCall). attestor_call socket x ∷ l) (calls_append socket xs ys)
+
+-- ---- what a round adds
+
+-- what a pass gains by no round or one
+pub record Passed (old new : Passing) (added : List Round) : Type 0 where
+  pub mine : new.mine ≡ old.mine ++ numbers added
+  pub seen : IsPrefix old.seen new.seen
+  pub store : new.store ≡ old.store
+
+not_passed : (old new : Passing) → new ≡ old → Passed old new []
+not_passed old new same =
+    record {
+      mine = ap (λ (p : Passing). p.mine) same ∙ sym (none_after old.mine);
+      seen = subst (λ (p : Passing). IsPrefix old.seen p.seen) (sym same) (prefix_same old.seen);
+      store = ap (λ (p : Passing). p.store) same;
+    }
+
+passed_in : (valid : Ask → Signed → Type 0) (shown : Option Publication) (old new : Passing) (r : Round) → r.shown ≡ shown → ReadIn valid shown old new → Passed old new (r ∷ [])
+passed_in valid None old new r is read =
+    let none = not_passed old new read in
+    record { mine = none.mine ∙ ap (λ (s : Option Publication). old.mine ++ number_of s) (sym is); seen = none.seen; store = none.store }
+passed_in valid (Some p) old new r is read =
+    record { mine = read.mine ∙ ap (λ (s : Option Publication). old.mine ++ number_of s) (sym is); seen = read.seen; store = read.store }
+
+pub passed : (valid : Ask → Signed → Type 0) (added : List Round) (old new : Passing) → ReadBy valid added old new → Passed old new added
+passed valid [] old new read = not_passed old new read
+passed valid (r ∷ []) old new read = passed_in valid r.shown old new r refl read.1
+passed valid (r ∷ s ∷ more) old new read = absurd (cc read.0)
+
+-- ---- the listener
+
+-- no link was given or finished
+nothing_gained : (told : Option ListenerLog) → ListenerGains told told [] 0
+nothing_gained None = tt
+nothing_gained (Some log) = (log, refl, record { kinds = []; kinds_are = sym (none_after log.kinds); finished_are = sym (none_after log.finished); count = refl })
+
+-- the listener answered
+answered_on : (old mid new : Option ListenerLog) (finished : List FinishedLink) (n : ℕ) (answer : AcceptKind) → ListenerGains old mid finished n → IfSome mid (λ log. new ≡ Some (with_kind log answer)) → ListenerGains old new finished (n + links_given (answer ∷ []))
+answered_on None mid new finished n answer gained answers = tt
+answered_on (Some before) mid new finished n answer gained answers =
+    let log = gained.0 in
+    let now : new ≡ Some (with_kind log answer) = subst (λ (m : Option ListenerLog). IfSome m (λ l. new ≡ Some (with_kind l answer))) gained.1 answers in (
+      with_kind log answer,
+      now,
+      record {
+        kinds = gained.2.kinds ++ answer ∷ [];
+        kinds_are = ap (λ (k : List AcceptKind). k ++ answer ∷ []) gained.2.kinds_are ∙ append_assoc before.kinds gained.2.kinds (answer ∷ []);
+        finished_are = gained.2.finished_are;
+        count = omega (arith, gained.2.count, given_append gained.2.kinds (answer ∷ []));
+      },
+    )
+
+-- it answered, and gave no link
+pub silent_on : (old mid new : Option ListenerLog) (answer : AcceptKind) → links_given (answer ∷ []) ≡ 0 → IfSome mid (λ log. new ≡ Some (with_kind log answer)) → (finished : List FinishedLink) (n : ℕ) → ListenerGains old mid finished n → ListenerGains old new finished n
+silent_on old mid new answer none answers finished n gained =
+    let same : n + links_given (answer ∷ []) ≡ n = omega (arith, none) in
+    subst (λ (m : ℕ). ListenerGains old new finished m) same (answered_on old mid new finished n answer gained answers)
+
+-- its accept failed, which need not be told
+pub failed_on : (old mid new : Option ListenerLog) (full : Type 0) → IfSome mid (λ log. (new ≡ Some (with_kind log kind.Failed)) ⊎ (full × (new ≡ Some log))) → (finished : List FinishedLink) (n : ℕ) → ListenerGains old mid finished n → ListenerGains old new finished n
+failed_on None mid new full answers finished n gained = tt
+failed_on (Some before) mid new full answers finished n gained =
+    let log = gained.0 in
+    let now = subst (λ (m : Option ListenerLog). IfSome m (λ l. (new ≡ Some (with_kind l kind.Failed)) ⊎ (full × (new ≡ Some l)))) gained.1 answers in
+    ⊎_elim
+    (λ (told : new ≡ Some (with_kind log kind.Failed)). silent_on (Some before) (Some log) new kind.Failed refl told finished n (log, refl, gained.2))
+    (λ (kept : full × (new ≡ Some log)). (log, kept.1, gained.2))
+    now
+
+-- a link is finished
+finished_on : (old mid new : Option ListenerLog) (finished : List FinishedLink) (n : ℕ) (link : FinishedLink) → ListenerGains old mid finished (n + 1) → Finishes mid new link → ListenerGains old new (finished ++ link ∷ []) n
+finished_on None mid new finished n link gained ends = tt
+finished_on (Some before) mid new finished n link gained ends =
+    let log = gained.0 in
+    let now = subst (λ (m : Option ListenerLog). Finishes m new link) gained.1 ends in (
+      record log { finished = log.finished ++ link ∷ [] },
+      now,
+      record {
+        kinds = gained.2.kinds;
+        kinds_are = gained.2.kinds_are;
+        finished_are = ap (λ (f : List FinishedLink). f ++ link ∷ []) gained.2.finished_are ∙ append_assoc before.finished finished (link ∷ []);
+        count = omega (arith, gained.2.count, length-append finished (link ∷ []));
+      },
+    )
+
+-- ---- what is gathered
+
+pub gathers_none : (socket : ℕ) (w : SeatWorld) → SeatGathers socket w w [] [] [] [] 0
+gathers_none socket w =
+    record {
+      listener = nothing_gained w.listener;
+      attested = gains_none w.around.attested;
+      attestor_fails = rose_none w.around.attestor_faults;
+      mine = sym (none_after w.around.pass.mine);
+      seen = prefix_same w.around.pass.seen;
+      store = refl;
+      signs = gains_none w.around.signed;
+      clock = ticked_none w.around.times;
+      signer_fails = rose_none w.around.signer_faults;
+    }
+
+-- what a round adds to a seat
+pub record Adds (socket : ℕ) (old new : SeatWorld) (added : List Round) (signed : List SignerCall) (times : List ℕ) : Type 0 where
+  pub listener : new.listener ≡ old.listener
+  pub attested : GainsAll old.around.attested new.around.attested (attestor_calls socket (answers added))
+  pub attestor_fails : RoseBy (unanswered (answers added)) old.around.attestor_faults new.around.attestor_faults
+  pub pass : Passed old.around.pass new.around.pass added
+  pub signs : GainsAll old.around.signed new.around.signed signed
+  pub clock : Ticked old.around.times new.around.times times
+  pub signer_fails : RoseBy (unsigned (outcomes added)) old.around.signer_faults new.around.signer_faults
+
+pub gathers_round : (socket : ℕ) (old mid new : SeatWorld) (rounds added : List Round) (signed more : List SignerCall) (times later : List ℕ) (finished : List FinishedLink) (n : ℕ) →
+    SeatGathers socket old mid rounds signed times finished n → Adds socket mid new added more later → SeatGathers socket old new (added ++ rounds) (signed ++ more) (times ++ later) finished n
+gathers_round socket old mid new rounds added signed more times later finished n gathers adds =
+    let fails = rose_then old.around.attestor_faults mid.around.attestor_faults new.around.attestor_faults (unanswered (answers rounds)) (unanswered (answers added)) gathers.attestor_fails adds.attestor_fails in
+    let sign_fails = rose_then old.around.signer_faults mid.around.signer_faults new.around.signer_faults (unsigned (outcomes rounds)) (unsigned (outcomes added)) gathers.signer_fails adds.signer_fails in
+    record {
+      listener = subst (λ (l : Option ListenerLog). ListenerGains old.listener l finished n) (sym adds.listener) gathers.listener;
+      attested =
+          subst (λ (calls : List AttestorCall). GainsAll old.around.attested new.around.attested calls)
+          (sym (calls_append socket (answers rounds) (answers added)) ∙ ap (λ (l : List (Option (List (List ℕ)))). attestor_calls socket l) (sym (answers_added added rounds)))
+          (gains_then old.around.attested mid.around.attested new.around.attested (attestor_calls socket (answers rounds)) (attestor_calls socket (answers added)) gathers.attested adds.attested);
+      attestor_fails = subst (λ (m : ℕ). RoseBy m old.around.attestor_faults new.around.attestor_faults) (sym (unanswered_append (answers rounds) (answers added)) ∙ ap unanswered (sym (answers_added added rounds))) fails;
+      mine =
+          adds.pass.mine
+          ∙ ap (λ (l : List ℕ). l ++ numbers added) gathers.mine
+          ∙ append_assoc old.around.pass.mine (numbers rounds) (numbers added)
+          ∙ ap (λ (l : List ℕ). old.around.pass.mine ++ l) (sym (numbers_append added rounds));
+      seen = prefix_then old.around.pass.seen mid.around.pass.seen new.around.pass.seen gathers.seen adds.pass.seen;
+      store = adds.pass.store ∙ gathers.store;
+      signs = gains_then old.around.signed mid.around.signed new.around.signed signed more gathers.signs adds.signs;
+      clock = ticked_then old.around.times mid.around.times new.around.times times later gathers.clock adds.clock;
+      signer_fails = subst (λ (m : ℕ). RoseBy m old.around.signer_faults new.around.signer_faults) (sym (unsigned_append (outcomes rounds) (outcomes added)) ∙ ap unsigned (sym (outcomes_added added rounds))) sign_fails;
+    }
+
+-- only the listener changed
+pub gathers_listener : (socket : ℕ) (old mid new : SeatWorld) (rounds : List Round) (signed : List SignerCall) (times : List ℕ) (finished finished_then : List FinishedLink) (n m : ℕ) →
+    SeatGathers socket old mid rounds signed times finished n → new.around ≡ mid.around → ListenerGains old.listener new.listener finished_then m → SeatGathers socket old new rounds signed times finished_then m
+gathers_listener socket old mid new rounds signed times finished finished_then n m gathers same gained =
+    record {
+      listener = gained;
+      attested = subst (λ (a : Around). GainsAll old.around.attested a.attested (attestor_calls socket (answers rounds))) (sym same) gathers.attested;
+      attestor_fails = subst (λ (a : Around). RoseBy (unanswered (answers rounds)) old.around.attestor_faults a.attestor_faults) (sym same) gathers.attestor_fails;
+      mine = ap (λ (a : Around). a.pass.mine) same ∙ gathers.mine;
+      seen = subst (λ (a : Around). IsPrefix old.around.pass.seen a.pass.seen) (sym same) gathers.seen;
+      store = ap (λ (a : Around). a.pass.store) same ∙ gathers.store;
+      signs = subst (λ (a : Around). GainsAll old.around.signed a.signed signed) (sym same) gathers.signs;
+      clock = subst (λ (a : Around). Ticked old.around.times a.times times) (sym same) gathers.clock;
+      signer_fails = subst (λ (a : Around). RoseBy (unsigned (outcomes rounds)) old.around.signer_faults a.signer_faults) (sym same) gathers.signer_fails;
+    }
+
+-- ---- what is known stays known
+
+pub outcomes_longer : (vouched : Ask → List (List ℕ) → JwtToken → Type 0) (signed more : List SignerCall) (times later : List ℕ) (past : List Round) → AreOutcomes (IsOutcome vouched signed times) past → AreOutcomes (IsOutcome vouched (signed ++ more) (times ++ later)) past
+outcomes_longer vouched signed more times later past are =
+    outcomes_such (IsOutcome vouched signed times) (IsOutcome vouched (signed ++ more) (times ++ later)) (outcome_grows vouched signed (signed ++ more) times (times ++ later) (λ x. in_front x signed more) (λ n. in_front n times later)) past are
+
+began_longer : (log : LinkLog) (seen list : List Publication) (past : List Round) → IsPrefix seen list → Began log seen past → Began log list past
+began_longer log seen list past pre began = record { pieces = began.pieces; part = began.part; rounds = began.rounds; known = are_longer seen list past pre began.known; rising = began.rising }
+
+stands_longer : (log : LinkLog) (s : ServedState) (seen list : List Publication) (past : List Round) → IsPrefix seen list → Stands log s seen past → Stands log s list past
+stands_longer log s seen list past pre stands = record { pieces = stands.pieces; session = stands.session; talked = stands.talked; whole = stands.whole; known = are_longer seen list past pre stands.known; rising = stands.rising }
+
+module _ (vouched : Ask → List (List ℕ) → JwtToken → Type 0) (mid new : SeatWorld) (signed more : List SignerCall) (times later : List ℕ) (pre : IsPrefix mid.around.pass.seen new.around.pass.seen) where
+  runs_at : (told : Option LinkLog) (served : ServedState) (past : List Round) → IfSome told (λ log. Stands log served mid.around.pass.seen past × AreJudged (known vouched mid signed times) past) → IfSome told (λ log. Stands log served new.around.pass.seen past × AreJudged (known vouched new (signed ++ more) (times ++ later)) past)
+  runs_at None served past is = tt
+  runs_at (Some log) served past is = (stands_longer log served mid.around.pass.seen new.around.pass.seen past pre is.0, outcomes_longer vouched signed more times later past is.1)
+
+  runs_longer : (u : Under) (past : List Round) → Runs (known vouched mid signed times) u past → Runs (known vouched new (signed ++ more) (times ++ later)) u past
+  runs_longer u past is = runs_at u.link.log u.served past is
+
+  part_at : (told : Option LinkLog) (past : List Round) → IfSome told (λ log. Began log mid.around.pass.seen past × AreJudged (known vouched mid signed times) past) → IfSome told (λ log. Began log new.around.pass.seen past × AreJudged (known vouched new (signed ++ more) (times ++ later)) past)
+  part_at None past is = tt
+  part_at (Some log) past is = (began_longer log mid.around.pass.seen new.around.pass.seen past pre is.0, outcomes_longer vouched signed more times later past is.1)
+
+  part_longer : (f : FinishedLink) (past : List Round) → TookPart (known vouched mid signed times) f past → TookPart (known vouched new (signed ++ more) (times ++ later)) f past
+  part_longer f past is = part_at f.log past is
+
+  fully_at : (told : Option LinkLog) (receives sends : ℕ) (past : List Round) → IfSome told (λ log. Began log mid.around.pass.seen past × AreJudged (known vouched mid signed times) past × TookAllUnless receives sends log past) → IfSome told (λ log. Began log new.around.pass.seen past × AreJudged (known vouched new (signed ++ more) (times ++ later)) past × TookAllUnless receives sends log past)
+  fully_at None receives sends past is = tt
+  fully_at (Some log) receives sends past is = (began_longer log mid.around.pass.seen new.around.pass.seen past pre is.0, outcomes_longer vouched signed more times later past is.1, is.2)
+
+  fully_longer : (f : FinishedLink) (past : List Round) → TookFully (known vouched mid signed times) f past → TookFully (known vouched new (signed ++ more) (times ++ later)) f past
+  fully_longer f past is = fully_at f.log f.failed_receives f.failed_sends past is
+
+-- ---- what was finished
+
+no_items : {A : Type 0} (xs : List A) → length xs ≡ 0 → xs ≡ []
+no_items [] none = refl
+no_items (x ∷ xs) none = absurd (omega (arith, none))
+
+finished_full : (fulls lates : List (ℕ × FinishedLink)) (o : ℕ) (f : FinishedLink) → lates ≡ [] → items_of (fulls ++ (o, f) ∷ []) ++ items_of lates ≡ (items_of fulls ++ items_of lates) ++ f ∷ []
+finished_full fulls lates o f none =
+    subst (λ (l : List (ℕ × FinishedLink)). items_of (fulls ++ (o, f) ∷ []) ++ items_of l ≡ (items_of fulls ++ items_of l) ++ f ∷ []) (sym none)
+    (none_after (items_of (fulls ++ (o, f) ∷ [])) ∙ items_append fulls ((o, f) ∷ []) ∙ ap (λ (l : List FinishedLink). l ++ f ∷ []) (sym (none_after (items_of fulls))))
+
+finished_late : (fulls lates : List (ℕ × FinishedLink)) (o : ℕ) (f : FinishedLink) → items_of fulls ++ items_of (lates ++ (o, f) ∷ []) ≡ (items_of fulls ++ items_of lates) ++ f ∷ []
+finished_late fulls lates o f = ap (λ (l : List FinishedLink). items_of fulls ++ l) (items_append lates ((o, f) ∷ [])) ∙ sym (append_assoc (items_of fulls) (items_of lates) (f ∷ []))
+
+-- what is known of these things of the outside
+abbrev knowing : (Ask → List (List ℕ) → JwtToken → Type 0) → Around → List SignerCall → List ℕ → Known
+knowing vouched a signed times = record { seen = a.pass.seen; vouched = vouched; signed = signed; times = times }
+
+-- ---- the steps of a seat
+
+-- A seat while it serves, where one link is held apart, which stood between these; P holds of its rounds.
+pub record Beside (P : Known → List Round → Type 0) (vouched : Ask → List (List ℕ) → JwtToken → Type 0) (socket : ℕ) (old new : SeatWorld) (broken : ℕ) (before after : List Under) : Type 0 where
+  pub front : List (ℕ × Under)
+  pub back : List (ℕ × Under)
+  pub owner : ℕ
+  pub fulls : List (ℕ × FinishedLink)
+  pub lates : List (ℕ × FinishedLink)
+  pub rounds : List (ℕ × Round)
+  pub next : ℕ
+  pub signed : List SignerCall
+  pub times : List ℕ
+  pub before_are : items_of front ≡ before
+  pub after_are : items_of back ≡ after
+  pub count : length lates ≡ broken
+  pub gathers : SeatGathers socket old new (items_of rounds) signed times (items_of fulls ++ items_of lates) (length before + length after + 1)
+  pub numbered : Numbered (Runs (known vouched new signed times)) (TookFully (known vouched new signed times)) (TookPart (known vouched new signed times)) (one_apart owner) (front ++ back) fulls lates rounds next
+  pub one : P (known vouched new signed times) (owned_by owner rounds)
+
+-- before any link came
+pub tending_none : (vouched : Ask → List (List ℕ) → JwtToken → Type 0) (socket : ℕ) (w : SeatWorld) → Tending vouched socket w w 0 []
+tending_none vouched socket w =
+    record {
+      running = [];
+      fulls = [];
+      lates = [];
+      rounds = [];
+      next = 0;
+      signed = [];
+      times = [];
+      links_are = refl;
+      count = refl;
+      gathers = gathers_none socket w;
+      numbered = numbering.none_numbered (Runs (known vouched w [] [])) (TookFully (known vouched w [] [])) (TookPart (known vouched w [] []));
+    }
+
+-- the listener gave no link, and none was finished
+pub tending_listened : (vouched : Ask → List (List ℕ) → JwtToken → Type 0) (socket : ℕ) (old mid new : SeatWorld) (broken : ℕ) (links : List Under) →
+    Tending vouched socket old mid broken links → new.around ≡ mid.around → ((finished : List FinishedLink) (n : ℕ) → ListenerGains old.listener mid.listener finished n → ListenerGains old.listener new.listener finished n) → Tending vouched socket old new broken links
+tending_listened vouched socket old mid new broken links held same keeps =
+    let all = items_of held.fulls ++ items_of held.lates in
+    record {
+      running = held.running;
+      fulls = held.fulls;
+      lates = held.lates;
+      rounds = held.rounds;
+      next = held.next;
+      signed = held.signed;
+      times = held.times;
+      links_are = held.links_are;
+      count = held.count;
+      gathers = gathers_listener socket old mid new (items_of held.rounds) held.signed held.times all all (length links) (length links) held.gathers same (keeps all (length links) held.gathers.listener);
+      numbered = subst (λ (a : Around). Numbered (Runs (knowing vouched a held.signed held.times)) (TookFully (knowing vouched a held.signed held.times)) (TookPart (knowing vouched a held.signed held.times)) none_apart held.running held.fulls held.lates held.rounds held.next) (sym same) held.numbered;
+    }
+
+-- no round is a newcomer's
+abbrev pub HasNone : Known → List Round → Type 0
+HasNone k past = past ≡ []
+
+-- a link comes
+pub tending_comes : (vouched : Ask → List (List ℕ) → JwtToken → Type 0) (socket : ℕ) (old mid new : SeatWorld) (broken : ℕ) (links : List Under) →
+    Tending vouched socket old mid broken links → new.around ≡ mid.around → IfSome mid.listener (λ log. new.listener ≡ Some (with_kind log kind.Link)) → Beside HasNone vouched socket old new broken links []
+tending_comes vouched socket old mid new broken links held same answers =
+    let all = items_of held.fulls ++ items_of held.lates in
+    let gained = answered_on old.listener mid.listener new.listener all (length links) kind.Link held.gathers.listener answers in
+    let one_link : links_given (kind.Link ∷ []) ≡ 1 = refl in
+    let one_open : length links + links_given (kind.Link ∷ []) ≡ length links + 0 + 1 = omega (arith, one_link) in
+    let one = numbering.comes (Runs (known vouched mid held.signed held.times)) (TookFully (known vouched mid held.signed held.times)) (TookPart (known vouched mid held.signed held.times)) held.running held.fulls held.lates held.rounds held.next held.numbered in
+    record {
+      front = held.running;
+      back = [];
+      owner = held.next;
+      fulls = held.fulls;
+      lates = held.lates;
+      rounds = held.rounds;
+      next = held.next + 1;
+      signed = held.signed;
+      times = held.times;
+      before_are = held.links_are;
+      after_are = refl;
+      count = held.count;
+      gathers = gathers_listener socket old mid new (items_of held.rounds) held.signed held.times all all (length links) (length links + 0 + 1) held.gathers same (subst (λ (n : ℕ). ListenerGains old.listener new.listener all n) one_open gained);
+      numbered =
+          subst (λ (running : List (ℕ × Under)). Numbered (Runs (known vouched new held.signed held.times)) (TookFully (known vouched new held.signed held.times)) (TookPart (known vouched new held.signed held.times)) (one_apart held.next) running held.fulls held.lates held.rounds (held.next + 1)) (sym (none_after held.running))
+          (subst (λ (a : Around). Numbered (Runs (knowing vouched a held.signed held.times)) (TookFully (knowing vouched a held.signed held.times)) (TookPart (knowing vouched a held.signed held.times)) (one_apart held.next) held.running held.fulls held.lates held.rounds (held.next + 1)) (sym same) one.0);
+      one = one.1;
+    }
+
+-- a link is taken out
+pub tending_taken : (vouched : Ask → List (List ℕ) → JwtToken → Type 0) (socket : ℕ) (old new : SeatWorld) (broken : ℕ) (before after : List Under) (u : Under) →
+    Tending vouched socket old new broken (before ++ u ∷ after) → Beside (λ k past. Runs k u past) vouched socket old new broken before after
+tending_taken vouched socket old new broken before after u held =
+    let at = split u before after held.running held.links_are in
+    let stood = subst (λ (running : List (ℕ × Under)). Numbered (Runs (known vouched new held.signed held.times)) (TookFully (known vouched new held.signed held.times)) (TookPart (known vouched new held.signed held.times)) none_apart running held.fulls held.lates held.rounds held.next) at.is held.numbered in
+    let count : length (before ++ u ∷ after) ≡ length before + length after + 1 = omega (arith, length-append before (u ∷ after)) in
+    let out = numbering.taken (Runs (known vouched new held.signed held.times)) (TookFully (known vouched new held.signed held.times)) (TookPart (known vouched new held.signed held.times)) at.front at.back at.owner u held.fulls held.lates held.rounds held.next stood in
+    record {
+      front = at.front;
+      back = at.back;
+      owner = at.owner;
+      fulls = held.fulls;
+      lates = held.lates;
+      rounds = held.rounds;
+      next = held.next;
+      signed = held.signed;
+      times = held.times;
+      before_are = at.front_is;
+      after_are = at.back_is;
+      count = held.count;
+      gathers = subst (λ (n : ℕ). SeatGathers socket old new (items_of held.rounds) held.signed held.times (items_of held.fulls ++ items_of held.lates) n) count held.gathers;
+      numbered = out.0;
+      one = out.1;
+    }
+
+-- it is put back where it stood
+pub tending_put : (vouched : Ask → List (List ℕ) → JwtToken → Type 0) (socket : ℕ) (old new : SeatWorld) (broken : ℕ) (before after : List Under) (u : Under) →
+    Beside (λ k past. Runs k u past) vouched socket old new broken before after → Tending vouched socket old new broken (before ++ u ∷ after)
+tending_put vouched socket old new broken before after u beside =
+    let count : length before + length after + 1 ≡ length (before ++ u ∷ after) = omega (arith, length-append before (u ∷ after)) in
+    record {
+      running = beside.front ++ (beside.owner, u) ∷ beside.back;
+      fulls = beside.fulls;
+      lates = beside.lates;
+      rounds = beside.rounds;
+      next = beside.next;
+      signed = beside.signed;
+      times = beside.times;
+      links_are = items_append beside.front ((beside.owner, u) ∷ beside.back) ∙ (λ i. beside.before_are i ++ u ∷ beside.after_are i);
+      count = beside.count;
+      gathers = subst (λ (n : ℕ). SeatGathers socket old new (items_of beside.rounds) beside.signed beside.times (items_of beside.fulls ++ items_of beside.lates) n) count beside.gathers;
+      numbered = numbering.put (Runs (known vouched new beside.signed beside.times)) (TookFully (known vouched new beside.signed beside.times)) (TookPart (known vouched new beside.signed beside.times)) beside.front beside.back beside.owner u beside.fulls beside.lates beside.rounds beside.next beside.numbered beside.one;
+    }
+
+-- to the end of the queue
+pub beside_aside : (P : Known → List Round → Type 0) (vouched : Ask → List (List ℕ) → JwtToken → Type 0) (socket : ℕ) (old new : SeatWorld) (broken : ℕ) (links : List Under) →
+    Beside P vouched socket old new broken [] links → Beside P vouched socket old new broken links []
+beside_aside P vouched socket old new broken links beside =
+    let count : 0 + length links + 1 ≡ length links + 0 + 1 = omega arith in
+    record {
+      front = beside.front ++ beside.back;
+      back = [];
+      owner = beside.owner;
+      fulls = beside.fulls;
+      lates = beside.lates;
+      rounds = beside.rounds;
+      next = beside.next;
+      signed = beside.signed;
+      times = beside.times;
+      before_are = items_append beside.front beside.back ∙ (λ i. beside.before_are i ++ beside.after_are i);
+      after_are = refl;
+      count = beside.count;
+      gathers = subst (λ (n : ℕ). SeatGathers socket old new (items_of beside.rounds) beside.signed beside.times (items_of beside.fulls ++ items_of beside.lates) n) count beside.gathers;
+      numbered = subst (λ (running : List (ℕ × Under)). Numbered (Runs (known vouched new beside.signed beside.times)) (TookFully (known vouched new beside.signed beside.times)) (TookPart (known vouched new beside.signed beside.times)) (one_apart beside.owner) running beside.fulls beside.lates beside.rounds beside.next) (sym (none_after (beside.front ++ beside.back))) beside.numbered;
+      one = beside.one;
+    }
+
+pub beside_weaken : (P Q : Known → List Round → Type 0) (vouched : Ask → List (List ℕ) → JwtToken → Type 0) (socket : ℕ) (old new : SeatWorld) (broken : ℕ) (before after : List Under) →
+    ((signed : List SignerCall) (times : List ℕ) (past : List Round) → P (known vouched new signed times) past → Q (known vouched new signed times) past) → Beside P vouched socket old new broken before after → Beside Q vouched socket old new broken before after
+beside_weaken P Q vouched socket old new broken before after follows beside =
+    record {
+      front = beside.front;
+      back = beside.back;
+      owner = beside.owner;
+      fulls = beside.fulls;
+      lates = beside.lates;
+      rounds = beside.rounds;
+      next = beside.next;
+      signed = beside.signed;
+      times = beside.times;
+      before_are = beside.before_are;
+      after_are = beside.after_are;
+      count = beside.count;
+      gathers = beside.gathers;
+      numbered = beside.numbered;
+      one = follows beside.signed beside.times (owned_by beside.owner beside.rounds) beside.one;
+    }
+
+-- the link that is held apart gains a round
+pub beside_gains : (P Q : Known → List Round → Type 0) (vouched : Ask → List (List ℕ) → JwtToken → Type 0) (socket : ℕ) (old mid new : SeatWorld) (broken : ℕ) (before after : List Under) (added : List Round) (more : List SignerCall) (later : List ℕ) →
+    Adds socket mid new added more later →
+    ((signed : List SignerCall) (times : List ℕ) (past : List Round) → P (known vouched mid signed times) past → Q (known vouched new (signed ++ more) (times ++ later)) (added ++ past)) →
+    Beside P vouched socket old mid broken before after → Beside Q vouched socket old new broken before after
+beside_gains P Q vouched socket old mid new broken before after added more later adds follows beside =
+    let signed = beside.signed in
+    let times = beside.times in
+    let known_then : Known = known vouched new (signed ++ more) (times ++ later) in
+    let wider = numbering.weaken (Runs (known vouched mid signed times)) (Runs known_then) (TookFully (known vouched mid signed times)) (TookFully known_then) (TookPart (known vouched mid signed times)) (TookPart known_then) (one_apart beside.owner) (beside.front ++ beside.back) beside.fulls beside.lates beside.rounds beside.next (runs_longer vouched mid new signed more times later adds.pass.seen) (fully_longer vouched mid new signed more times later adds.pass.seen) (part_longer vouched mid new signed more times later adds.pass.seen) beside.numbered in
+    record {
+      front = beside.front;
+      back = beside.back;
+      owner = beside.owner;
+      fulls = beside.fulls;
+      lates = beside.lates;
+      rounds = tag beside.owner added ++ beside.rounds;
+      next = beside.next;
+      signed = signed ++ more;
+      times = times ++ later;
+      before_are = beside.before_are;
+      after_are = beside.after_are;
+      count = beside.count;
+      gathers =
+          subst (λ (all : List Round). SeatGathers socket old new all (signed ++ more) (times ++ later) (items_of beside.fulls ++ items_of beside.lates) (length before + length after + 1))
+          (sym (items_append (tag beside.owner added) beside.rounds ∙ ap (λ (l : List Round). l ++ items_of beside.rounds) (items_tag beside.owner added)))
+          (gathers_round socket old mid new (items_of beside.rounds) added signed more times later (items_of beside.fulls ++ items_of beside.lates) (length before + length after + 1) beside.gathers adds);
+      numbered = numbering.gains (Runs known_then) (TookFully known_then) (TookPart known_then) (beside.front ++ beside.back) beside.fulls beside.lates beside.rounds beside.next beside.owner added wider;
+      one = subst (λ (past : List Round). Q known_then past) (sym (numbering.own_front beside.owner added beside.rounds)) (follows signed times (owned_by beside.owner beside.rounds) beside.one);
+    }
+
+-- it was over, and is finished
+pub beside_finishes : (vouched : Ask → List (List ℕ) → JwtToken → Type 0) (socket : ℕ) (old mid new : SeatWorld) (before after : List Under) (f : FinishedLink) →
+    Beside (λ k past. TookFully k f past) vouched socket old mid 0 before after → new.around ≡ mid.around → Finishes mid.listener new.listener f → Tending vouched socket old new 0 (before ++ after)
+beside_finishes vouched socket old mid new before after f beside same ends =
+    let none : beside.lates ≡ [] = no_items beside.lates beside.count in
+    let gained = finished_on old.listener mid.listener new.listener (items_of beside.fulls ++ items_of beside.lates) (length before + length after) f beside.gathers.listener ends in
+    let listed = finished_full beside.fulls beside.lates beside.owner f none in
+    record {
+      running = beside.front ++ beside.back;
+      fulls = beside.fulls ++ (beside.owner, f) ∷ [];
+      lates = beside.lates;
+      rounds = beside.rounds;
+      next = beside.next;
+      signed = beside.signed;
+      times = beside.times;
+      links_are = items_append beside.front beside.back ∙ (λ i. beside.before_are i ++ beside.after_are i);
+      count = beside.count;
+      gathers = gathers_listener socket old mid new (items_of beside.rounds) beside.signed beside.times (items_of beside.fulls ++ items_of beside.lates) (items_of (beside.fulls ++ (beside.owner, f) ∷ []) ++ items_of beside.lates) (length before + length after + 1) (length (before ++ after)) beside.gathers same
+          (subst (λ (n : ℕ). ListenerGains old.listener new.listener (items_of (beside.fulls ++ (beside.owner, f) ∷ []) ++ items_of beside.lates) n) (sym (length-append before after)) (subst (λ (l : List FinishedLink). ListenerGains old.listener new.listener l (length before + length after)) (sym listed) gained));
+      numbered = subst (λ (a : Around). Numbered (Runs (knowing vouched a beside.signed beside.times)) (TookFully (knowing vouched a beside.signed beside.times)) (TookPart (knowing vouched a beside.signed beside.times)) none_apart (beside.front ++ beside.back) (beside.fulls ++ (beside.owner, f) ∷ []) beside.lates beside.rounds beside.next) (sym same) (numbering.finishes (Runs (known vouched mid beside.signed beside.times)) (TookFully (known vouched mid beside.signed beside.times)) (TookPart (known vouched mid beside.signed beside.times)) (beside.front ++ beside.back) beside.fulls beside.lates beside.rounds beside.next beside.owner f beside.numbered beside.one);
+    }
+
+-- it is finished as it stands
+pub beside_breaks : (vouched : Ask → List (List ℕ) → JwtToken → Type 0) (socket : ℕ) (old mid new : SeatWorld) (broken : ℕ) (before after : List Under) (f : FinishedLink) →
+    Beside (λ k past. TookPart k f past) vouched socket old mid broken before after → new.around ≡ mid.around → Finishes mid.listener new.listener f → Tending vouched socket old new (broken + 1) (before ++ after)
+beside_breaks vouched socket old mid new broken before after f beside same ends =
+    let gained = finished_on old.listener mid.listener new.listener (items_of beside.fulls ++ items_of beside.lates) (length before + length after) f beside.gathers.listener ends in
+    let listed = finished_late beside.fulls beside.lates beside.owner f in
+    record {
+      running = beside.front ++ beside.back;
+      fulls = beside.fulls;
+      lates = beside.lates ++ (beside.owner, f) ∷ [];
+      rounds = beside.rounds;
+      next = beside.next;
+      signed = beside.signed;
+      times = beside.times;
+      links_are = items_append beside.front beside.back ∙ (λ i. beside.before_are i ++ beside.after_are i);
+      count = length-append beside.lates ((beside.owner, f) ∷ []) ∙ ap (λ n. n + 1) beside.count;
+      gathers = gathers_listener socket old mid new (items_of beside.rounds) beside.signed beside.times (items_of beside.fulls ++ items_of beside.lates) (items_of beside.fulls ++ items_of (beside.lates ++ (beside.owner, f) ∷ [])) (length before + length after + 1) (length (before ++ after)) beside.gathers same
+          (subst (λ (n : ℕ). ListenerGains old.listener new.listener (items_of beside.fulls ++ items_of (beside.lates ++ (beside.owner, f) ∷ [])) n) (sym (length-append before after)) (subst (λ (l : List FinishedLink). ListenerGains old.listener new.listener l (length before + length after)) (sym listed) gained));
+      numbered = subst (λ (a : Around). Numbered (Runs (knowing vouched a beside.signed beside.times)) (TookFully (knowing vouched a beside.signed beside.times)) (TookPart (knowing vouched a beside.signed beside.times)) none_apart (beside.front ++ beside.back) beside.fulls (beside.lates ++ (beside.owner, f) ∷ []) beside.rounds beside.next) (sym same) (numbering.breaks (Runs (known vouched mid beside.signed beside.times)) (TookFully (known vouched mid beside.signed beside.times)) (TookPart (known vouched mid beside.signed beside.times)) (beside.front ++ beside.back) beside.fulls beside.lates beside.rounds beside.next beside.owner f beside.numbered beside.one);
+    }
+
+-- where there are none, none has a number
+no_tally : {A : Type 0} (k : ℕ) (xs : List (ℕ × A)) → items_of xs ≡ [] → tally k xs ≡ 0
+no_tally k [] none = refl
+no_tally k (x ∷ xs) none = absurd (cc none)
+
+-- no link is under way any more
+pub tending_tends : (vouched : Ask → List (List ℕ) → JwtToken → Type 0) (socket room : ℕ) (end : SeatEnd) (old new : SeatWorld) (broken : ℕ) → Tending vouched socket old new broken [] → broken ≤ room → (end ≡ seat.End → broken ≡ 0) → Tends vouched socket room end old new
+tending_tends vouched socket room end old new broken held few ended =
+    record {
+      fulls = held.fulls;
+      lates = held.lates;
+      rounds = held.rounds;
+      signed = held.signed;
+      times = held.times;
+      gathers = held.gathers;
+      once = λ k. omega (arith, held.numbered.once k);
+      owners = λ k none. held.numbered.owners k (omega (arith, none, no_tally k held.running held.links_are));
+      each_full = held.numbered.each_full;
+      each_late = held.numbered.each_late;
+      few = omega (arith, held.count, few);
+      none = λ is. no_items held.lates (held.count ∙ ended is);
+    }
