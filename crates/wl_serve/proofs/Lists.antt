@@ -3,6 +3,8 @@ use Rattle.std.specs.Prelude.{◌≡◌, ℕ, suc, ◌<◌, List, [], ◌∷◌,
 use Rattle.std.specs.List.{All, AllByRecursion, AllZip}
 use Rattle.std.proofs.Common.{arith, refl, sym, ap, subst}
 use Rattle.std.proofs.lemmas.List.Elements.{All-from_recursion}
+use Rattle.wl_entry.specs.declared.asks.Ask.{Ask}
+use Rattle.wl_entry.specs.declared.tokens.JwtToken.{JwtToken}
 use Rattle.wl_snapshot.specs.Snapshots.{Publication}
 use Rattle.wl_publish.specs.Listings.{Listing, Passing, passing}
 use Rattle.wl_serve.specs.Views.{SeatView}
@@ -47,15 +49,15 @@ pub all_ready : (pass : Passing) (vs : List SeatView) → AllByRecursion IsIdle 
 all_ready pass [] idle = tt
 all_ready pass (v ∷ vs) idle = (record { pass = refl; is_open = idle.0.is_open }, all_ready pass vs idle.1)
 
-all_from : (first : Publication) (pass : Passing) → pass.seen ≡ first ∷ [] → pass.mine ≡ [] → (vs ws : List SeatView) → AllZip Served (map (with_pass pass) vs) ws → AllZip (ServedFrom first) vs ws
-all_from first pass seen mine [] [] served = tt
-all_from first pass seen mine [] (w ∷ ws) served = absurd served
-all_from first pass seen mine (v ∷ vs) [] served = absurd served
-all_from first pass seen mine (v ∷ vs) (w ∷ ws) served = (record { pass = pass; seen = seen; mine = mine; served = served.0 }, all_from first pass seen mine vs ws served.1)
+all_from : (vouched : Ask → List (List ℕ) → JwtToken → Type 0) (links : Type 0) (first : Publication) (pass : Passing) → pass.seen ≡ first ∷ [] → pass.mine ≡ [] → (vs ws : List SeatView) → AllZip (Served vouched links) (map (with_pass pass) vs) ws → AllZip (ServedFrom vouched links first) vs ws
+all_from vouched links first pass seen mine [] [] served = tt
+all_from vouched links first pass seen mine [] (w ∷ ws) served = absurd served
+all_from vouched links first pass seen mine (v ∷ vs) [] served = absurd served
+all_from vouched links first pass seen mine (v ∷ vs) (w ∷ ws) served = (record { pass = pass; seen = seen; mine = mine; served = served.0 }, all_from vouched links first pass seen mine vs ws served.1)
 
 -- the same of seats that were given this pass
-pub all_given : (first : Publication) (pass : Passing) → pass.seen ≡ first ∷ [] → pass.mine ≡ [] → (vs us ws : List SeatView) → us ≡ map (with_pass pass) vs → AllZip Served us ws → AllZip (ServedFrom first) vs ws
-all_given first pass seen mine vs us ws same served = all_from first pass seen mine vs ws (subst (λ (l : List SeatView). AllZip Served l ws) same served)
+pub all_given : (vouched : Ask → List (List ℕ) → JwtToken → Type 0) (links : Type 0) (first : Publication) (pass : Passing) → pass.seen ≡ first ∷ [] → pass.mine ≡ [] → (vs us ws : List SeatView) → us ≡ map (with_pass pass) vs → AllZip (Served vouched links) us ws → AllZip (ServedFrom vouched links first) vs ws
+all_given vouched links first pass seen mine vs us ws same served = all_from vouched links first pass seen mine vs ws (subst (λ (l : List SeatView). AllZip (Served vouched links) l ws) same served)
 
 -- ---- a call at each seat
 
@@ -64,5 +66,5 @@ pub ready_at : {T : Type 0} (f : T → SeatView) (xs : List T) → All (λ x. Is
 ready_at f xs all i x lt same = subst (λ s. IsReady (f s)) (sym same) (all i x lt)
 
 -- what a call does to a seat it does to the seat at that place
-pub served_at : {T : Type 0} (f : T → SeatView) {x y a b : T} → a ≡ x → b ≡ y → Served (f a) (f b) → Served (f x) (f y)
-served_at f {x} {y} {a} {b} first last served = subst (λ t. Served (f x) (f t)) last (subst (λ t. Served (f t) (f b)) first served)
+pub served_at : (vouched : Ask → List (List ℕ) → JwtToken → Type 0) (links : Type 0) {T : Type 0} (f : T → SeatView) {x y a b : T} → a ≡ x → b ≡ y → Served vouched links (f a) (f b) → Served vouched links (f x) (f y)
+served_at vouched links f {x} {y} {a} {b} first last served = subst (λ t. Served vouched links (f x) (f t)) last (subst (λ t. Served vouched links (f t) (f b)) first served)

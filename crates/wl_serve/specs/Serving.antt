@@ -15,11 +15,14 @@ use Rattle.wl_publish.specs.Listings.{Passing}
 use Rattle.wl_config.specs.declared.config.SocketFact.{SocketFact}
 use Rattle.wl_config.specs.declared.fault.ConfigFault.{ConfigFault}
 use Rattle.wl_config.specs.Configs.{Configuration}
-use Rattle.wl_worker.specs.Tended.{FinishesAll}
+use Rattle.wl_entry.specs.declared.asks.Ask.{Ask}
+use Rattle.wl_entry.specs.declared.tokens.JwtToken.{JwtToken}
+use Rattle.wl_worker.specs.Tended.{FinishesAll, Tends}
 use Rattle.wl_worker.specs.declared.seat.SeatEnd.{SeatEnd}
 use Rattle.wl_worker.specs.declared.seat.SeatEnd.TheVariants as seat
-use Rattle.wl_serve.specs.Views.{SeatView, PartsView}
+use Rattle.wl_serve.specs.Views.{SeatView, PartsView, world_of}
 use Rattle.wl_serve.specs.Seating.{ServedFrom}
+use Rattle.wl_serve.specs.Prepared.{IsUnused, IsTold}
 use Rattle.wl_serve.specs.declared.ending.ServeEnd.{ServeEnd}
 use Rattle.wl_serve.specs.declared.ending.ServeEnd.TheVariants.{Config, Unprepared, NoDocument, Document, HostFault, Memory, Done}
 
@@ -67,23 +70,25 @@ PulledOn old new document = IfSome old (λ log. (later : List PullCall) × (numb
 
 -- ---- what becomes of seats and upstream
 
--- All seats were served from publication 0 of the first document on.
-pub record Sat (old new : Option UpstreamLog) (before after : List SeatView) : Type 0 where
-  pub document : List ℕ
-  pub state : State
-  pub is : document_state None document ≡ Ok state
-  pub pulled : PulledOn old new document
-  pub seats : AllZip (ServedFrom (first_of state)) before after
+-- By which relation tokens are vouched for, and whether links tell their content.
+module _ (vouched : Ask → List (List ℕ) → JwtToken → Type 0) (links : Type 0) where
+  -- All seats were served from publication 0 of the first document on.
+  pub record Sat (old new : Option UpstreamLog) (before after : List SeatView) : Type 0 where
+    pub document : List ℕ
+    pub state : State
+    pub is : document_state None document ≡ Ok state
+    pub pulled : PulledOn old new document
+    pub seats : AllZip (ServedFrom vouched links (first_of state)) before after
 
--- by the end: what became of them
-abbrev pub SatTells : Option UpstreamLog → Option UpstreamLog → ℕ → ℕ → List SeatView → List SeatView → ServeEnd → Type 0
-SatTells old new faults now before after (Config e) = ⊥
-SatTells old new faults now before after Unprepared = ⊥
-SatTells old new faults now before after NoDocument = (after ≡ before) × Rose faults now
-SatTells old new faults now before after (Document e) = (after ≡ before) × ((document : List ℕ) × Pulled old new (Some document) × (document_state None document ≡ Err e))
-SatTells old new faults now before after HostFault = Sat old new before after × (end_of (ends after) ≡ HostFault)
-SatTells old new faults now before after Memory = (after ≡ before) ⊎ (Sat old new before after × (end_of (ends after) ≡ Memory))
-SatTells old new faults now before after Done = Sat old new before after × (end_of (ends after) ≡ Done)
+  -- by the end: what became of them
+  abbrev pub SatTells : Option UpstreamLog → Option UpstreamLog → ℕ → ℕ → List SeatView → List SeatView → ServeEnd → Type 0
+  SatTells old new faults now before after (Config e) = ⊥
+  SatTells old new faults now before after Unprepared = ⊥
+  SatTells old new faults now before after NoDocument = (after ≡ before) × Rose faults now
+  SatTells old new faults now before after (Document e) = (after ≡ before) × ((document : List ℕ) × Pulled old new (Some document) × (document_state None document ≡ Err e))
+  SatTells old new faults now before after HostFault = Sat old new before after × (end_of (ends after) ≡ HostFault)
+  SatTells old new faults now before after Memory = (after ≡ before) ⊎ (Sat old new before after × (end_of (ends after) ≡ Memory))
+  SatTells old new faults now before after Done = Sat old new before after × (end_of (ends after) ≡ Done)
 
 -- ---- what stands of the parts
 
@@ -109,8 +114,18 @@ NoneRan p = AllByRecursion (λ (v : SeatView). v.end ≡ None) p.seats
 abbrev pub GaveFaulted : Type 0 → DocFault → PartsView → Type 0
 GaveFaulted tells e p = (document : List ℕ) × (document_state None document ≡ Err e) × (tells → p.upstream ≡ Some (record { calls = pull_of (Some document) ∷ []; number = 1 }))
 
--- Whether all that was prepared tells its content.
-module _ (tells : Type 0) where
+-- The same, and whether all that was prepared tells its content.
+module _ (vouched : Ask → List (List ℕ) → JwtToken → Type 0) (links tells : Type 0) where
+  -- What a seat tended, from what it was when nothing of it was used.
+  pub record HasTended (first : Publication) (v : SeatView) (end : SeatEnd) : Type 0 where
+    pub unused : SeatView
+    pub is_unused : IsUnused unused
+    pub told : tells → IsTold unused
+    pub pass : Passing
+    pub seen : pass.seen ≡ first ∷ []
+    pub mine : pass.mine ≡ []
+    pub tends : links → (q : Passing) → v.pass ≡ Some q → Tends vouched v.socket v.room end (world_of unused pass) (world_of v q)
+
   -- The seat of a socket was served. It has its end, which is what its listener's answers came to, and as many links were
   -- finished as it gave; a fault only where the count of what failed rose.
   pub record SeatRan (from : Publication) (number : ℕ) (fact : SocketFact) (v : SeatView) : Type 0 where
@@ -120,6 +135,7 @@ module _ (tells : Type 0) where
     pub room : v.room ≡ fact.workers
     pub first : SawFirst from v.pass
     pub listened : tells → IsSomeAnd v.listener (FinishesAll end unheard)
+    pub tended : HasTended from v end
     pub listen : end ≡ seat.ListenFault → Rose 0 v.listener_faults
     pub wait : end ≡ seat.WaitFault → Rose 0 v.ready_faults
 

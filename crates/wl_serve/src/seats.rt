@@ -1,6 +1,6 @@
 //! Seats are served at once.
 
-ghost use Rattle.std.specs.Prelude.{◌≡◌, ◌<◌, ◌≤◌, ℕ, All, length, slice_index_or};
+ghost use Rattle.std.specs.Prelude.{◌≡◌, ◌<◌, ◌≤◌, ℕ, All, IsSome, length, slice_index_or};
 ghost use Rattle.wl_worker.specs.Upkeep.{PulledAgain};
 ghost use Rattle.wl_serve.specs.Views.{SeatView};
 ghost use Rattle.wl_serve.specs.Seating.{IsReady, Served};
@@ -45,7 +45,8 @@ fn tend<L: Listener, S: Signer, A: Attestor, C: Clock, P: Ready<L::L>, G: Gate, 
     gate: &G,
 )
     requires { IsReady (⟦<Seat<L, S, A, C, P> as SeatShown>⟧.shown seat.old) }
-    ensures { Served (⟦<Seat<L, S, A, C, P> as SeatShown>⟧.shown seat.old)
+    ensures { Served S.V.token ((l : L.L) → IsSome (L.L.told l))
+        (⟦<Seat<L, S, A, C, P> as SeatShown>⟧.shown seat.old)
         (⟦<Seat<L, S, A, C, P> as SeatShown>⟧.shown seat.new) }
 {
     let end = serve_seat(rt, alloc, desk, seat, gate);
@@ -79,7 +80,8 @@ pub(crate) fn serve_all<
     ensures pulled { PulledAgain (U.told upstream.old) (U.told upstream.new) }
     ensures pull_faults { U.faults upstream.old ≤ U.faults upstream.new }
     ensures count { length seats.new ≡ length seats.old }
-    ensures served { (i : ℕ) (d : _) → i < length seats.old → Served
+    ensures served { (i : ℕ) (d : _) → i < length seats.old
+        → Served S.V.token ((l : L.L) → IsSome (L.L.told l))
         (⟦<Seat<L, S, A, C, P> as SeatShown>⟧.shown (slice_index_or seats.old i d))
         (⟦<Seat<L, S, A, C, P> as SeatShown>⟧.shown (slice_index_or seats.new i d)) }
 {
@@ -100,7 +102,7 @@ pub(crate) fn serve_all<
               pass = seat.now.pass;
               end = seat.now.end;
             }) }
-            ensures { Served (record {
+            ensures { Served S.V.token ((l : L.L) → IsSome (L.L.told l)) (record {
               socket = seat.entry.now.socket;
               room = seat.entry.now.room;
               listener = L.told seat.entry.now.listener;

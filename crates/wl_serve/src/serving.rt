@@ -1,6 +1,6 @@
 //! A configuration is served.
 
-ghost use Rattle.std.specs.Prelude.{◌≡◌, ◌<◌, ◌≤◌, length, map, option_map, None, OnOk, OnErr};
+ghost use Rattle.std.specs.Prelude.{◌≡◌, ◌<◌, ◌≤◌, length, map, option_map, None, IsSome, OnOk, OnErr};
 ghost use Rattle.std.specs.List.{AllByRecursion, AllZip};
 ghost use Rattle.wl_config.specs.Configs.{configuration_of};
 ghost use Rattle.wl_worker.specs.Upkeep.{PulledAgain};
@@ -48,7 +48,8 @@ fn with_desk<
     requires ready { AllByRecursion IsReady (map ⟦<Seat<L, S, A, C, P> as SeatShown>⟧.shown seats.old) }
     ensures pulled { PulledAgain (U.told upstream.old) (U.told upstream.new) }
     ensures pull_faults { U.faults upstream.old ≤ U.faults upstream.new }
-    ensures served { AllZip Served (map ⟦<Seat<L, S, A, C, P> as SeatShown>⟧.shown seats.old)
+    ensures served { AllZip (Served S.V.token ((l : L.L) → IsSome (L.L.told l)))
+        (map ⟦<Seat<L, S, A, C, P> as SeatShown>⟧.shown seats.old)
         (map ⟦<Seat<L, S, A, C, P> as SeatShown>⟧.shown seats.new) }
 {
     let desk = Mutex::new(desk);
@@ -84,7 +85,8 @@ fn serve_manager<
     requires few { length seats.old ≤ 64 }
     requires idle { AllByRecursion IsIdle (map ⟦<Seat<L, S, A, C, P> as SeatShown>⟧.shown seats.old) }
     ensures pulled { OnOk result (PulledAgain (U.told upstream.old) (U.told upstream.new)) }
-    ensures served { OnOk result (AllZip (ServedFrom manager.stored.published)
+    ensures served { OnOk result (AllZip
+        (ServedFrom S.V.token ((l : L.L) → IsSome (L.L.told l)) manager.stored.published)
         (map ⟦<Seat<L, S, A, C, P> as SeatShown>⟧.shown seats.old)
         (map ⟦<Seat<L, S, A, C, P> as SeatShown>⟧.shown seats.new)) }
     ensures err { OnErr result (seats.new ≡ seats.old) }
@@ -121,7 +123,8 @@ fn serve_first<
     requires some { 0 < length seats.old }
     requires few { length seats.old ≤ 64 }
     requires idle { AllByRecursion IsIdle (map ⟦<Seat<L, S, A, C, P> as SeatShown>⟧.shown seats.old) }
-    ensures { SatTells (U.told upstream.old) (U.told upstream.new) (U.faults upstream.old) (U.faults upstream.new)
+    ensures { SatTells S.V.token ((l : L.L) → IsSome (L.L.told l))
+        (U.told upstream.old) (U.told upstream.new) (U.faults upstream.old) (U.faults upstream.new)
         (map ⟦<Seat<L, S, A, C, P> as SeatShown>⟧.shown seats.old)
         (map ⟦<Seat<L, S, A, C, P> as SeatShown>⟧.shown seats.new) result }
 {
@@ -153,7 +156,8 @@ fn serve_parts<B: Binder, R: Threads + Wait + Sync>(
     requires some { 0 < length parts.old.seats.items }
     requires few { length parts.old.seats.items ≤ 64 }
     requires idle { AllByRecursion IsIdle (⟦<Parts<B> as PartsShown>⟧.shown parts.old).seats }
-    ensures { SatTells (⟦<Parts<B> as PartsShown>⟧.shown parts.old).upstream
+    ensures { SatTells B.Sign.V.token ((l : B.Listen.L) → IsSome (B.Listen.L.told l))
+        (⟦<Parts<B> as PartsShown>⟧.shown parts.old).upstream
         (⟦<Parts<B> as PartsShown>⟧.shown parts.new).upstream
         (⟦<Parts<B> as PartsShown>⟧.shown parts.old).upstream_faults
         (⟦<Parts<B> as PartsShown>⟧.shown parts.new).upstream_faults
@@ -185,7 +189,8 @@ pub fn serve<B: Binder, R: Threads + Wait + Sync>(
     kept: &mut Option<Parts<B>>,
 ) -> ServeEnd
     requires { kept.old ≡ None }
-    ensures { ServeTells B.tells (configuration_of configuration.now) (B.faults host.old) (B.faults host.new)
+    ensures { ServeTells B.Sign.V.token ((l : B.Listen.L) → IsSome (B.Listen.L.told l)) B.tells
+        (configuration_of configuration.now) (B.faults host.old) (B.faults host.new)
         (option_map ⟦<Parts<B> as PartsShown>⟧.shown kept.new) result }
 {
     let config = match read_config(alloc, configuration) {

@@ -8,4 +8,5 @@ returns g c = record {
   listen = c.serve_seat-end.ensures.listen_fault;
   wait = c.serve_seat-end.ensures.wait_fault;
   finishes = c.serve_seat-end.ensures.finishes;
+  tends = c.serve_seat-end.ensures.tends;
 }

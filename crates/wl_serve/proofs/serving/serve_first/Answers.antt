@@ -6,8 +6,8 @@ use Rattle.wl_serve.proofs.serving.serve_first.Goals as goal
 
 pub returns-in-Ok-serve_manager : goal.returns-in-Ok-serve_manager
 returns-in-Ok-serve_manager g c =
-    sat_tells _ _ _ _ _ _
-    (sat_from (g.U.Upstream.told c.args.upstream.now) (g.U.Upstream.told c.pull.new.self) (g.U.Upstream.told c.serve_manager.new.upstream)
+    sat_tells _ _ _ _ _ _ _ _
+    (sat_from _ _ (g.U.Upstream.told c.args.upstream.now) (g.U.Upstream.told c.pull.new.self) (g.U.Upstream.told c.serve_manager.new.upstream)
     (g.U.Upstream.faults c.args.upstream.now) (g.U.Upstream.faults c.pull.new.self)
     c.empty-document.result c.pull.new.into c.as_slice.result.now c.empty-document.ensures c.as_slice.ensures c.in-Ok.ensures.gives
     c.in-Ok-start_strict.manager c.in-Ok-start_strict.ensures.ok c.in-Ok-serve_manager.ensures.pulled _ _ c.in-Ok-serve_manager.ensures.served)

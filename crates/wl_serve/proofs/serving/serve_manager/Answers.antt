@@ -12,4 +12,4 @@ with_desk-requires-clause-ready g c κs within =
 pub returns-clause-served : goal.returns-clause-served
 returns-clause-served g c =
     let first = c.in_ok-publisher.ensures.passes in
-    all_given _ first.given first.seen first.mine _ _ _ (c.give_passes.ensures.given first.given first.all) c.with_desk.ensures.served
+    all_given _ _ _ first.given first.seen first.mine _ _ _ (c.give_passes.ensures.given first.given first.all) c.with_desk.ensures.served
