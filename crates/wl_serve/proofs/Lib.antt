@@ -1,0 +1,5 @@
+mod Lists
+mod Ran
+pub mod Made
+mod Handing
+mod Ends

@@ -1,0 +1,4 @@
+pub mod Views
+pub mod Seating
+pub mod Prepared
+pub mod Serving

@@ -1,0 +1,36 @@
+-- What contracts see of a seat, and of all that a host prepared (own rules).
+use Rattle.std.specs.Prelude.{ℕ, List, Option}
+use Rattle.wl_publish.specs.Listings.{Passing}
+use Rattle.wl_edge.specs.Upstreams.{UpstreamLog}
+use Rattle.wl_edge.specs.Listeners.{ListenerLog}
+use Rattle.wl_edge.specs.declared.attestor.AttestorCall.{AttestorCall}
+use Rattle.wl_edge.specs.declared.signer.SignerCall.{SignerCall}
+use Rattle.wl_worker.specs.declared.seat.SeatEnd.{SeatEnd}
+use Rattle.wl_worker.specs.Served.{around}
+use Rattle.wl_worker.specs.Tended.{SeatWorld, seat_world}
+
+-- A seat: its socket's number and room, its things of the outside with what they tell and their counts of faults, its
+-- pass, and how it ended, once it was served.
+pub record SeatView : Type 0 where
+  pub socket : ℕ
+  pub room : ℕ
+  pub listener : Option ListenerLog
+  pub listener_faults : ℕ
+  pub ready_faults : ℕ
+  pub attestor : Option (List AttestorCall)
+  pub attestor_faults : ℕ
+  pub signer : Option (List SignerCall)
+  pub signer_faults : ℕ
+  pub clock : Option (List ℕ)
+  pub pass : Option Passing
+  pub end : Option SeatEnd
+
+-- the seat's world, with this pass
+abbrev pub world_of : SeatView → Passing → SeatWorld
+world_of v pass = seat_world v.listener (around v.attestor v.attestor_faults v.signer v.signer_faults v.clock pass)
+
+-- the upstream's calls, where it tells them, its count of faults, and the seats
+pub record PartsView : Type 0 where
+  pub upstream : Option UpstreamLog
+  pub upstream_faults : ℕ
+  pub seats : List SeatView

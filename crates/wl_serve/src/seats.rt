@@ -1,0 +1,136 @@
+//! Seats are served at once.
+
+ghost use Rattle.std.specs.Prelude.{◌≡◌, ◌<◌, ◌≤◌, ℕ, All, IsSome, length, slice_index_or};
+ghost use Rattle.wl_worker.specs.Upkeep.{PulledAgain};
+ghost use Rattle.wl_serve.specs.Views.{SeatView};
+ghost use Rattle.wl_serve.specs.Seating.{IsReady, Served};
+
+use at_once::for_each_beside;
+use std::alloc::Global;
+use std::sync::{Mutex, Wait};
+use std::thread::Threads;
+use wl_desk::Desk;
+use wl_edge::{Attestor, Bell, Clock, Gate, Listener, Ready, Signer, Upstream};
+use wl_worker::{Seat, maintain, serve_seat};
+
+/// What contracts see of a seat.
+pub trait SeatShown {
+    ghost shown: { Self → SeatView };
+}
+
+impl<L: Listener, S: Signer, A: Attestor, C: Clock, P: Ready<L::L>> SeatShown
+    for Seat<L, S, A, C, P> {
+    ghost shown = { λ s. record {
+      socket = s.socket;
+      room = s.room;
+      listener = L.told s.listener;
+      listener_faults = L.faults s.listener;
+      ready_faults = P.faults s.ready;
+      attestor = A.calls s.attestor;
+      attestor_faults = A.faults s.attestor;
+      signer = S.calls s.signer;
+      signer_faults = S.faults s.signer;
+      clock = C.answers s.clock;
+      pass = s.pass;
+      end = s.end;
+    } };
+}
+
+/// Serves a seat, and writes its end.
+fn tend<L: Listener, S: Signer, A: Attestor, C: Clock, P: Ready<L::L>, G: Gate, R: Wait>(
+    rt: &R,
+    alloc: Global,
+    desk: &Mutex<Desk<S::V>>,
+    seat: &mut Seat<L, S, A, C, P>,
+    gate: &G,
+)
+    requires { IsReady (⟦<Seat<L, S, A, C, P> as SeatShown>⟧.shown seat.old) }
+    ensures { Served S.V.token ((l : L.L) → IsSome (L.L.told l))
+        (⟦<Seat<L, S, A, C, P> as SeatShown>⟧.shown seat.old)
+        (⟦<Seat<L, S, A, C, P> as SeatShown>⟧.shown seat.new) }
+{
+    let end = serve_seat(rt, alloc, desk, seat, gate);
+    seat.end = Some(end);
+}
+
+/// Serves all seats at once, each in a thread of its own, with the upkeep beside them.
+pub(crate) fn serve_all<
+    L: Listener + Send,
+    S: Signer + Send,
+    A: Attestor + Send,
+    C: Clock + Send,
+    P: Ready<L::L> + Send,
+    U: Upstream,
+    G: Gate + Sync,
+    B: Bell,
+    R: Threads + Wait + Sync,
+>(
+    rt: &R,
+    alloc: Global,
+    desk: &Mutex<Desk<S::V>>,
+    gate: &G,
+    bells: &[B],
+    upstream: &mut U,
+    signer: &mut S,
+    clock: &mut C,
+    seats: &mut [Seat<L, S, A, C, P>],
+)
+    requires some { 0 < length seats.old }
+    requires ready { All (λ s. IsReady (⟦<Seat<L, S, A, C, P> as SeatShown>⟧.shown s)) seats.old }
+    ensures pulled { PulledAgain (U.told upstream.old) (U.told upstream.new) }
+    ensures pull_faults { U.faults upstream.old ≤ U.faults upstream.new }
+    ensures count { length seats.new ≡ length seats.old }
+    ensures served { (i : ℕ) (d : _) → i < length seats.old
+        → Served S.V.token ((l : L.L) → IsSome (L.L.told l))
+        (⟦<Seat<L, S, A, C, P> as SeatShown>⟧.shown (slice_index_or seats.old i d))
+        (⟦<Seat<L, S, A, C, P> as SeatShown>⟧.shown (slice_index_or seats.new i d)) }
+{
+    for_each_beside(
+        rt,
+        &|_, seat: &mut Seat<L, S, A, C, P>|
+            requires { IsReady (record {
+              socket = seat.now.socket;
+              room = seat.now.room;
+              listener = L.told seat.now.listener;
+              listener_faults = L.faults seat.now.listener;
+              ready_faults = P.faults seat.now.ready;
+              attestor = A.calls seat.now.attestor;
+              attestor_faults = A.faults seat.now.attestor;
+              signer = S.calls seat.now.signer;
+              signer_faults = S.faults seat.now.signer;
+              clock = C.answers seat.now.clock;
+              pass = seat.now.pass;
+              end = seat.now.end;
+            }) }
+            ensures { Served S.V.token ((l : L.L) → IsSome (L.L.told l)) (record {
+              socket = seat.entry.now.socket;
+              room = seat.entry.now.room;
+              listener = L.told seat.entry.now.listener;
+              listener_faults = L.faults seat.entry.now.listener;
+              ready_faults = P.faults seat.entry.now.ready;
+              attestor = A.calls seat.entry.now.attestor;
+              attestor_faults = A.faults seat.entry.now.attestor;
+              signer = S.calls seat.entry.now.signer;
+              signer_faults = S.faults seat.entry.now.signer;
+              clock = C.answers seat.entry.now.clock;
+              pass = seat.entry.now.pass;
+              end = seat.entry.now.end;
+            }) (record {
+              socket = seat.exit.now.socket;
+              room = seat.exit.now.room;
+              listener = L.told seat.exit.now.listener;
+              listener_faults = L.faults seat.exit.now.listener;
+              ready_faults = P.faults seat.exit.now.ready;
+              attestor = A.calls seat.exit.now.attestor;
+              attestor_faults = A.faults seat.exit.now.attestor;
+              signer = S.calls seat.exit.now.signer;
+              signer_faults = S.faults seat.exit.now.signer;
+              clock = C.answers seat.exit.now.clock;
+              pass = seat.exit.now.pass;
+              end = seat.exit.now.end;
+            }) }
+        { tend(rt, alloc, desk, seat, gate) },
+        &mut || maintain(rt, alloc, desk, upstream, signer, clock, gate, bells),
+        seats,
+    );
+}

@@ -1,0 +1,209 @@
+//! A configuration is served.
+
+ghost use Rattle.std.specs.Prelude.{◌≡◌, ◌<◌, ◌≤◌, length, map, option_map, None, IsSome, OnOk, OnErr};
+ghost use Rattle.std.specs.List.{AllByRecursion, AllZip};
+ghost use Rattle.wl_config.specs.Configs.{configuration_of};
+ghost use Rattle.wl_worker.specs.Upkeep.{PulledAgain};
+ghost use Rattle.wl_serve.specs.Seating.{IsReady, IsIdle, Served, ServedFrom};
+ghost use Rattle.wl_serve.specs.Serving.{SatTells, ServeTells};
+
+use crate::binder::{Binder, Parts, PartsShown};
+use crate::ending::{ServeEnd, end_of_all};
+use crate::passes::{first_passes, give_passes};
+use crate::seats::{SeatShown, serve_all};
+use std::alloc::Global;
+use std::sync::{Mutex, Wait};
+use std::thread::Threads;
+use wl_config::{ConfigFault, read_config};
+use wl_desk::Desk;
+use wl_document::DocFault;
+use wl_edge::{Attestor, Bell, Clock, EdgeFault, Gate, Listener, Ready, Signer, Upstream};
+use wl_manager::Manager;
+use wl_octets::{Memory, Octets};
+use wl_worker::Seat;
+
+/// Serves the seats, each of which has its pass, and ends the desk with them.
+fn with_desk<
+    L: Listener + Send,
+    S: Signer + Send,
+    A: Attestor + Send,
+    C: Clock + Send,
+    P: Ready<L::L> + Send,
+    U: Upstream,
+    G: Gate + Sync,
+    B: Bell,
+    R: Threads + Wait + Sync,
+>(
+    rt: &R,
+    alloc: Global,
+    desk: Desk<S::V>,
+    gate: &G,
+    bells: &[B],
+    upstream: &mut U,
+    signer: &mut S,
+    clock: &mut C,
+    seats: &mut [Seat<L, S, A, C, P>],
+)
+    requires some { 0 < length seats.old }
+    requires ready { AllByRecursion IsReady (map ⟦<Seat<L, S, A, C, P> as SeatShown>⟧.shown seats.old) }
+    ensures pulled { PulledAgain (U.told upstream.old) (U.told upstream.new) }
+    ensures pull_faults { U.faults upstream.old ≤ U.faults upstream.new }
+    ensures served { AllZip (Served S.V.token ((l : L.L) → IsSome (L.L.told l)))
+        (map ⟦<Seat<L, S, A, C, P> as SeatShown>⟧.shown seats.old)
+        (map ⟦<Seat<L, S, A, C, P> as SeatShown>⟧.shown seats.new) }
+{
+    let desk = Mutex::new(desk);
+    serve_all(
+        rt, alloc, &desk, gate, bells, upstream, signer, clock, seats,
+    );
+    desk.into_inner().end(rt);
+}
+
+/// Serves the seats from the manager's publication on. Out of memory no seat is served.
+fn serve_manager<
+    L: Listener + Send,
+    S: Signer + Send,
+    A: Attestor + Send,
+    C: Clock + Send,
+    P: Ready<L::L> + Send,
+    U: Upstream,
+    G: Gate + Sync,
+    B: Bell,
+    R: Threads + Wait + Sync,
+>(
+    rt: &R,
+    alloc: Global,
+    manager: Manager<S::V>,
+    gate: &G,
+    bells: &[B],
+    upstream: &mut U,
+    signer: &mut S,
+    clock: &mut C,
+    seats: &mut [Seat<L, S, A, C, P>],
+) -> Result<(), Memory>
+    requires some { 0 < length seats.old }
+    requires few { length seats.old ≤ 64 }
+    requires idle { AllByRecursion IsIdle (map ⟦<Seat<L, S, A, C, P> as SeatShown>⟧.shown seats.old) }
+    ensures pulled { OnOk result (PulledAgain (U.told upstream.old) (U.told upstream.new)) }
+    ensures served { OnOk result (AllZip
+        (ServedFrom S.V.token ((l : L.L) → IsSome (L.L.told l)) manager.stored.published)
+        (map ⟦<Seat<L, S, A, C, P> as SeatShown>⟧.shown seats.old)
+        (map ⟦<Seat<L, S, A, C, P> as SeatShown>⟧.shown seats.new)) }
+    ensures err { OnErr result (seats.new ≡ seats.old) }
+{
+    let count = seats.len() as u32;
+    let (publisher, passes) = first_passes(rt, alloc, &manager, count)?;
+    give_passes(passes, seats);
+    let desk = Desk::start(manager, publisher, count);
+    with_desk(rt, alloc, desk, gate, bells, upstream, signer, clock, seats);
+    Ok(())
+}
+
+/// Pulls the first document, and serves the seats from its publication on.
+fn serve_first<
+    L: Listener + Send,
+    S: Signer + Send,
+    A: Attestor + Send,
+    C: Clock + Send,
+    P: Ready<L::L> + Send,
+    U: Upstream,
+    G: Gate + Sync,
+    B: Bell,
+    R: Threads + Wait + Sync,
+>(
+    rt: &R,
+    alloc: Global,
+    gate: &G,
+    bells: &[B],
+    upstream: &mut U,
+    signer: &mut S,
+    clock: &mut C,
+    seats: &mut [Seat<L, S, A, C, P>],
+) -> ServeEnd
+    requires some { 0 < length seats.old }
+    requires few { length seats.old ≤ 64 }
+    requires idle { AllByRecursion IsIdle (map ⟦<Seat<L, S, A, C, P> as SeatShown>⟧.shown seats.old) }
+    ensures { SatTells S.V.token ((l : L.L) → IsSome (L.L.told l))
+        (U.told upstream.old) (U.told upstream.new) (U.faults upstream.old) (U.faults upstream.new)
+        (map ⟦<Seat<L, S, A, C, P> as SeatShown>⟧.shown seats.old)
+        (map ⟦<Seat<L, S, A, C, P> as SeatShown>⟧.shown seats.new) result }
+{
+    let mut document = Octets::empty(alloc);
+    match upstream.pull(&mut document) {
+        Ok(()) => {}
+        Err(EdgeFault::Failed) => return ServeEnd::NoDocument,
+        Err(EdgeFault::Memory) => return ServeEnd::Memory,
+    }
+    let manager = match Manager::start_strict(alloc, document.as_slice()) {
+        Ok(manager) => manager,
+        Err(DocFault::Memory) => return ServeEnd::Memory,
+        Err(fault) => return ServeEnd::Document(fault),
+    };
+    match serve_manager(
+        rt, alloc, manager, gate, bells, upstream, signer, clock, seats,
+    ) {
+        Ok(()) => end_of_all(seats),
+        Err(Memory) => ServeEnd::Memory,
+    }
+}
+
+/// Serves what was prepared.
+fn serve_parts<B: Binder, R: Threads + Wait + Sync>(
+    rt: &R,
+    alloc: Global,
+    parts: &mut Parts<B>,
+) -> ServeEnd
+    requires some { 0 < length parts.old.seats.items }
+    requires few { length parts.old.seats.items ≤ 64 }
+    requires idle { AllByRecursion IsIdle (⟦<Parts<B> as PartsShown>⟧.shown parts.old).seats }
+    ensures { SatTells B.Sign.V.token ((l : B.Listen.L) → IsSome (B.Listen.L.told l))
+        (⟦<Parts<B> as PartsShown>⟧.shown parts.old).upstream
+        (⟦<Parts<B> as PartsShown>⟧.shown parts.new).upstream
+        (⟦<Parts<B> as PartsShown>⟧.shown parts.old).upstream_faults
+        (⟦<Parts<B> as PartsShown>⟧.shown parts.new).upstream_faults
+        (⟦<Parts<B> as PartsShown>⟧.shown parts.old).seats
+        (⟦<Parts<B> as PartsShown>⟧.shown parts.new).seats result }
+{
+    serve_first(
+        rt,
+        alloc,
+        &parts.gate,
+        parts.bells.as_slice(),
+        &mut parts.upstream,
+        &mut parts.signer,
+        &mut parts.clock,
+        parts.seats.as_mut_slice(),
+    )
+}
+
+/// Reads a configuration, has the host prepare what it names, pulls and judges the first document, and serves each seat
+/// in a thread of its own, with the upkeep beside them, until all have ended. The store is strict. What was prepared is
+/// kept, for its counts and lists to be seen.
+///
+/// It may wait for as long as links stand, and returns where every listener came to its end or a seat failed.
+pub fn serve<B: Binder, R: Threads + Wait + Sync>(
+    rt: &R,
+    alloc: Global,
+    configuration: &[u8],
+    host: &mut B,
+    kept: &mut Option<Parts<B>>,
+) -> ServeEnd
+    requires { kept.old ≡ None }
+    ensures { ServeTells B.Sign.V.token ((l : B.Listen.L) → IsSome (B.Listen.L.told l)) B.tells
+        (configuration_of configuration.now) (B.faults host.old) (B.faults host.new)
+        (option_map ⟦<Parts<B> as PartsShown>⟧.shown kept.new) result }
+{
+    let config = match read_config(alloc, configuration) {
+        Ok(config) => config,
+        Err(ConfigFault::Memory) => return ServeEnd::Memory,
+        Err(fault) => return ServeEnd::Config(fault),
+    };
+    let mut parts = match host.prepare(rt, alloc, &config) {
+        Ok(parts) => parts,
+        Err(EdgeFault::Failed) => return ServeEnd::Unprepared,
+        Err(EdgeFault::Memory) => return ServeEnd::Memory,
+    };
+    let end = serve_parts(rt, alloc, &mut parts);
+    *kept = Some(parts);
+    end
+}
