@@ -177,10 +177,6 @@ fault_part limit all left old mid fault gains ending due =
 
 -- ---- what holds where a call succeeds
 
-pub on_any : {T E : Type 0} (r : Result T E) (P : Type 0) → P → OnOk r P
-on_any (Ok x) P p = p
-on_any (Err e) P p = tt
-
 pub on_both : {T E : Type 0} (r : Result T E) (P Q R : Type 0) → (P → Q → R) → OnOk r P → OnOk r Q → OnOk r R
 on_both (Ok x) P Q R go p q = go p q
 on_both (Err e) P Q R go p q = tt

@@ -27,7 +27,7 @@ pub struct Begun {
 /// Puts the messages of a body together, however it comes.
 ///
 /// Contracts see the limit of a message, and how the bytes so far end: within a message, or at a fault. A byte is copied
-/// once, into its message, for which room is taken when its length has come.
+/// into its message, which grows with what comes: no room is taken for a length before its bytes.
 #[derive(Drop)]
 pub struct Assembly {
     limit: u32,
@@ -180,7 +180,7 @@ fn take_front(bytes: &mut Octets, most: usize, piece: &[u8]) -> Result<usize, Me
     Ok(used)
 }
 
-/// Tells the message that was begun where it is whole, and takes room for one of which the first byte is awaited.
+/// Tells the message that was begun where it is whole.
 fn finish(
     alloc: Global,
     limit: u32,
@@ -198,7 +198,7 @@ fn finish(
         None => Ok(()),
         Some(length) => {
             if begun.message.len() < length as usize {
-                make_room(alloc, &mut begun.message, length as usize)
+                Ok(())
             } else {
                 tell(alloc, begun, into)
             }
@@ -218,23 +218,6 @@ fn tell(alloc: Global, begun: &mut Begun, into: &mut Row<Octets>) -> Result<(), 
     begun.length = None;
     match into.push(mem::replace(&mut begun.message, Octets::empty(alloc))) {
         Ok(()) => Ok(()),
-        Err(_) => Err(MessageFault::Memory),
-    }
-}
-
-/// Takes room for a whole message, where none of its bytes has come.
-fn make_room(alloc: Global, message: &mut Octets, length: usize) -> Result<(), MessageFault>
-    ensures same { message.new ≡ message.old }
-    ensures memory { IfErr result (λ fault. fault ≡ MessageFault.Memory) }
-{
-    if message.len() > 0 {
-        return Ok(());
-    }
-    match Vec::with_capacity(alloc, length) {
-        Ok(room) => {
-            *message = Octets::from_vec(room);
-            Ok(())
-        }
         Err(_) => Err(MessageFault::Memory),
     }
 }

@@ -1,5 +1,5 @@
 use Rattle.std.proofs.Common.{◌≡◌, ◌<◌, ◌≤◌, ◌++◌, ◌∷◌, [], length, None, refl, sym, arith, append-nil}
-use Rattle.wl_client.proofs.Assemblies.{came_none, came_part, came_whole, part_new, on_any, on_both}
+use Rattle.wl_client.proofs.Assemblies.{came_none, came_part, came_whole, part_new, on_both}
 use Rattle.wl_client.proofs.assembly.finish.Goals as goal
 
 pub returns-in-None-clause-ok : goal.returns-in-None-clause-ok
@@ -9,7 +9,7 @@ pub returns-then-len-length-clause-ok : goal.returns-then-len-length-clause-ok
 returns-then-len-length-clause-ok c =
     let b = c.args.begun.now in
     let short : length b.message < c.in-Some.length = omega arith in
-    on_any c.make_room.result _ (rw (came_part c.args.limit c.in-Some.length b c.in-Some.is short c.requires, c.make_room.ensures.same) (sym (append-nil c.args.into.now), refl))
+    rw (came_part c.args.limit c.in-Some.length b c.in-Some.is short c.requires) (sym (append-nil c.args.into.now), refl)
 
 pub returns-else-len-length-clause-ok : goal.returns-else-len-length-clause-ok
 returns-else-len-length-clause-ok c =
