@@ -1,0 +1,114 @@
+#!/usr/bin/python3
+"""Measures the built agentd beside a server by grpc-go that sends ready bytes, in one run: both on Unix sockets, on one
+processor, under the same load from the others. Usage: bench/serve/measure.py [SECONDS_OF_IDLE]
+
+It needs Debian's golang-go, golang-google-grpc-dev, python3-grpcio and openssl, and at least two processors."""
+import os
+import pathlib
+import signal
+import subprocess
+import sys
+import tempfile
+import time
+
+HERE = pathlib.Path(__file__).resolve().parent
+TOP = HERE.parent.parent
+sys.path.insert(0, str(TOP / "tests" / "clients"))
+import agent
+from messages import API, SECURITY
+
+import grpc
+
+GO = {**os.environ, "GOPATH": "/usr/share/gocode", "GO111MODULE": "off"}
+SERVED = "0"
+LOADING = f"1-{os.cpu_count() - 1}"
+NEW, CALLS, WORKERS = 2_000, 10_000, 8
+BROADCAST = 2_000
+agent.AGENTD_WORDS = ["taskset", "-c", SERVED]
+agent.SOCKETS = {"web": (12, {"web": (3600, [])}), "large": (4, {"large": (3600, ["large.example", "larger.example"])}),
+                 "rotating": (16, {"rotating": (4, [])})}
+
+
+def built(folder, name):
+    subprocess.run(["go", "build", "-o", f"{folder}/{name}", str(HERE / f"{name}.go")], check=True, env={**GO, "GOCACHE": f"{folder}/go"})
+    return f"{folder}/{name}"
+
+
+def processor_seconds(process):
+    fields = pathlib.Path(f"/proc/{process.pid}/stat").read_text().rsplit(")", 1)[1].split()
+    return (int(fields[11]) + int(fields[12])) / os.sysconf("SC_CLK_TCK")
+
+
+def resident(process):
+    return int(pathlib.Path(f"/proc/{process.pid}/statm").read_text().split()[1]) * os.sysconf("SC_PAGE_SIZE")
+
+
+class Measured:
+    """A server's process, and its load."""
+
+    def __init__(self, name, process, load):
+        self.name, self.process, self.load = name, process, load
+
+    def run(self, what, socket, *words):
+        before = processor_seconds(self.process)
+        ran = subprocess.run(["taskset", "-c", LOADING, self.load, str(socket), *map(str, words)], check=True, capture_output=True, text=True)
+        used = processor_seconds(self.process) - before
+        print(f"{self.name:8} {what:28} {ran.stdout.strip():>20}   processor {used:.2f} s   resident {resident(self.process) >> 20} MiB", flush=True)
+
+    def idle(self, socket, seconds):
+        held = subprocess.Popen([self.load, str(socket), "hold", "10", "10"], stdin=subprocess.PIPE, stdout=subprocess.PIPE, text=True)
+        held.stdout.readline()
+        before = processor_seconds(self.process)
+        time.sleep(seconds)
+        used = processor_seconds(self.process) - before
+        print(f"{self.name:8} {'100 streams, idle':28} {used / seconds * 100:17.2f} %")
+        held.communicate("")
+
+
+def message_of(socket):
+    with grpc.insecure_channel(f"unix:{socket}", [("grpc.max_receive_message_length", 8_000_000)]) as opened:
+        return next(opened.unary_stream(API + "FetchX509SVID")(b"", metadata=(SECURITY,), timeout=30))
+
+
+def go_server(folder, name, message, *words):
+    pathlib.Path(f"{folder}/{name}.bytes").write_bytes(message)
+    socket = pathlib.Path(f"{folder}/{name}-go.sock")
+    process = subprocess.Popen(["taskset", "-c", SERVED, f"{folder}/server", str(socket), f"{folder}/{name}.bytes", *words],
+                               env={**os.environ, "GOMAXPROCS": "1"})
+    while not socket.is_socket():
+        time.sleep(0.01)
+    return process, socket
+
+
+def main():
+    seconds = int(sys.argv[1]) if len(sys.argv) > 1 else 10
+    with tempfile.TemporaryDirectory(prefix="serve-") as folder:
+        load = built(folder, "load")
+        built(folder, "server")
+        served = agent.Agent(folder)
+        others = []
+        try:
+            ours = Measured("agentd", served.agentd, load)
+            for name, message in [(it, message_of(served.socket(it))) for it in ("web", "large")]:
+                process, socket = go_server(folder, name, message)
+                others.append(process)
+                theirs = Measured("grpc-go", process, load)
+                scale = 1 if name == "web" else 100
+                for it, at in ((ours, served.socket(name)), (theirs, socket)):
+                    workers = WORKERS if name == "web" else 4
+                    it.run(f"new connections, {len(message)} B", at, "new", NEW // scale, workers)
+                    it.run(f"calls, {len(message)} B", at, "calls", CALLS // scale, workers)
+                    if name == "web":
+                        it.idle(at, seconds)
+            process, socket = go_server(folder, "rotating", message_of(served.socket("rotating")), str(BROADCAST))
+            others.append(process)
+            ours.run("a rotation to 16 x 16", served.socket("rotating"), "spread", 16, 16)
+            Measured("grpc-go", process, load).run("a broadcast to 16 x 16", socket, "spread", 16, 16)
+        finally:
+            for it in others:
+                it.send_signal(signal.SIGKILL)
+                it.wait()
+            served.stop()
+
+
+main()
