@@ -8,7 +8,7 @@ use Rattle.wl_client.specs.declared.fault.ClientFault.{ClientFault}
 use Rattle.wl_client.specs.declared.fault.ClientFault.TheVariants as faults
 use Rattle.wl_client.specs.declared.reply.Heard.{Heard}
 use Rattle.wl_client.specs.declared.listener.Listener.{Listener}
-use Rattle.wl_client.specs.Hearing.{Hearing, frames_heard, Says}
+use Rattle.wl_client.specs.Hearing.{frames_heard, Says}
 use Rattle.wl_client.specs.Clients.{ClientState, Listening, Failed, Reply, state_of, state_after, heard_in, heard_from, state_by, frame_fault_in, Arrives, Feeds}
 use Rattle.wl_client.proofs.Hearings.{refuses_map}
 

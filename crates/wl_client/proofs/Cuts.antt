@@ -1,5 +1,5 @@
 -- Bytes that come in pieces.
-use Rattle.std.proofs.Common.{◌≡◌, ℕ, List, [], ◌∷◌, ◌++◌, ◌⊎◌, inl, inr, Result, Ok, Err, refl, sym, ap, subst, ◌∙◌}
+use Rattle.std.proofs.Common.{◌≡◌, ℕ, List, ◌++◌, ◌⊎◌, inl, inr, Result, Ok, Err, refl, sym, ap, ◌∙◌}
 use Rattle.std.proofs.lemmas.List.{append-nil}
 use Rattle.h2_frame.specs.Reading.{End, Opening, Rest, Fault, Reading, reading_from, read_on}
 use Rattle.h2_frame.proofs.Cuts.{reads_on}
@@ -8,8 +8,8 @@ use Rattle.wl_client.specs.declared.fault.ClientFault.TheVariants as faults
 use Rattle.wl_client.specs.declared.reply.Heard.{Heard}
 use Rattle.wl_client.specs.declared.listener.Listener.{Listener}
 use Rattle.wl_client.specs.Faults.{Refuses}
-use Rattle.wl_client.specs.Hearing.{Hearing, after_hearing, then_, frames_heard}
-use Rattle.wl_client.specs.Clients.{ClientState, Listening, Failed, fresh_state, Reply, state_after, ended_by, heard_in, heard_from, heard, heard_on, Feeds, StandsFor}
+use Rattle.wl_client.specs.Hearing.{Hearing, after_hearing, frames_heard}
+use Rattle.wl_client.specs.Clients.{ClientState, Listening, Failed, fresh_state, Reply, ended_by, heard_in, heard_from, heard, heard_on, Feeds, StandsFor}
 use Rattle.wl_client.proofs.Hearings.{heard_two, refuses_map, refuses}
 
 -- what came in two parts, where the first ended so

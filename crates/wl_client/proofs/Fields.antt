@@ -1,14 +1,13 @@
 -- Reading a message: field by field, and as a whole.
-use Rattle.std.proofs.Common.{◌≡◌, ℕ, ◌<◌, ◌≤◌, List, [], ◌∷◌, length, Option, Some, None, Result, Ok, Err, refl, sym, ap, subst, ◌∙◌}
+use Rattle.std.proofs.Common.{◌≡◌, ℕ, ◌<◌, ◌≤◌, List, length, Option, Some, None, Result, Ok, Err, refl, sym}
 use Rattle.std.specs.Prelude.{IfOk}
-use Rattle.std.specs.List.{AllByRecursion}
 use Rattle.list_laws.specs.Lists.{AreBytes}
 use Rattle.pb_wire.specs.declared.fault.WireFault.{WireFault}
 use Rattle.pb_wire.specs.declared.fault.FieldFault.{FieldFault}
 use Rattle.pb_wire.specs.declared.fault.FieldFault.TheVariants.{Wire, FieldKind, NotUtf8, Memory}
 use Rattle.pb_wire.specs.declared.field.Field.{Field}
 use Rattle.pb_wire.specs.Reading.{field_at}
-use Rattle.pb_wire.specs.Message.{fields_from, first_fault, unless_fault}
+use Rattle.pb_wire.specs.Message.{fields_from, first_fault}
 use Rattle.pb_wire.specs.Strings.{Gives, Fails}
 use Rattle.pb_wire.proofs.Messages.{fields-end, fields-fault, fields-more, fields_found, fields_again}
 use Rattle.pb_wire.proofs.Faults.{read_well, said_well, all_right, none_wrong}

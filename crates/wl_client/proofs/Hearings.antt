@@ -2,7 +2,7 @@
 use Rattle.std.proofs.Common.{◌≡◌, ℕ, List, [], ◌∷◌, ◌++◌, Result, Ok, Err, refl, sym, ap, ◌∙◌, append_assoc}
 use Rattle.std.proofs.lemmas.List.{append-nil}
 use Rattle.list_laws.specs.Lists.{BeginsWith, GainsFront}
-use Rattle.list_laws.proofs.Fronts.{gains_before, gains_after, gains_all}
+use Rattle.list_laws.proofs.Fronts.{gains_before, gains_after}
 use Rattle.h2_frame.specs.declared.frame.Frame.{Frame}
 use Rattle.wl_client.specs.declared.fault.ClientFault.{ClientFault}
 use Rattle.wl_client.specs.declared.fault.ClientFault.TheVariants as faults

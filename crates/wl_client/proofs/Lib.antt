@@ -4,3 +4,4 @@ pub mod Steps
 pub mod Cuts
 pub mod Arrivals
 pub mod Fields
+pub mod Assemblies

@@ -2,7 +2,7 @@
 use Rattle.std.proofs.Common.{◌≡◌, ◌==◌, if◌then◌else◌, ℕ, List, [], ◌++◌, Bool, true, false, Option, Some, None, Result, Ok, Err, refl, sym, ap, map, ◌∙◌}
 use Rattle.std.proofs.lemmas.List.{append-nil, map-append}
 use Rattle.list_laws.specs.Lists.{GainsFront}
-use Rattle.list_laws.proofs.Fronts.{gains_nothing, gains_all, gains_before}
+use Rattle.list_laws.proofs.Fronts.{gains_nothing, gains_before}
 use Rattle.wl_octets.specs.declared.header.Header.{Header}
 use Rattle.hpack.specs.declared.fault.HpackFault.{HpackFault}
 use Rattle.hpack.specs.Decoding.{decode_block}

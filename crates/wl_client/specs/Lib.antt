@@ -4,3 +4,4 @@ pub mod Openings
 pub mod Hearing
 pub mod Clients
 pub mod Messages
+pub mod Assembling

@@ -5,6 +5,7 @@
 //! more. The `decode_` calls read the messages.
 #![tactic(auto)]
 
+mod assembly;
 mod client;
 mod decode;
 #[cfg(test)]

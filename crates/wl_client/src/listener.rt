@@ -11,11 +11,12 @@ ghost use Rattle.wl_client.specs.declared.reply.Heard.TheVariants.{Message};
 ghost use Rattle.wl_client.specs.Statuses.{http_fault, grpc_code};
 ghost use Rattle.wl_client.specs.Hearing.{fresh_listener, Says, Tells, Writes, is_in_place, is_ended, is_answering, credits, credits_of, fault_in, data_heard, block_heard, first_heard, list_heard, status_heard, continued, control_heard, body_heard, frame_heard, frames_heard};
 
+use crate::assembly::Assembly;
 use crate::fault::ClientFault;
 use crate::headers::{grpc_code, grpc_text, http_fault};
 use crate::opening::CALL_STREAM;
 use crate::reply::Heard;
-use grpc_wire::{MessageFault, Messages};
+use grpc_wire::MessageFault;
 use h2_frame::{Body, Frame, put_frame};
 use h2_wire::error_code;
 use hpack::Decoder;
@@ -49,7 +50,7 @@ pub struct Listener {
     pub decoder: Decoder,
     pub block: Option<OpenBlock>,
     pub stage: Stage,
-    pub messages: Messages,
+    pub messages: Assembly,
 }
 
 /// Puts each message behind what was heard.
@@ -116,7 +117,7 @@ impl Listener {
             decoder: Decoder::start(alloc),
             block: None,
             stage: Stage::Opening,
-            messages: Messages::start(alloc, MAX_RESPONSE_LEN),
+            messages: Assembly::start(alloc, MAX_RESPONSE_LEN),
         }
     }
 

@@ -5,3 +5,4 @@ pub mod Tidy
 pub mod Blocks
 pub mod Serving
 pub mod Reading
+pub mod Hearing

@@ -212,7 +212,7 @@ more_written d turn w r =
       | inr less ↦ rw less refl
     ]
 
-written_data : (n : ℕ) (steps : List Step) → AllFit steps → data_in n (frames_written steps) ≡ (replies_on n steps).written
+pub written_data : (n : ℕ) (steps : List Step) → AllFit steps → data_in n (frames_written steps) ≡ (replies_on n steps).written
 written_data n [] fit = refl
 written_data n (step ∷ before) fit =
     let t = talk_after before in

@@ -1,5 +1,6 @@
-//! What a reader of HTTP/2 finds in the bytes of a talk.
+//! What a reader of HTTP/2 finds in the bytes of a talk, and what a client hears in those of a session.
 
+ghost use Rattle.wl_heard.specs.Clients.{ClientsHearSessions};
 ghost use Rattle.wl_heard.specs.Written.{TalksAreRead, ControlIsRead, DataIsRead, SessionsAreRead, SessionDataIsRead};
 
 /// A reader of HTTP/2 that awaits no preface finds in the bytes of a talk exactly the frames that were written, in their
@@ -18,4 +19,11 @@ pub fn data_is_read()
 pub fn sessions_are_read()
     ensures frames { SessionsAreRead }
     ensures content { SessionDataIsRead }
+{}
+
+/// A client finds in a session's bytes the frames that were written, and nothing else, and has no fault of frames or of
+/// messages. The messages that it hears are the first of those that were written on its stream, in their order; where it
+/// goes on, all that were written in full.
+pub fn clients_hear_sessions()
+    ensures { ClientsHearSessions }
 {}

@@ -3,4 +3,4 @@
 
 mod laws;
 
-pub use laws::{data_is_read, sessions_are_read, talks_are_read};
+pub use laws::{clients_hear_sessions, data_is_read, sessions_are_read, talks_are_read};

@@ -9,6 +9,8 @@
 #![tactic(auto)]
 
 mod connection;
+#[cfg(test)]
+mod connection_tests;
 mod documents;
 mod ended;
 mod flush;
@@ -20,6 +22,8 @@ mod outcomes;
 mod places;
 mod seat;
 mod seat_rounds;
+#[cfg(test)]
+mod seat_tests;
 mod seating;
 mod served;
 mod step;

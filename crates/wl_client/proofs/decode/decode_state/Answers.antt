@@ -1,4 +1,4 @@
-use Rattle.std.proofs.Common.{Result, Ok, Err, ℕ, List, ◌≡◌, ◌∙◌, refl, sym, arith}
+use Rattle.std.proofs.Common.{Result, Ok, Err, ℕ, List, ◌≡◌, ◌∙◌, sym, arith}
 use Rattle.std.specs.Prelude.{IfOk}
 use Rattle.list_laws.specs.Lists.{AreBytes}
 use Rattle.pb_wire.specs.declared.fault.FieldFault.{FieldFault}

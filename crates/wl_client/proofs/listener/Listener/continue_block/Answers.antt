@@ -1,7 +1,6 @@
-use Rattle.std.proofs.Common.{◌≡◌, sym, ◌∙◌, subst, Some, rules}
+use Rattle.std.proofs.Common.{sym, subst, rules}
 use Rattle.list_laws.specs.Lists.{GainsFront}
-use Rattle.wl_client.specs.Hearing.{Hearing, Tells, block_heard, longer}
-use Rattle.wl_client.specs.declared.listener.OpenBlock.{OpenBlock}
+use Rattle.wl_client.specs.Hearing.{Hearing, Tells}
 use Rattle.wl_client.proofs.Steps.{continued_at}
 use Rattle.wl_client.proofs.listener.Listener.continue_block.Goals as goal
 

@@ -1,8 +1,6 @@
-use Rattle.std.proofs.Common.{map, List, [], ℕ, subst}
+use Rattle.std.proofs.Common.{List, ℕ, subst}
 use Rattle.list_laws.specs.Lists.{GainsFront}
-use Rattle.list_laws.proofs.Fronts.{gains_all}
 use Rattle.grpc_wire.specs.Messages.{reading_from}
-use Rattle.wl_client.specs.declared.reply.Heard.TheVariants.{Message}
 use Rattle.wl_client.proofs.Steps.{told_found}
 use Rattle.wl_client.proofs.listener.Listener.cut.Goals as goal
 

@@ -1,7 +1,7 @@
-use Rattle.std.proofs.Common.{List, ℕ, sym, subst}
+use Rattle.std.proofs.Common.{sym, subst}
 use Rattle.list_laws.specs.Lists.{GainsFront}
 use Rattle.wl_client.specs.declared.listener.OpenBlock.{OpenBlock}
-use Rattle.wl_client.specs.Hearing.{Hearing, Says, Tells, body_heard, block_heard, continued, control_heard}
+use Rattle.wl_client.specs.Hearing.{Hearing, Says, body_heard, block_heard, continued, control_heard}
 use Rattle.wl_client.proofs.Steps.{tells_says, writes_says, block_silent, continued_silent, control_silent, other_heard, front_none}
 use Rattle.wl_client.proofs.listener.Listener.take_body.Goals as goal
 

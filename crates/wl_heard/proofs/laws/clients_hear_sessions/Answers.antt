@@ -1,0 +1,5 @@
+use Rattle.wl_heard.proofs.Hearing.{clients_hear_sessions}
+use Rattle.wl_heard.proofs.laws.clients_hear_sessions.Goals as goal
+
+pub returns : goal.returns
+returns c = clients_hear_sessions
