@@ -1,7 +1,7 @@
 //! The real host: what a configuration names, over the operating system.
 
-ghost use Rattle.std.specs.Prelude.{◌≡◌, IfOk, length};
-ghost use Rattle.wl_serve.specs.Prepared.{IsPrepared};
+ghost use Rattle.std.specs.Prelude.{◌≡◌, ◌≤◌, IfOk};
+ghost use Rattle.wl_edge.specs.Edge.{Rose};
 
 use std::alloc::Global;
 use std::fs::Files;
@@ -11,12 +11,12 @@ use std::string::String;
 use std::sync::Wait;
 use std::thread::Threads;
 use wl_config::{Config, SocketAttestor, SocketFact};
-use wl_edge::{EdgeFault, Listener};
+use wl_edge::{EdgeFault, Listener, Upstream};
 use wl_edge_real::{
     BindFault, RealBell, RealClock, RealGate, RealListener, RealReady, RealUpstream, bind,
 };
 use wl_octets::{Memory, Octets};
-use wl_serve::{Binder, Parts, PartsShown, SeatMaker, make_seats};
+use wl_serve::{Binder, Parts, SeatMaker, make_seats};
 use wl_signlink::SignLink;
 use wl_worker::Seat;
 
@@ -85,16 +85,17 @@ impl<'a, R: Net + Files + Clock + Clone + Drop> SeatMaker for Seats<'a, R> {
         number: u32,
         fact: &SocketFact,
     ) -> Result<(RealSeat<R>, RealBell), EdgeFault> {
-        let listener = listener_at(self.rt, alloc, &fact.path)?;
-        let Ok((ready, bell)) = RealReady::start(self.rt, alloc, &listener) else {
+        let (rt, config) = (self.rt, self.config);
+        let listener = listener_at(rt, alloc, &fact.path)?;
+        let Ok((ready, bell)) = RealReady::start(rt, alloc, &listener) else {
             return Err(EdgeFault::Failed);
         };
         let seat = Seat {
             listener,
             socket: number,
-            signer: SignLink::start(self.rt, alloc, self.config.signer.as_slice())?,
-            attestor: SocketAttestor::start(alloc, self.config)?,
-            clock: RealClock::start(copy_of(self.rt)?),
+            signer: SignLink::start(rt, alloc, config.signer.as_slice())?,
+            attestor: SocketAttestor::start(alloc, config)?,
+            clock: RealClock::start(copy_of(rt)?),
             pass: None,
             end: None,
             ready,
@@ -104,26 +105,29 @@ impl<'a, R: Net + Files + Clock + Clone + Drop> SeatMaker for Seats<'a, R> {
     }
 }
 
-/// All that the configuration names.
-fn parts_of<R: Net + Files + Clock + Clone + Drop + Send + Sync>(
+/// What upkeep needs.
+#[derive(Drop)]
+struct Upkeep<R> {
+    upstream: RealUpstream<R>,
+    signer: SignLink<R>,
+    clock: RealClock<R>,
+    gate: RealGate<R>,
+}
+
+/// The upstream and the signer of a configuration, and what paces their use.
+fn make_upkeep<R: Net + Clock + Clone + Drop>(
     rt: &R,
     alloc: Global,
     config: &Config,
-) -> Result<Parts<RealHost<R>>, EdgeFault>
-    ensures prepared { IfOk result (λ p. IsPrepared ⊥ config.now (⟦<Parts<RealHost<R>> as PartsShown>⟧.shown p)) }
-    ensures bells { IfOk result (λ p. length p.bells ≡ length p.seats.items) }
+) -> Result<Upkeep<R>, EdgeFault>
+    ensures { IfOk result (λ u. ⟦<RealUpstream<R> as Upstream>⟧.faults u.upstream ≡ 0) }
 {
     let upstream = text_of(alloc, &config.upstream)?;
-    let signer = SignLink::start(rt, alloc, config.signer.as_slice())?;
-    let mut maker = Seats { rt, config };
-    let (seats, bells) = make_seats(alloc, &mut maker, config.sockets.as_slice())?;
-    Ok(Parts {
+    Ok(Upkeep {
         upstream: RealUpstream::start(copy_of(rt)?, alloc, upstream),
-        signer,
+        signer: SignLink::start(rt, alloc, config.signer.as_slice())?,
         clock: RealClock::start(copy_of(rt)?),
         gate: RealGate::start(copy_of(rt)?, config.poll_seconds),
-        seats,
-        bells,
     })
 }
 
@@ -131,6 +135,18 @@ impl<R> RealHost<R> {
     /// A host over this runtime. Nothing is bound yet.
     pub fn start(rt: R) -> RealHost<R> {
         RealHost { rt, faults: 0 }
+    }
+
+    /// Counts a fault but want of memory.
+    fn count(&mut self, fault: EdgeFault) -> EdgeFault
+        ensures same { result ≡ fault }
+        ensures failed { fault ≡ EdgeFault.Failed → Rose self.old.faults self.new.faults }
+        ensures later { self.old.faults ≤ self.new.faults }
+    {
+        if fault == EdgeFault::Failed {
+            self.faults = self.faults.saturating_add(1);
+        }
+        fault
     }
 }
 
@@ -161,12 +177,31 @@ impl<R: Net + Files + Clock + Clone + Drop + Send + Sync> Binder for RealHost<R>
         alloc: Global,
         config: &Config,
     ) -> Result<Parts<RealHost<R>>, EdgeFault> {
-        match parts_of(&self.rt, alloc, config) {
-            Err(EdgeFault::Failed) => {
-                self.faults = self.faults.saturating_add(1);
-                Err(EdgeFault::Failed)
-            }
-            parts => parts,
-        }
+        let upkeep = match make_upkeep(&self.rt, alloc, config) {
+            Ok(upkeep) => upkeep,
+            Err(fault) => return Err(self.count(fault)),
+        };
+        let mut maker = Seats {
+            rt: &self.rt,
+            config,
+        };
+        let (seats, bells) = match make_seats(alloc, &mut maker, config.sockets.as_slice()) {
+            Ok(both) => both,
+            Err(fault) => return Err(self.count(fault)),
+        };
+        let Upkeep {
+            upstream,
+            signer,
+            clock,
+            gate,
+        } = upkeep;
+        Ok(Parts {
+            upstream,
+            signer,
+            clock,
+            gate,
+            seats,
+            bells,
+        })
     }
 }

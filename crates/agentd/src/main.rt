@@ -11,16 +11,11 @@ use crate::host::RealHost;
 use crate::lazy_file::LazyFile;
 use std::alloc::{AllocGlobal, Global};
 use std::env::{Env, FillError};
-use std::fs::Files;
-use std::net::Net;
 use std::process::ExitCode;
-use std::rt::Clock;
 use std::string::String;
-use std::sync::Wait;
-use std::thread::Threads;
 use wl_agent::status::OUT_OF_MEMORY;
 use wl_agent::{Host, config_path, run};
-use wl_edge::{RealSink, RealSource, Sink, Source};
+use wl_edge::{RealSink, RealSource};
 use wl_octets::Memory;
 
 /// How many bytes of a word are read at first; where it is longer, twice as many, and so on.
@@ -59,42 +54,34 @@ fn words<R: Env>(rt: &R, alloc: Global) -> Result<Vec<String>, Memory> {
     Ok(words)
 }
 
-/// Runs these words over an input, an output and the operating system.
-fn run_over<I: Source + Drop, O: Sink + Drop, R>(
-    rt: &R,
-    alloc: Global,
-    words: &[String],
-    input: I,
-    output: O,
-) -> u8
-where
-    R: Net + Files + Clock + Threads + Wait + Clone + Drop + Send + Sync,
-{
-    let Ok(own) = rt.clone() else {
-        return OUT_OF_MEMORY;
-    };
-    let mut host = Host {
-        input,
-        output,
-        binder: RealHost::start(own),
-        parts: None,
-    };
-    run(rt, alloc, words, &mut host)
-}
-
 fn main(rt: HostRuntime) -> ExitCode {
     let alloc = rt.alloc();
     let Ok(words) = words(&rt, alloc) else {
         return ExitCode::from(OUT_OF_MEMORY);
     };
-    let words = words.as_slice();
-    let output = RealSink::start(rt.stdout());
-    let status = match config_path(words) {
+    let Ok(own) = rt.clone() else {
+        return ExitCode::from(OUT_OF_MEMORY);
+    };
+    let (output, binder) = (RealSink::start(rt.stdout()), RealHost::start(own));
+    let status = match config_path(words.as_slice()) {
         Some(path) => {
-            let input = RealSource::start(LazyFile::start(&rt, path));
-            run_over(&rt, alloc, words, input, output)
+            let mut host = Host {
+                input: RealSource::start(LazyFile::start(&rt, path)),
+                output,
+                binder,
+                parts: None,
+            };
+            run(&rt, alloc, words.as_slice(), &mut host)
         }
-        None => run_over(&rt, alloc, words, RealSource::start(rt.stdin()), output),
+        None => {
+            let mut host = Host {
+                input: RealSource::start(rt.stdin()),
+                output,
+                binder,
+                parts: None,
+            };
+            run(&rt, alloc, words.as_slice(), &mut host)
+        }
     };
     ExitCode::from(status)
 }
