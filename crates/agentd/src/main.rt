@@ -1,14 +1,20 @@
 //! agentd: the node agent of SPIFFE.
 //!
-//! It hands its words, standard input and standard output to `wl_agent::run`, and ends with its status.
+//! It hands its words, its input, standard output and the operating system to `wl_agent::run`, and ends with its status.
+//! The input is standard input, and for `serve CONFIG` that file.
 #![tactic(auto)]
 
+mod host;
+mod lazy_file;
+
+use crate::host::RealHost;
+use crate::lazy_file::LazyFile;
 use std::alloc::{AllocGlobal, Global};
 use std::env::{Env, FillError};
 use std::process::ExitCode;
 use std::string::String;
 use wl_agent::status::OUT_OF_MEMORY;
-use wl_agent::{Host, run};
+use wl_agent::{Host, config_path, run};
 use wl_edge::{RealSink, RealSource};
 use wl_octets::Memory;
 
@@ -53,9 +59,29 @@ fn main(rt: HostRuntime) -> ExitCode {
     let Ok(words) = words(&rt, alloc) else {
         return ExitCode::from(OUT_OF_MEMORY);
     };
-    let mut host = Host {
-        input: RealSource::start(rt.stdin()),
-        output: RealSink::start(rt.stdout()),
+    let Ok(own) = rt.clone() else {
+        return ExitCode::from(OUT_OF_MEMORY);
     };
-    ExitCode::from(run(alloc, words.as_slice(), &mut host))
+    let (output, binder) = (RealSink::start(rt.stdout()), RealHost::start(own));
+    let status = match config_path(words.as_slice()) {
+        Some(path) => {
+            let mut host = Host {
+                input: RealSource::start(LazyFile::start(&rt, path)),
+                output,
+                binder,
+                parts: None,
+            };
+            run(&rt, alloc, words.as_slice(), &mut host)
+        }
+        None => {
+            let mut host = Host {
+                input: RealSource::start(rt.stdin()),
+                output,
+                binder,
+                parts: None,
+            };
+            run(&rt, alloc, words.as_slice(), &mut host)
+        }
+    };
+    ExitCode::from(status)
 }

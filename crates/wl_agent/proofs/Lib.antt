@@ -1,2 +1,4 @@
 pub mod Keeps
 pub mod Statuses
+mod Explained
+mod Words

@@ -3,3 +3,5 @@ pub mod Kept
 pub mod Lines
 pub mod Outcomes
 pub mod Ends
+pub mod ServeWords
+pub mod ServeEnds

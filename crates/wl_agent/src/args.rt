@@ -44,7 +44,7 @@ fn operands_marker(words: &[String]) -> usize
 }
 
 /// The words before the first `--`, and those behind it.
-fn split_at_marker(words: &[String]) -> (&[String], &[String])
+pub(crate) fn split_at_marker(words: &[String]) -> (&[String], &[String])
     ensures before { map string_bytes result.0.now ≡ before_dashes (map string_bytes words.now) }
     ensures behind { map string_bytes result.1.now ≡ behind_dashes (map string_bytes words.now) }
 {
@@ -63,7 +63,7 @@ fn tail(words: &[String]) -> &[String]
 }
 
 /// Whether one of the words is an option.
-fn has_flag(words: &[String]) -> bool
+pub(crate) fn has_flag(words: &[String]) -> bool
     ensures { result ≡ list_any is_option (map string_bytes words.now) }
 {
     let mut rest = words;

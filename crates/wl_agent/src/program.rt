@@ -1,4 +1,4 @@
-//! The one call.
+//! The commands that read an input and write an output.
 
 ghost use Rattle.std.specs.Prelude.{◌≡◌, ◌⊎◌, List, take, map, string_bytes, Option, Some, None, true, false, IfOk, IfErr, IfSome, IsErrOf};
 ghost use Rattle.wl_edge.specs.Edge.{Rose, Drained, Gained, GainedPrefix};
@@ -21,13 +21,6 @@ use wl_octets::{Memory, Octets};
 /// How many bytes of the input are read at most: one past the limit of a document and of a script, so that a longer one
 /// is known as such.
 pub const READ_LIMIT: usize = DOCUMENT_LIMIT + 1;
-
-/// What the program is given beside its words.
-#[derive(Drop)]
-pub struct Host<I, O> {
-    pub input: I,
-    pub output: O,
-}
 
 /// The usage.
 fn usage(alloc: Global) -> Result<Outcome, ReadFault>
@@ -94,22 +87,27 @@ fn outcome<I: Source>(alloc: Global, words: &[String], input: &mut I) -> Result<
     }
 }
 
-fn run_inner<I: Source, O: Sink>(alloc: Global, words: &[String], host: &mut Host<I, O>) -> u8
+fn run_command_inner<I: Source, O: Sink>(
+    alloc: Global,
+    words: &[String],
+    input: &mut I,
+    output: &mut O,
+) -> u8
     ensures ends { Ends (command_of (map string_bytes words.now))
         (record {
-          content = I.left host.old.input;
-          before = O.taken host.old.output;
-          after = O.taken host.new.output;
-          reads_before = I.faults host.old.input;
-          reads_after = I.faults host.new.input;
-          writes_before = O.faults host.old.output;
-          writes_after = O.faults host.new.output;
+          content = I.left input.old;
+          before = O.taken output.old;
+          after = O.taken output.new;
+          reads_before = I.faults input.old;
+          reads_after = I.faults input.new;
+          writes_before = O.faults output.old;
+          writes_after = O.faults output.new;
         }) result }
-    ensures idle { reads (command_of (map string_bytes words.now)) ≡ false → host.new.input ≡ host.old.input }
+    ensures idle { reads (command_of (map string_bytes words.now)) ≡ false → input.new ≡ input.old }
 {
-    match outcome(alloc, words, &mut host.input) {
+    match outcome(alloc, words, input) {
         Ok(outcome) => {
-            if write_all(&mut host.output, outcome.output.as_slice()) {
+            if write_all(output, outcome.output.as_slice()) {
                 outcome.status
             } else {
                 WRITE_FAILED
@@ -120,30 +118,29 @@ fn run_inner<I: Source, O: Sink>(alloc: Global, words: &[String], host: &mut Hos
     }
 }
 
-/// Runs a command: `preview SELECTOR..` writes the response of a caller with these selectors, `check` what the
-/// document holds, `replay` the transcript of the script, and `simulate SEED ENTRIES CALLERS STEPS` the counts of a
-/// simulation, for which nothing is read. The document or the script comes from `host.input`, of which at
-/// most [`READ_LIMIT`] bytes are read; all that is written goes to `host.output`. The status is one of [`crate::status`]:
-/// `DONE` where that was done; `USAGE` where the words fit no command, and then nothing is read; `DOCUMENT_FAULT` where
-/// the document or the script has a fault; `DENIED`, `NO_SVID` or `TOO_LONG` where the caller is entitled to nothing, an
-/// SVID is missing or the message is above 4,194,304 bytes; `READ_FAILED` where a read and `WRITE_FAILED` where a write
-/// failed; `OUT_OF_MEMORY`.
-pub fn run<I: Source, O: Sink>(alloc: Global, words: &[String], host: &mut Host<I, O>) -> u8
+/// Runs a command other than `serve`, as [`crate::run`] tells. The document or the script comes from `input`, of which at
+/// most [`READ_LIMIT`] bytes are read; all that is written goes to `output`.
+pub(crate) fn run_command<I: Source, O: Sink>(
+    alloc: Global,
+    words: &[String],
+    input: &mut I,
+    output: &mut O,
+) -> u8
     // each status with its cause, and what was written
     ensures sound { StatusExplains (command_of (map string_bytes words.now))
         (record {
-          content = I.left host.old.input;
-          before = O.taken host.old.output;
-          after = O.taken host.new.output;
-          reads_before = I.faults host.old.input;
-          reads_after = I.faults host.new.input;
-          writes_before = O.faults host.old.output;
-          writes_after = O.faults host.new.output;
+          content = I.left input.old;
+          before = O.taken output.old;
+          after = O.taken output.new;
+          reads_before = I.faults input.old;
+          reads_after = I.faults input.new;
+          writes_before = O.faults output.old;
+          writes_after = O.faults output.new;
         }) result }
     // the status that is due is given, but for a failed read or write and where memory runs out
-    ensures complete { StatusGiven (command_of (map string_bytes words.now)) (I.left host.old.input) result }
+    ensures complete { StatusGiven (command_of (map string_bytes words.now)) (I.left input.old) result }
     // where the words fit no command, or a simulation, nothing is read
-    ensures idle { reads (command_of (map string_bytes words.now)) ≡ false → host.new.input ≡ host.old.input }
+    ensures idle { reads (command_of (map string_bytes words.now)) ≡ false → input.new ≡ input.old }
 {
-    run_inner(alloc, words, host)
+    run_command_inner(alloc, words, input, output)
 }

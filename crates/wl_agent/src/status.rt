@@ -16,5 +16,9 @@ pub const READ_FAILED: u8 = 6;
 pub const WRITE_FAILED: u8 = 7;
 /// Memory ran out.
 pub const OUT_OF_MEMORY: u8 = 8;
+/// No first document could be had.
+pub const NO_DOCUMENT: u8 = 9;
+/// A listener, what watches its links, or the host failed.
+pub const HOST_FAILED: u8 = 10;
 /// The message is longer than a response may be.
 pub const TOO_LONG: u8 = 11;

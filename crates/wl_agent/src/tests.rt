@@ -1,9 +1,10 @@
 mod replays;
+mod serving;
 mod simulations;
 
+use crate::program::run_command;
 use crate::publication::publication;
 use crate::status::{DONE, TOO_LONG};
-use crate::{Host, run};
 use spiffe_id::SpiffeId;
 use std::alloc::{AllocGlobal, Global};
 use std::string::{String, ToString};
@@ -40,13 +41,15 @@ fn word_list(alloc: Global, words: &[&str]) -> Result<Vec<String>, Memory> {
 
 /// The status of a run over this document, and what it wrote.
 fn ran(alloc: Global, words: &[&str], document: &[u8]) -> Result<(u8, Octets), Memory> {
-    let mut host = Host {
-        input: MemorySource::start(Octets::from_slice(alloc, document)?, 64, Row::empty(alloc)),
-        output: MemorySink::start(alloc, 1_000, 100_000, 1_000, Row::empty(alloc))?,
-    };
+    let mut input = MemorySource::start(
+        Octets::from_slice(alloc, document)?,
+        64,
+        Row::empty(alloc),
+    );
+    let mut output = MemorySink::start(alloc, 1_000, 100_000, 1_000, Row::empty(alloc))?;
     let list = word_list(alloc, words)?;
-    let status = run(alloc, list.as_slice(), &mut host);
-    Ok((status, Octets::from_slice(alloc, host.output.bytes())?))
+    let status = run_command(alloc, list.as_slice(), &mut input, &mut output);
+    Ok((status, Octets::from_slice(alloc, output.bytes())?))
 }
 
 fn is_due(alloc: Global, case: &Case) -> Result<bool, Memory> {
@@ -300,13 +303,11 @@ fn failing(alloc: Global, read: u64, write: u64) -> Result<(u8, Octets), Memory>
     reads.push(read)?;
     let mut writes = Row::empty(alloc);
     writes.push(write)?;
-    let mut host = Host {
-        input: MemorySource::start(Octets::from_slice(alloc, DOC.as_bytes())?, 64, reads),
-        output: MemorySink::start(alloc, 1_000, 100_000, 10, writes)?,
-    };
+    let mut input = MemorySource::start(Octets::from_slice(alloc, DOC.as_bytes())?, 64, reads);
+    let mut output = MemorySink::start(alloc, 1_000, 100_000, 10, writes)?;
     let list = word_list(alloc, &["preview", "unix:uid:1"])?;
-    let status = run(alloc, list.as_slice(), &mut host);
-    Ok((status, Octets::from_slice(alloc, host.output.bytes())?))
+    let status = run_command(alloc, list.as_slice(), &mut input, &mut output);
+    Ok((status, Octets::from_slice(alloc, output.bytes())?))
 }
 
 /// Whether such a run ends with this status and has written this.
@@ -419,12 +420,10 @@ fn long_preview(alloc: Global, size: &Size) -> Result<(u8, usize), Memory> {
     let list = word_list(alloc, &["preview", "unix:uid:1"])?;
     let text = document_of(alloc, size.groups, size.bundles, size.entries)?;
     let document = Octets::from_slice(alloc, text.as_bytes())?;
-    let mut host = Host {
-        input: MemorySource::start(document, 65_536, Row::empty(alloc)),
-        output: MemorySink::start(alloc, 1_000, 8_000_000, 1_000_000, Row::empty(alloc))?,
-    };
-    let status = run(alloc, list.as_slice(), &mut host);
-    Ok((status, host.output.bytes().len()))
+    let mut input = MemorySource::start(document, 65_536, Row::empty(alloc));
+    let mut output = MemorySink::start(alloc, 1_000, 8_000_000, 1_000_000, Row::empty(alloc))?;
+    let status = run_command(alloc, list.as_slice(), &mut input, &mut output);
+    Ok((status, output.bytes().len()))
 }
 
 #[test]
