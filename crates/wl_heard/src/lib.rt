@@ -2,5 +2,7 @@
 #![tactic(auto)]
 
 mod laws;
+#[cfg(test)]
+mod tests;
 
 pub use laws::{clients_hear_sessions, data_is_read, sessions_are_read, talks_are_read};
