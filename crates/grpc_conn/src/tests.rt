@@ -158,49 +158,32 @@ fn is_ready(
     Ok(true)
 }
 
+/// Whether a health check with this body is ready, for this service.
+fn is_check_ready(alloc: Global, body: &[u8], service: &[u8]) -> Result<bool, Memory> {
+    let service = Request::Health(Octets::from_slice(alloc, service)?);
+    is_ready(alloc, HEALTH, body, Method::HealthCheck, &service)
+}
+
 #[test]
 fn ready_calls(rt: HostRuntime) -> Result<(), Fail> {
-    let alloc = rt.alloc();
-    assert!(rt;
-        is_ready(
-            alloc,
-            X509,
-            b"\0\0\0\0\0",
-            Method::X509Svid,
-            &Request::Plain
-        )?
-    );
-    assert!(rt;
-        is_ready(
-            alloc,
-            X509,
-            b"\0\0\0\0\x02\x08\x01",
-            Method::X509Svid,
-            &Request::Plain
-        )?
-    );
-    let jwt = jwt_request(alloc)?;
-    assert!(rt;
-        is_ready(
-            alloc,
-            JWT,
-            b"\0\0\0\0\x13\x0a\x01x\x12\x0espiffe://a.b/w",
-            Method::JwtSvid,
-            &jwt
-        )?
-    );
-    let service = Request::Health(Octets::from_slice(alloc, b"x")?);
-    assert!(rt;
-        is_ready(
-            alloc,
-            HEALTH,
-            b"\0\0\0\0\x03\x0a\x01x",
-            Method::HealthCheck,
-            &service
-        )?
-    );
-    let whole = Request::Health(Octets::empty(alloc));
-    assert!(rt; is_ready(alloc, HEALTH, b"\0\0\0\0\0", Method::HealthCheck, &whole)?);
+    for body in [b"\0\0\0\0\0".as_slice(), b"\0\0\0\0\x02\x08\x01"] {
+        assert!(rt; is_ready(rt.alloc(), X509, body, Method::X509Svid, &Request::Plain)?);
+    }
+    Ok(())
+}
+
+#[test]
+fn ready_jwt_calls(rt: HostRuntime) -> Result<(), Fail> {
+    let jwt = jwt_request(rt.alloc())?;
+    let body = b"\0\0\0\0\x13\x0a\x01x\x12\x0espiffe://a.b/w";
+    assert!(rt; is_ready(rt.alloc(), JWT, body, Method::JwtSvid, &jwt)?);
+    Ok(())
+}
+
+#[test]
+fn ready_checks(rt: HostRuntime) -> Result<(), Fail> {
+    assert!(rt; is_check_ready(rt.alloc(), b"\0\0\0\0\x03\x0a\x01x", b"x")?);
+    assert!(rt; is_check_ready(rt.alloc(), b"\0\0\0\0\0", b"")?);
     Ok(())
 }
 
@@ -422,46 +405,91 @@ fn heads_of_clients(rt: HostRuntime) -> Result<(), Fail> {
     Ok(())
 }
 
+/// What a piece of a body comes to.
+#[derive(Clone, Copy)]
+enum Due {
+    Nothing,
+    /// A refusal by its flag.
+    Flag,
+    /// A call that is decided.
+    Decided,
+}
+
+fn is_event(event: &CallEvent, due: Due) -> bool {
+    match due {
+        Due::Nothing => *event == CallEvent::Nothing,
+        Due::Flag => *event == CallEvent::Refuse(Refusal::Flag),
+        Due::Decided => event.is_decided(),
+    }
+}
+
+/// Whether each of these pieces on these streams comes to what is due.
+fn come_to(
+    alloc: Global,
+    calls: &mut Calls,
+    pieces: &[(u32, &[u8], bool, Due)],
+) -> Result<bool, Memory> {
+    for (stream, piece, ends, due) in pieces {
+        let event = calls.body(alloc, *stream, piece, *ends)?;
+        if !is_event(&event, *due) {
+            return Ok(false);
+        }
+    }
+    Ok(true)
+}
+
+/// Whether a call begins with its head.
+fn begins(alloc: Global, calls: &mut Calls, stream: u32) -> Result<bool, Memory> {
+    let headers = list(alloc, X509)?;
+    Ok(calls.head(alloc, stream, headers.as_slice(), false)? == CallEvent::Nothing)
+}
+
+/// The length of the message with which a call is ready, after these bytes and then zeros, a half of them at a time.
+fn length_after(alloc: Global, calls: &mut Calls, start: &[u8]) -> Result<Option<usize>, Memory> {
+    let half = vec![in alloc; 0u8; 16_382]?;
+    let pieces = [
+        (5, start, false, Due::Nothing),
+        (5, half.as_slice(), false, Due::Nothing),
+    ];
+    if !come_to(alloc, calls, &pieces)? {
+        return Ok(None);
+    }
+    match calls.body(alloc, 5, half.as_slice(), true)? {
+        CallEvent::Ready {
+            method: Method::X509Svid,
+            message,
+            ..
+        } => Ok(Some(message.len())),
+        _ => Ok(None),
+    }
+}
+
 /// A message of the most bytes that a request may have: one unknown field.
 #[test]
 fn longest_request(rt: HostRuntime) -> Result<(), Fail> {
-    let alloc = rt.alloc();
-    let mut calls = Calls::start(alloc)?;
-    let headers = list(alloc, X509)?;
-    assert!(rt; calls.head(alloc, 5, headers.as_slice(), false)? == CallEvent::Nothing);
-    let start = b"\0\0\0\x80\0\x7a\xfc\xff\x01";
-    assert!(rt; calls.body(alloc, 5, start, false)? == CallEvent::Nothing);
-    let half = vec![in alloc; 0u8; 16_382]?;
-    assert!(rt; calls.body(alloc, 5, half.as_slice(), false)? == CallEvent::Nothing);
-    match calls.body(alloc, 5, half.as_slice(), true)? {
-        CallEvent::Ready {
-            method,
-            message,
-            ..
-        } => {
-            assert_eq!(rt; method, Method::X509Svid);
-            assert_eq!(rt; message.len(), 32_768);
-        }
-        _ => return Err(Fail::from("not ready")),
-    }
+    let mut calls = Calls::start(rt.alloc())?;
+    assert!(rt; begins(rt.alloc(), &mut calls, 5)?);
+    let length = length_after(rt.alloc(), &mut calls, b"\0\0\0\x80\0\x7a\xfc\xff\x01")?;
+    assert_eq!(rt; length, Some(32_768));
     Ok(())
 }
+
+const SIDE_BY_SIDE: [(u32, &[u8], bool, Due); 5] = [
+    (1, b"\0\0", false, Due::Nothing),
+    (3, b"\x01", false, Due::Flag),
+    (3, b"\x01", true, Due::Nothing),
+    (5, b"\x01", true, Due::Nothing),
+    (1, b"\0\0\0", true, Due::Decided),
+];
 
 /// Two calls side by side, each told of its own bytes alone, and once.
 #[test]
 fn calls_side_by_side(rt: HostRuntime) -> Result<(), Fail> {
-    let alloc = rt.alloc();
-    let headers = list(alloc, X509)?;
-    let mut calls = Calls::start(alloc)?;
-    assert!(rt; calls.head(alloc, 1, headers.as_slice(), false)? == CallEvent::Nothing);
-    assert!(rt; calls.head(alloc, 3, headers.as_slice(), false)? == CallEvent::Nothing);
-    assert!(rt; calls.body(alloc, 1, b"\0\0", false)? == CallEvent::Nothing);
-    assert!(rt; calls.body(alloc, 3, b"\x01", false)? == CallEvent::Refuse(Refusal::Flag));
-    assert!(rt; calls.body(alloc, 3, b"\x01", true)? == CallEvent::Nothing);
-    assert!(rt; calls.body(alloc, 5, b"\x01", true)? == CallEvent::Nothing);
-    assert!(rt; calls.body(alloc, 1, b"\0\0\0", true)?.is_decided());
+    let mut calls = Calls::start(rt.alloc())?;
+    assert!(rt; begins(rt.alloc(), &mut calls, 1)? && begins(rt.alloc(), &mut calls, 3)?);
+    assert!(rt; come_to(rt.alloc(), &mut calls, &SIDE_BY_SIDE)?);
     calls.gone(1);
-    assert!(rt; calls.body(alloc, 1, b"\x01", true)? == CallEvent::Nothing);
+    assert!(rt; come_to(rt.alloc(), &mut calls, &[(1, b"\x01", true, Due::Nothing)])?);
     Ok(())
 }
 
