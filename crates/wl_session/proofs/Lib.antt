@@ -7,6 +7,8 @@ mod Views
 mod Sizes
 mod Framing
 mod Feeding
+mod Samples
+mod Holding
 pub mod Following
 mod Refusals
 mod Streams
