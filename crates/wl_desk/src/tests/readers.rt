@@ -14,10 +14,10 @@ use wl_publish::Pass;
 use wl_snapshot::Snapshot;
 
 /// How often the desk claims, installs and syncs.
-const ROUNDS: u64 = 150;
+const ROUNDS: u64 = 10_000;
 
 /// How often each reader reads.
-const READS: u32 = 1_000;
+const READS: u32 = 200_000;
 
 /// Whether the text is this number's digits.
 fn says(alloc: Global, text: &Octets, number: u64) -> Result<bool, AllocError> {
