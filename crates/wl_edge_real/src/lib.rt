@@ -1,4 +1,4 @@
-//! The outside as the operating system has it: Unix sockets, a poll and its waker, the clock.
+//! The outside as the operating system has it: Unix sockets, a poll and its waker, the clock, the words of a command line.
 //!
 //! Each thing keeps the counts that its trait asks for and tells no content. What a socket gives or takes, and when a
 //! wait ends, is the operating system's: this crate is the trusted edge.
@@ -7,6 +7,7 @@
 mod bell;
 mod binding;
 mod clock;
+mod command_line;
 mod dialed;
 mod gate;
 mod link;
@@ -19,6 +20,7 @@ mod upstream;
 pub use bell::RealBell;
 pub use binding::{BindFault, bind, bind_all};
 pub use clock::RealClock;
+pub use command_line::words;
 pub use dialed::DialedLink;
 pub use gate::RealGate;
 pub use link::RealLink;
