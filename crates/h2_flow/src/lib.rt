@@ -8,6 +8,7 @@
 mod block;
 mod flow;
 mod laws;
+mod message;
 mod outbox;
 mod overflow;
 mod pull;
