@@ -12,6 +12,7 @@ mod message;
 mod outbox;
 mod overflow;
 mod pull;
+mod room;
 mod stream;
 mod streams;
 #[cfg(test)]

@@ -12,6 +12,7 @@ use crate::flow::{Flow, TableSizeUpdate};
 use crate::message::Message;
 use crate::overflow::Overflow;
 use crate::pull::take_rounds;
+use crate::room::make_room;
 use crate::stream::Stream;
 use crate::streams;
 use crate::streams::{credit, has_in, open_in, raise, take_out, written_in};
@@ -299,6 +300,7 @@ impl Outbox {
             return Err(Memory);
         }
         self.failed = true;
+        make_room(self.alloc, self.flow, self.streams.as_slice(), out);
         out.push_slice(self.control.as_slice())?;
         let mut flow = self.flow;
         take_rounds(&mut flow, self.streams.as_mut_slice(), out, ended)?;
