@@ -11,7 +11,7 @@ use crate::control::{close, queue_reset};
 use crate::state::State;
 use hpack::encode_plain;
 use std::alloc::Global;
-use wl_octets::{Header, Memory, Octets};
+use wl_octets::{Header, Memory, Octets, Shared};
 
 /// Whether a stream is live, and its last block was not given.
 fn takes(state: &State, stream: u32) -> bool
@@ -64,6 +64,16 @@ pub fn offer(state: &mut State, stream: u32, message: Octets)
 {
     if takes(state, stream) {
         state.outbox.offer(stream, message);
+    }
+}
+
+#[tactic(auto, unfolding(crate::specs::Conns::with_message_on))]
+pub fn offer_shared(state: &mut State, stream: u32, message: Shared<Octets>)
+    requires { 0 < length message }
+    ensures { state.new ≡ with_message_on stream message state.old }
+{
+    if takes(state, stream) {
+        state.outbox.offer_shared(stream, message);
     }
 }
 

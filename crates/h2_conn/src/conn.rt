@@ -27,7 +27,7 @@ use hpack::Decoder;
 use std::alloc::Global;
 use std::marker::Model;
 use std::mem;
-use wl_octets::{Header, Memory, Octets, Row};
+use wl_octets::{Header, Memory, Octets, Row, Shared};
 
 /// A connection of HTTP/2, as a server sees its peer (RFC 9113).
 ///
@@ -280,6 +280,17 @@ impl Conn {
     {
         if let Phase::Open(state) = &mut self.phase {
             answers::offer(state, stream, message);
+        }
+    }
+
+    /// The same of a message that other streams share.
+    #[tactic(auto, using(crate::proofs::Sounds::s_offered_on))]
+    pub fn offer_shared(&mut self, stream: u32, message: Shared<Octets>)
+        requires { 0 < length message }
+        ensures { self.new ≡ offers stream message self.old }
+    {
+        if let Phase::Open(state) = &mut self.phase {
+            answers::offer_shared(state, stream, message);
         }
     }
 

@@ -1,3 +1,4 @@
+pub mod Messages
 pub mod Windows
 pub mod Streams
 pub mod Pulls

@@ -8,9 +8,11 @@
 mod block;
 mod flow;
 mod laws;
+mod message;
 mod outbox;
 mod overflow;
 mod pull;
+mod room;
 mod stream;
 mod streams;
 #[cfg(test)]

@@ -9,15 +9,17 @@ ghost use Rattle.h2_flow.specs.Outboxes.{Out, new_outbox, with_failure, has_stre
 
 use crate::block::Block;
 use crate::flow::{Flow, TableSizeUpdate};
+use crate::message::Message;
 use crate::overflow::Overflow;
 use crate::pull::take_rounds;
+use crate::room::make_room;
 use crate::stream::Stream;
 use crate::streams;
 use crate::streams::{credit, has_in, open_in, raise, take_out, written_in};
 use h2_wire::limit::{INITIAL_WINDOW_SIZE, MAX_LIVE_STREAMS, MAX_WINDOW_SIZE};
 use std::alloc::Global;
 use std::marker::Model;
-use wl_octets::{Memory, Octets, Row};
+use wl_octets::{Memory, Octets, Row, Shared};
 
 /// What is to be written on a connection: control frames, and for at most 16 streams a head
 /// block, messages and trailers.
@@ -199,15 +201,31 @@ impl Outbox {
         streams::head(self.streams.as_mut_slice(), stream, Block::new(block));
     }
 
+    #[tactic(auto, using(crate::proofs::Places::open_there), unfolding(crate::specs::Outboxes::with_message))]
+    fn offer_message(&mut self, stream: u32, message: Message)
+        requires { is_open stream self.old ≡ true }
+        ensures { self.new ≡ with_message stream message self.old }
+    {
+        streams::offer(self.streams.as_mut_slice(), stream, message);
+    }
+
     /// Offers a stream a message, which isn't empty. Where it equals the message that began
     /// last there, one that waits is withdrawn; else it takes that one's place.
-    #[tactic(auto, using(crate::proofs::Places::open_there), unfolding(crate::specs::Outboxes::with_message))]
     pub fn offer(&mut self, stream: u32, message: Octets)
         requires open { is_open stream self.old ≡ true }
         requires some { 0 < length message }
         ensures { self.new ≡ with_message stream message self.old }
     {
-        streams::offer(self.streams.as_mut_slice(), stream, message);
+        self.offer_message(stream, Message::own(message));
+    }
+
+    /// The same of a message that other streams share. It takes no memory.
+    pub fn offer_shared(&mut self, stream: u32, message: Shared<Octets>)
+        requires open { is_open stream self.old ≡ true }
+        requires some { 0 < length message }
+        ensures { self.new ≡ with_message stream message self.old }
+    {
+        self.offer_message(stream, Message::common(message));
     }
 
     /// Withdraws a stream's waiting message, if it has one. A message whose first byte was
@@ -282,6 +300,7 @@ impl Outbox {
             return Err(Memory);
         }
         self.failed = true;
+        make_room(self.alloc, self.flow, self.streams.as_slice(), out);
         out.push_slice(self.control.as_slice())?;
         let mut flow = self.flow;
         take_rounds(&mut flow, self.streams.as_mut_slice(), out, ended)?;

@@ -5,8 +5,8 @@ ghost use Rattle.h2_wire.specs.declared.limit.TheConstants.{MAX_WINDOW_SIZE};
 ghost use Rattle.h2_flow.specs.Outboxes.{new_stream, with_offer};
 
 use crate::block::Block;
+use crate::message::Message;
 use std::alloc::Global;
-use wl_octets::Octets;
 
 /// A stream that is there.
 #[derive(Drop)]
@@ -18,11 +18,11 @@ pub struct Stream {
     /// The head block that is due.
     pub head: Option<Block>,
     /// The message that began last, or nothing: no message is empty.
-    pub last: Octets,
+    pub last: Message,
     /// How many of its bytes were written.
     pub sent: usize,
     /// The message behind it.
-    pub waiting: Option<Octets>,
+    pub waiting: Option<Message>,
     /// The block that ends the stream, where that is due.
     pub trailers: Option<Block>,
     /// Whether its last block was given.
@@ -40,7 +40,7 @@ impl Stream {
             number,
             credit: 0,
             head: None,
-            last: Octets::empty(alloc),
+            last: Message::empty(alloc),
             sent: 0,
             waiting: None,
             trailers: None,
@@ -58,7 +58,7 @@ impl Stream {
     }
 
     /// Has a message wait, or none where it is the last one again.
-    pub fn offer(&mut self, message: Octets)
+    pub fn offer(&mut self, message: Message)
         ensures { self.new ≡ with_offer message self.old }
     {
         if message == self.last {

@@ -7,8 +7,8 @@ ghost use Rattle.h2_flow.specs.Outboxes.{is_number, update_stream, credit_of, wi
 ghost use Rattle.h2_flow.specs.declared.stream.Stream.{Stream};
 
 use crate::block::Block;
+use crate::message::Message;
 use crate::stream::Stream;
-use wl_octets::Octets;
 
 /// The place of the stream of this number, which is there.
 #[tactic(auto, using(crate::proofs::Places::is_within, crate::proofs::Places::before_first, crate::proofs::Places::before_next, crate::proofs::Places::before_changed, crate::proofs::Places::before_credit))]
@@ -57,7 +57,7 @@ pub(crate) fn head(streams: &mut [Stream], number: u32, block: Block)
 }
 
 /// Has a message wait on a stream that is there, or none where it is the last one again.
-pub(crate) fn offer(streams: &mut [Stream], number: u32, message: Octets)
+pub(crate) fn offer(streams: &mut [Stream], number: u32, message: Message)
     requires { list_any (is_number number) streams.old ≡ true }
     ensures { streams.new ≡ update_stream number (with_offer message) streams.old }
 {

@@ -3,7 +3,7 @@
 use crate::{Outbox, Overflow};
 use std::alloc::{AllocGlobal, Global};
 use std::test::Fail;
-use wl_octets::{Memory, Octets, Row};
+use wl_octets::{Memory, Octets, Row, Shared};
 
 /// The head block of a response with its frame on stream 1.
 const HEAD: &[u8] = b"\0\0\x14\x01\x04\0\0\0\x01\x88\x0f\x10\x10application/grpc";
@@ -377,10 +377,27 @@ fn lowest_overflow(rt: HostRuntime) -> Result<(), Fail> {
     Ok(())
 }
 
-/// Whether stream 3 and then stream 1 take this message.
+/// Whether a stream takes this message, which others share.
+fn takes_share(
+    outbox: &mut Outbox,
+    stream: u32,
+    message: &Shared<Octets>,
+) -> Result<bool, Memory> {
+    if !outbox.is_open(stream) || message.part().len() == 0 {
+        return Ok(false);
+    }
+    outbox.offer_shared(stream, message.share()?);
+    Ok(true)
+}
+
+/// Whether stream 3 and then stream 1 take this message, which they share.
 fn take_both(alloc: Global, outbox: &mut Outbox, message: &[u8]) -> Result<bool, Memory> {
-    let third = takes_message(alloc, outbox, 3, message)?;
-    let first = takes_message(alloc, outbox, 1, message)?;
+    let message = match Shared::new(alloc, Octets::from_slice(alloc, message)?) {
+        Ok(message) => message,
+        Err((_, memory)) => return Err(memory),
+    };
+    let third = takes_share(outbox, 3, &message)?;
+    let first = takes_share(outbox, 1, &message)?;
     Ok(third && first)
 }
 
