@@ -1,5 +1,5 @@
 -- Talks that agree.
-use Rattle.std.proofs.Common.{◌≡◌, ℕ, ◌==◌, Bool, true, false, if◌then◌else◌, List, [], ◌∷◌, ◌++◌, Option, None, refl, sym, ap, ◌∙◌}
+use Rattle.std.proofs.Common.{arith, ◌≡◌, ℕ, zero, suc, ◌<◌, length, get_or, ◌==◌, Bool, true, false, if◌then◌else◌, List, [], ◌∷◌, ◌++◌, Option, None, refl, sym, ap, ◌∙◌, subst}
 use Rattle.std.proofs.lemmas.List.{append-nil}
 use Rattle.h2_frame.specs.declared.fault.FrameFault.{FrameFault}
 use Rattle.h2_frame.specs.declared.frame.Frame.{Frame}
@@ -185,7 +185,17 @@ unfolding calls_turn
 calls_seen x [] p = tt
 calls_seen x (c ∷ cs) p = seen_append x (call_turn x c p).kept (calls_turn x cs (call_turn x c p).phase).kept (call_seen x c p) (calls_seen x cs (call_turn x c p).phase)
 
+-- so far too
+pub so_far_seen : (x : Publication) (cs : List ServedCall) (p q : Phase) (kept : List ServedCall) → calls_turn x cs p ≡ record { phase = q; kept = kept } → HaveSeen x kept
+so_far_seen x cs p q kept is = subst (λ (r : Turned). HaveSeen x r.kept) is (calls_seen x cs p)
+
 -- a turn twice is a turn once
 pub twice : (x : Publication) (t : Talking) → turn_said x (turn_said x t).after ≡ silent (turn_said x t).after
 unfolding turn_said written
 twice x t = again x _ (written_quiet None (with_turned t (calls_turn x t.served t.phase))) (calls_seen x t.served t.phase)
+
+-- one of those that were answered on their views
+pub one_seen : (x : Publication) (cs : List ServedCall) (i : ℕ) (c : ServedCall) → i < length cs → c ≡ get_or cs i c → HaveSeen x cs → HasSeen x c.stage
+one_seen x [] i c within is seen = absurd (omega (arith, within))
+one_seen x (b ∷ cs) zero c within is seen = subst (λ (d : ServedCall). HasSeen x d.stage) (sym is) seen.0
+one_seen x (b ∷ cs) (suc i) c within is seen = one_seen x cs i c (omega (arith, within)) is seen.1

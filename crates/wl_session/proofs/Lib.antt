@@ -12,6 +12,7 @@ mod Holding
 pub mod Following
 mod Refusals
 mod Streams
+mod Orders
 mod Completing
 mod Answered
 pub mod Attesting

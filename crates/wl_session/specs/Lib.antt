@@ -1,6 +1,7 @@
 pub mod Queues
 pub mod Kinds
 pub mod Answering
+pub mod Making
 pub mod Tokens
 pub mod Talks
 pub mod Sessions

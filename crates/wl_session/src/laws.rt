@@ -1,8 +1,11 @@
 //! What holds of the definitions alone.
 
-ghost use Rattle.std.specs.Prelude.{◌≡◌, ◌++◌, ℕ, List};
+ghost use Rattle.std.specs.Prelude.{◌≡◌, ◌++◌, ◌∷◌, ℕ, List};
 ghost use Rattle.h2_frame.specs.Reading.{End, reading_from};
+ghost use Rattle.h2_conn.specs.declared.phase.Phase.{Phase};
 ghost use Rattle.wl_snapshot.specs.Snapshots.{Publication};
+ghost use Rattle.wl_session.specs.declared.served.ServedCall.{ServedCall};
+ghost use Rattle.wl_session.specs.Answering.{call_turn, calls_turn};
 ghost use Rattle.wl_session.specs.Talks.{Talking, then_, silent};
 ghost use Rattle.wl_session.specs.Sessions.{fresh_session, feed_said, turn_said};
 ghost use Rattle.wl_session.specs.Agreeing.{SeeAlike, HaveSeen, IsQuiet};
@@ -31,6 +34,23 @@ pub fn turns_agree()
     ensures twice { (publication : Publication) (talk : Talking)
         → turn_said publication (turn_said publication talk).after
         ≡ silent (turn_said publication talk).after }
+{}
+
+/// Which of two calls on different streams takes its turn first decides nothing, also where each takes it on a
+/// publication of its own: what becomes of a call is the same on every connection, and the connection is the same
+/// behind both.
+#[tactic(auto, using(crate::proofs::Orders::kept_alone, crate::proofs::Orders::turns_commute, crate::proofs::Orders::calls_commute))]
+pub fn turns_commute()
+    ensures kept { (publication : Publication) (call : ServedCall) (one other : Phase)
+        → (call_turn publication call one).kept ≡ (call_turn publication call other).kept }
+    ensures two { (first second : Publication) (one other : ServedCall) (phase : Phase)
+        → (one.stream ≡ other.stream → ⊥)
+        → (call_turn first one (call_turn second other phase).phase).phase
+        ≡ (call_turn second other (call_turn first one phase).phase).phase }
+    ensures first { (publication : Publication) (one other : ServedCall) (more : List ServedCall) (phase : Phase)
+        → (one.stream ≡ other.stream → ⊥)
+        → (calls_turn publication (other ∷ one ∷ more) phase).phase
+        ≡ (calls_turn publication (one ∷ other ∷ more) phase).phase }
 {}
 
 /// A ready call that is refused on a view ends so: with status 7 exactly where it is no health call and its

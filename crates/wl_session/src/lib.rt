@@ -8,6 +8,7 @@
 mod asks;
 mod giving;
 mod laws;
+mod making;
 mod naming;
 mod queue;
 mod replies;
@@ -20,6 +21,7 @@ mod turn;
 
 pub use asks::{JwtAsk, JwtOutcome, SessionFault};
 pub use laws::{
-    answers_are_of_views, cut_anywhere, turns_agree, turns_answer_all, turns_may_follow,
+    answers_are_of_views, cut_anywhere, turns_agree, turns_answer_all, turns_commute,
+    turns_may_follow,
 };
 pub use session::Session;

@@ -7,7 +7,7 @@ ghost use Rattle.wl_session.specs.Answering.{with_head, with_message, with_last_
 use grpc_wire::{Refusal, put_message, refusal_fields, response_head, status, trailers};
 use h2_conn::Conn;
 use std::alloc::Global;
-use wl_octets::{Memory, Octets};
+use wl_octets::{Memory, Octets, Shared};
 
 /// The response head, where it was not given before.
 #[tactic(auto, unfolding(crate::specs::Answering::with_head), using(crate::proofs::Sizes::small_head))]
@@ -28,19 +28,19 @@ pub fn framed_message(
     conn: &mut Conn,
     stream: u32,
     headed: bool,
-    message: Octets,
+    message: Shared<Octets>,
 ) -> Result<(), Memory>
     requires { 0 < length message }
     ensures { OnOk result
         ((bare : List ℕ) → message ≡ framed bare → conn.new ≡ with_message stream headed bare conn.old) }
 {
     head(alloc, conn, stream, headed)?;
-    conn.offer(stream, message);
+    conn.offer_shared(stream, message);
     Ok(())
 }
 
 /// A message, behind its prefix.
-#[tactic(auto, using(crate::proofs::Framing::framed_some))]
+#[tactic(auto, using(crate::proofs::Framing::framed_some), unfolding(crate::specs::Answering::with_message))]
 pub fn message(
     alloc: Global,
     conn: &mut Conn,
@@ -53,7 +53,9 @@ pub fn message(
 {
     let mut message = Octets::empty(alloc);
     put_message(&mut message, bare)?;
-    framed_message(alloc, conn, stream, headed, message)
+    head(alloc, conn, stream, headed)?;
+    conn.offer(stream, message);
+    Ok(())
 }
 
 /// The one message, and status 0.

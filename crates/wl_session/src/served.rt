@@ -1,6 +1,9 @@
 //! Ready calls.
 
-ghost use Rattle.std.specs.Prelude.{◌≡◌, ◌<◌, ◌∷◌, ◌++◌, [], nat_lt, length, take, drop, insert, position, IfOk};
+ghost use Rattle.std.specs.Prelude.{◌≡◌, ◌<◌, true, ◌∷◌, ◌++◌, [], nat_lt, length, take, drop, insert, position, IfOk, IfSome};
+ghost use Rattle.wl_snapshot.specs.Snapshots.{Publication};
+ghost use Rattle.wl_snapshot.specs.Views.{view_in};
+ghost use Rattle.wl_session.specs.Agreeing.{HasSeen, HaveSeen};
 ghost use Rattle.wl_session.specs.Answering.{kept_of};
 ghost use Rattle.wl_session.specs.Talks.{with_served, others};
 ghost use Rattle.wl_session.specs.Kinds.{kind_of, plain_kind};
@@ -11,7 +14,7 @@ use crate::queue::Queue;
 use grpc_conn::Request;
 use grpc_wire::Method;
 use spiffe_id::SpiffeId;
-use wl_octets::{Memory, Octets, Row};
+use wl_octets::{Memory, Octets, Row, Shared};
 use wl_selector::Selectors;
 use wl_snapshot::{Method3, View};
 use workload_proto::JwtItem;
@@ -73,7 +76,7 @@ pub enum Stage {
     Ready {
         kind: CallKind,
         selectors: Selectors,
-        seen: Option<View>,
+        seen: Option<Shared<View>>,
         headed: bool,
     },
     /// It waits for tokens: for the first one, then for the rest, with those that came.
@@ -89,6 +92,45 @@ pub enum Stage {
 pub struct ServedCall {
     pub stream: u32,
     pub stage: Stage,
+}
+
+#[tactic(auto, using(list_laws::proofs::Equality::texts_are))]
+fn same_selectors(one: &Selectors, other: &Selectors) -> bool
+    ensures { result ≡ true → one.now ≡ other.now }
+{
+    one == other
+}
+
+/// The view that answered a call last, where its selectors are these.
+#[tactic(auto, using(crate::proofs::Views::seen_alike))]
+fn seen_by<'a>(call: &'a ServedCall, selectors: &Selectors) -> Option<&'a Shared<View>>
+    ensures { IfSome result (λ v. (x : Publication)
+        → HasSeen x call.now.stage → v.now ≡ view_in x selectors.now) }
+{
+    match &call.stage {
+        Stage::Ready {
+            selectors: own,
+            seen: Some(view),
+            ..
+        } if same_selectors(own, selectors) => Some(view),
+        _ => None,
+    }
+}
+
+/// The view that answered a call with these selectors last, where there is one.
+pub fn seen_with(
+    served: &[ServedCall],
+    selectors: &Selectors,
+) -> Result<Option<Shared<View>>, Memory>
+    ensures { IfOk result (λ found. IfSome found (λ v. (x : Publication)
+        → HaveSeen x served.now → v ≡ view_in x selectors.now)) }
+{
+    for call in served {
+        if let Some(view) = seen_by(call, selectors) {
+            return Ok(Some(view.share()?));
+        }
+    }
+    Ok(None)
 }
 
 /// The place of the first call on a higher stream.

@@ -27,7 +27,7 @@ use std::alloc::Global;
 use std::marker::Model;
 use std::mem;
 use wl_match::Index;
-use wl_octets::{Memory, Octets, Row};
+use wl_octets::{Memory, Octets, Row, Shared};
 use wl_selector::Selectors;
 use wl_snapshot::{Snapshot, View};
 
@@ -97,7 +97,7 @@ fn is_new(call: &ServedCall) -> bool
     }
 }
 
-fn is_new_view(seen: &Option<View>) -> bool
+fn is_new_view(seen: &Option<Shared<View>>) -> bool
     ensures { result ≡ is_new_view seen.now }
 {
     seen.is_none()

@@ -6,17 +6,20 @@ ghost use Rattle.wl_snapshot.specs.Answers.{answer_of};
 ghost use Rattle.wl_snapshot.specs.Views.{view_in};
 ghost use Rattle.wl_session.specs.Answering.{Gives, kept_of, call_answer, calls_turn, stage_turn, stream_answer, token_answer, check_answer, watch_answer, health_of};
 ghost use Rattle.wl_session.specs.Kinds.{was_seen};
+ghost use Rattle.wl_session.specs.Agreeing.{HaveSeen};
+ghost use Rattle.wl_session.specs.Making.{IsMessageOf};
 
 use crate::asks::JwtAsk;
+use crate::making::{MadeMessage, find_message, keep_message};
 use crate::queue::Queue;
 use crate::replies::{framed_message, last_message, message, refuse};
-use crate::served::{CallKind, ServedCall, Stage};
+use crate::served::{CallKind, ServedCall, Stage, seen_with};
 use grpc_wire::Refusal;
 use h2_conn::Conn;
 use std::alloc::Global;
 use wl_health::{SERVICE_UNKNOWN, encode_health, state};
 use wl_match::Index;
-use wl_octets::{Memory, Octets, Row};
+use wl_octets::{Memory, Octets, Row, Shared};
 use wl_selector::Selectors;
 use wl_snapshot::{
     Answer, Method3, Snapshot, View, Wanted, framed_answer, jwt_asks, same_view, view, view_of,
@@ -24,7 +27,7 @@ use wl_snapshot::{
 
 /// A caller's view of a publication, by the index of its entries where there is one.
 #[tactic(auto, using(crate::proofs::Views::by_places))]
-fn view_for(
+fn make_view(
     alloc: Global,
     snapshot: &Snapshot,
     index: Option<&Index>,
@@ -42,54 +45,106 @@ fn view_for(
     }
 }
 
+/// A caller's view of a publication: that of a call before it with equal selectors, or else a new one.
+fn view_for(
+    alloc: Global,
+    snapshot: &Snapshot,
+    index: Option<&Index>,
+    kept: &[ServedCall],
+    selectors: &Selectors,
+) -> Result<Shared<View>, Memory>
+    requires index { IfSome index (λ i. i.now ≡ snapshot.now.entries) }
+    requires seen { HaveSeen snapshot.now kept.now }
+    ensures { IfOk result (λ v. v ≡ view_in snapshot.now selectors.now) }
+{
+    if let Some(view) = seen_with(kept, selectors)? {
+        return Ok(view);
+    }
+    match Shared::new(alloc, make_view(alloc, snapshot, index, selectors)?) {
+        Ok(view) => Ok(view),
+        Err((_, memory)) => Err(memory),
+    }
+}
+
 /// Whether the view is the one that answered last.
-fn was_seen(seen: &Option<View>, view: &View) -> bool
+fn was_seen(seen: &Option<Shared<View>>, view: &View) -> bool
     ensures { result ≡ was_seen seen.now view.now }
 {
     match seen {
         None => false,
-        Some(old) => same_view(old, view),
+        Some(old) => same_view(old.part(), view),
     }
 }
 
-/// A streaming call of the Workload API is answered on a view.
-fn answer_stream(
+/// A streaming call is offered its message, which stands behind its gRPC prefix, and goes on.
+#[tactic(auto, using(crate::proofs::Framing::message_some, crate::proofs::Framing::offered_message))]
+fn answer_message(
     alloc: Global,
     conn: &mut Conn,
     stream: u32,
     method: Method3,
     selectors: Selectors,
     headed: bool,
-    view: View,
+    view: Shared<View>,
+    message: Shared<Octets>,
 ) -> Result<Option<Stage>, Memory>
+    requires { IsMessageOf method view message }
     ensures { Gives result stream conn.new
         (stream_answer stream method selectors view headed (answer_of method view) conn.old) }
 {
-    let answer = framed_answer(alloc, method, &view)?;
-    let headed = match answer {
-        Answer::Denied => {
-            refuse(alloc, conn, stream, headed, Refusal::NoIdentity)?;
-            return Ok(None);
-        }
-        Answer::TooLong(_) => {
-            refuse(alloc, conn, stream, headed, Refusal::LongResponse)?;
-            return Ok(None);
-        }
-        Answer::Wait => {
-            conn.withdraw(stream);
-            headed
-        }
-        Answer::Message(message) => {
-            framed_message(alloc, conn, stream, headed, message)?;
-            true
-        }
-    };
+    framed_message(alloc, conn, stream, headed, message)?;
     Ok(Some(Stage::Ready {
         kind: CallKind::Stream(method),
         selectors,
         seen: Some(view),
-        headed,
+        headed: true,
     }))
+}
+
+/// A streaming call of the Workload API is answered on a view. A message that the turn made before is not made again.
+fn answer_stream(
+    alloc: Global,
+    conn: &mut Conn,
+    made: &mut Row<MadeMessage>,
+    stream: u32,
+    method: Method3,
+    selectors: Selectors,
+    headed: bool,
+    view: Shared<View>,
+) -> Result<Option<Stage>, Memory>
+    ensures { Gives result stream conn.new
+        (stream_answer stream method selectors view headed (answer_of method view) conn.old) }
+{
+    if let Some(message) = find_message(made.as_slice(), method, view.part())? {
+        return answer_message(
+            alloc, conn, stream, method, selectors, headed, view, message,
+        );
+    }
+    match framed_answer(alloc, method, view.part())? {
+        Answer::Denied => {
+            refuse(alloc, conn, stream, headed, Refusal::NoIdentity)?;
+            Ok(None)
+        }
+        Answer::TooLong(_) => {
+            refuse(alloc, conn, stream, headed, Refusal::LongResponse)?;
+            Ok(None)
+        }
+        Answer::Wait => {
+            conn.withdraw(stream);
+            Ok(Some(Stage::Ready {
+                kind: CallKind::Stream(method),
+                selectors,
+                seen: Some(view),
+                headed,
+            }))
+        }
+        Answer::Message(message) => {
+            let message = keep_message(alloc, made, method, &view, message)?;
+            answer_message(
+                alloc, conn, stream, method, selectors, headed, view, message,
+            )
+        }
+    }
 }
 
 /// A FetchJWTSVID call asks for its tokens, or is refused where it is entitled to none.
@@ -160,11 +215,11 @@ fn answer_watch(
     service: Octets,
     selectors: Selectors,
     headed: bool,
-    view: View,
+    view: Shared<View>,
 ) -> Result<Option<Stage>, Memory>
     ensures { Gives result stream conn.new (watch_answer stream service selectors view headed conn.old) }
 {
-    let state = encode_health(alloc, health(service.as_slice(), &view))?;
+    let state = encode_health(alloc, health(service.as_slice(), view.part()))?;
     message(alloc, conn, stream, headed, state.as_slice())?;
     Ok(Some(Stage::Ready {
         kind: CallKind::Watch { service },
@@ -179,24 +234,25 @@ fn answer_watch(
 fn answer_call(
     alloc: Global,
     conn: &mut Conn,
+    made: &mut Row<MadeMessage>,
     stream: u32,
     kind: CallKind,
     selectors: Selectors,
     headed: bool,
-    view: View,
+    view: Shared<View>,
 ) -> Result<Option<Stage>, Memory>
     ensures { Gives result stream conn.new (call_answer stream kind selectors headed view conn.old) }
 {
     match kind {
         CallKind::Stream(method) => {
-            answer_stream(alloc, conn, stream, method, selectors, headed, view)
+            answer_stream(alloc, conn, made, stream, method, selectors, headed, view)
         }
         CallKind::Tokens { audience, id } => {
-            let wanted = jwt_asks(alloc, &view, id.as_ref())?;
+            let wanted = jwt_asks(alloc, view.part(), id.as_ref())?;
             answer_tokens(alloc, conn, stream, audience, wanted, headed)
         }
         CallKind::Check { service } => {
-            let state = health(service.as_slice(), &view);
+            let state = health(service.as_slice(), view.part());
             answer_check(alloc, conn, stream, headed, state)
         }
         CallKind::Watch { service } => {
@@ -209,12 +265,15 @@ fn answer_call(
 fn turn_stage(
     alloc: Global,
     conn: &mut Conn,
+    made: &mut Row<MadeMessage>,
+    kept: &[ServedCall],
     stream: u32,
     stage: Stage,
     snapshot: &Snapshot,
     index: Option<&Index>,
 ) -> Result<Option<Stage>, Memory>
-    requires { IfSome index (λ i. i.now ≡ snapshot.now.entries) }
+    requires index { IfSome index (λ i. i.now ≡ snapshot.now.entries) }
+    requires seen { HaveSeen snapshot.now kept.now }
     ensures { Gives result stream conn.new (stage_turn snapshot.now stream stage conn.old) }
 {
     match stage {
@@ -224,8 +283,8 @@ fn turn_stage(
             seen,
             headed,
         } => {
-            let view = view_for(alloc, snapshot, index, &selectors)?;
-            if was_seen(&seen, &view) {
+            let view = view_for(alloc, snapshot, index, kept, &selectors)?;
+            if was_seen(&seen, view.part()) {
                 return Ok(Some(Stage::Ready {
                     kind,
                     selectors,
@@ -233,7 +292,7 @@ fn turn_stage(
                     headed,
                 }));
             }
-            answer_call(alloc, conn, stream, kind, selectors, headed, view)
+            answer_call(alloc, conn, made, stream, kind, selectors, headed, view)
         }
         other => Ok(Some(other)),
     }
@@ -262,9 +321,19 @@ pub fn turn_all(
         (λ kept. calls_turn snapshot.now served conn.old ≡ record { phase = conn.new; kept = kept }) }
 {
     let mut kept = Row::empty(alloc);
+    let mut made = Row::empty(alloc);
     for call in served.into_vec() {
         let stream = call.stream;
-        let stage = turn_stage(alloc, conn, stream, call.stage, snapshot, index)?;
+        let stage = turn_stage(
+            alloc,
+            conn,
+            &mut made,
+            kept.as_slice(),
+            stream,
+            call.stage,
+            snapshot,
+            index,
+        )?;
         add_kept(&mut kept, stream, stage)?;
     }
     Ok(kept)

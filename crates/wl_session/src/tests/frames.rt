@@ -219,6 +219,12 @@ pub const AUDIENCE_X_3: &[u8] = b"\0\0\x08\0\x01\0\0\0\x03\0\0\0\0\x03\x0a\x01x"
 
 pub const RESPONSE_HEAD_3: &[u8] = b"\0\0\x14\x01\x04\0\0\0\x03\x88\x0f\x10\x10application/grpc";
 
+pub const DATA_M_3: &[u8] =
+    b"\0\0 \0\0\0\0\0\x03\0\0\0\0\x1b\x0a\x19\x0a\x0espiffe://a.b/w\x12\x01\x01\x1a\x01\x02\"\x01\x03";
+
+pub const DATA_CHANGED_3: &[u8] =
+    b"\0\0 \0\0\0\0\0\x03\0\0\0\0\x1b\x0a\x19\x0a\x0espiffe://a.b/w\x12\x01\x03\x1a\x01\x04\"\x01\x03";
+
 pub const DATA_TOKEN_3: &[u8] =
     b"\0\0\x1a\0\0\0\0\0\x03\0\0\0\0\x15\x0a\x13\x0a\x0espiffe://a.b/w\x12\x01t";
 

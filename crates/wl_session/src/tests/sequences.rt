@@ -167,7 +167,7 @@ pub const WINDOWS: [Sequence; 2] = [
 ];
 
 /// Second calls.
-pub const CALLS: [Sequence; 2] = [
+pub const CALLS: [Sequence; 3] = [
     Sequence {
         name: "named_transcript",
         first: FIRST,
@@ -181,6 +181,22 @@ pub const CALLS: [Sequence; 2] = [
         fourth: Round {
             state: State::Renewed,
             wrote: &[DATA_CHANGED],
+            ..IDLE
+        },
+    },
+    Sequence {
+        name: "two calls of one caller, which share each message",
+        first: FIRST,
+        second: Round {
+            caller: Caller::First,
+            fed: &[HEAD_3, EMPTY_3],
+            wrote: &[CREDIT_5, RESPONSE_HEAD_3, DATA_M_3],
+            ..IDLE
+        },
+        third: IDLE,
+        fourth: Round {
+            state: State::Renewed,
+            wrote: &[DATA_CHANGED, DATA_CHANGED_3],
             ..IDLE
         },
     },
