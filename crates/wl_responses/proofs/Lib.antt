@@ -9,10 +9,14 @@ mod Serving
 mod Frames
 mod Peers
 mod Replying
+mod Going
+mod Endings
 mod Falling
 mod Taking
 mod Attesting
 mod Cutting
 pub mod Moving
+mod Awaiting
 mod Running
 mod Living
+mod Turning

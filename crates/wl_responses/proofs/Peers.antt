@@ -34,7 +34,7 @@ use Rattle.wl_session.specs.Talks.{Talking, others, after_event, after_body, aft
 use Rattle.wl_session.specs.Completing.{CameOn}
 use Rattle.wl_responses.specs.Replies.{AnsweringTurn, Replies}
 use Rattle.wl_responses.proofs.Opened.{stands_itself}
-use Rattle.wl_responses.proofs.Outgoing.{On, OnPhase, IsUnfinished}
+use Rattle.wl_responses.specs.Statuses.{On, OnPhase, IsUnfinished}
 use Rattle.wl_responses.proofs.Writing.{Matches}
 use Rattle.wl_responses.proofs.Asides.{NoneOn}
 use Rattle.wl_responses.proofs.Owning.{StageFits, Serves}
