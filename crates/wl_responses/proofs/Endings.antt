@@ -37,12 +37,12 @@ use Rattle.wl_session.specs.declared.served.Stage.TheVariants.{Unnamed, Ready, A
 use Rattle.wl_session.specs.declared.served.ServedCall.{ServedCall}
 use Rattle.wl_session.specs.Kinds.{was_seen}
 use Rattle.wl_session.specs.Answering.{Turned, goes_on, has_ended, with_head, with_refusal, with_message, with_last_message, stream_answer, health_of, token_answer, call_answer, stage_turn, call_turn, calls_turn}
-use Rattle.wl_session.specs.Refusing.{stream_refusal, token_refusal}
+use Rattle.wl_session.specs.Refusing.{stream_refusal, token_refusal, refusal_on, NoIdentityExactly, UnknownServiceExactly}
 use Rattle.wl_session.specs.Tokens.{change_first, is_unnamed, name_call, name_stage, name_on, name_first, stream_of, is_asking, item_for, next_ask, give_call, give_on, give_first}
 use Rattle.wl_session.specs.Talks.{Talking}
 use Rattle.wl_responses.specs.Steps.{talk_after}
 use Rattle.wl_responses.specs.Replies.{stage_on}
-use Rattle.wl_responses.specs.Statuses.{On, OnPhase, IsUnfinished, Ending, GoesOn, IsRefused, IsAnswered, HasEnding, refused_or, ending_on, ending_at, is_headed, ending_named, ending_after, ending_given, TurnsGiveStatuses, NamesGiveStatuses, TokensGiveStatuses}
+use Rattle.wl_responses.specs.Statuses.{On, OnPhase, IsUnfinished, Ending, GoesOn, IsRefused, IsAnswered, HasEnding, unrefused, refused_or, ending_on, ending_at, is_headed, ending_named, ending_after, ending_given, NoStatusBefore, TurnsGiveStatuses, DeniedWhereNothingIsSeen, UnknownWhereAsked, NamesGiveStatuses, TokensGiveStatuses}
 use Rattle.wl_responses.proofs.Outgoing.{differ, withdrawn_on, message_here, withdrawn_here, trailers_here}
 use Rattle.wl_responses.proofs.Opened.{withdrawal_stands, first_stands, answer_stands}
 use Rattle.wl_responses.proofs.Asides.{NoneOn, Aside, over, on, turn_aside, calls_aside, name_aside, give_aside, first_here, first_later}
@@ -65,11 +65,11 @@ anything n (Failed fault left totals) = tt
 anything n (OutOfMemory totals) = tt
 
 -- what holds on the stream of a call
-record Stood (n : ℕ) (p : Phase) : Type 0 where
-  sound : SoundPhase p
-  unfinished : OnPhase n IsUnfinished p
+pub record Stood (n : ℕ) (p : Phase) : Type 0 where
+  pub sound : SoundPhase p
+  pub unfinished : OnPhase n IsUnfinished p
 
-refusal_ends : (n : ℕ) (headed : Bool) (r : Refusal) (p : Phase) → Stood n p → OnPhase n (HasEnding headed (IsRefused r)) (with_refusal n headed r p)
+pub refusal_ends : (n : ℕ) (headed : Bool) (r : Refusal) (p : Phase) → Stood n p → OnPhase n (HasEnding headed (IsRefused r)) (with_refusal n headed r p)
 unfolding with_refusal
 refusal_ends n headed r p h =
     trailers_here n (block_bytes (refused_fields r (not headed))) (λ s. s.waiting ≡ None) (HasEnding headed (IsRefused r)) (λ s none. ((refl, refl), none)) (withdraws n p) ((withdrawal_stands n p).sound h.sound)
@@ -242,7 +242,42 @@ found_has test (d ∷ cs) c is =
       | inr later ↦ found_has test cs c (rw later at is)
     ]
 
+-- ---- the status at a turn
+
+refused_so : (kind : CallKind) (v : Sight) (r : Refusal) (o : Option Refusal) → refused_or o (unrefused kind v) ≡ IsRefused r → o ≡ Some r
+refused_so kind v r (Some why) is = let same : why ≡ r = cc is in ap (λ (w : Refusal). Some w) same
+refused_so (Stream method) v r None is = absurd (cc is)
+refused_so (Tokens audience id) v r None is = absurd (cc is)
+refused_so (Check service) v r None is = absurd (cc is)
+refused_so (Watch service) v r None is = absurd (cc is)
+
+ended_so : (kind : CallKind) (v : Sight) (r : Refusal) → refusal_on kind v ≡ Some r → ending_on kind v ≡ IsRefused r
+ended_so kind v r is = ap (λ (o : Option Refusal). refused_or o (unrefused kind v)) is
+
+goes_so : {P : Type 0} (r : Refusal) → GoesOn ≡ IsRefused r → P
+goes_so r is = absurd (cc is)
+
+pub denied_where : NoIdentityExactly → DeniedWhereNothingIsSeen
+denied_where law x (Unnamed kind) = (λ is. goes_so NoIdentity is, λ none. absurd none)
+denied_where law x (Ready kind sel seen headed) =
+    let v = view_in x sel in
+    (λ is. (law kind v).0 (refused_so kind v NoIdentity (refusal_on kind v) is), λ sees. ended_so kind v NoIdentity ((law kind v).1 sees))
+denied_where law x (Asking first rest got) = (λ is. goes_so NoIdentity is, λ none. absurd none)
+
+pub unknown_where : UnknownServiceExactly → UnknownWhereAsked
+unknown_where law x (Unnamed kind) = (λ is. goes_so UnknownService is, λ none. absurd none)
+unknown_where law x (Ready kind sel seen headed) =
+    let v = view_in x sel in
+    (λ is. (law kind v).0 (refused_so kind v UnknownService (refusal_on kind v) is), λ asks. ended_so kind v UnknownService ((law kind v).1 asks))
+unknown_where law x (Asking first rest got) = (λ is. goes_so UnknownService is, λ none. absurd none)
+
 -- ---- laws
+
+pub none_before : NoStatusBefore
+none_before steps fit n s is =
+    let t = talk_after steps in
+    let known = (steps_go n steps fit).speaks.serves in
+    (stood n t.phase t.served known.sound (there_is n t.served s is) known.unfinished).unfinished
 
 pub turns_give : TurnsGiveStatuses
 turns_give x steps fit n s is =

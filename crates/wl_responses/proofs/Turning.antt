@@ -4,6 +4,7 @@ use Rattle.std.specs.Prelude.{IsSome, Bool, true, false}
 use Rattle.std.proofs.lemmas.List.{get_or-replicate}
 use Rattle.h2_frame.specs.Reading.{End, reading_from}
 use Rattle.h2_conn.specs.declared.fault.ConnFault.{ConnFault}
+use Rattle.h2_conn.specs.Conns.{FlushResult}
 use Rattle.wl_entry.specs.declared.tokens.JwtToken.{JwtToken}
 use Rattle.wl_snapshot.specs.Snapshots.{Publication}
 use Rattle.wl_session.specs.declared.asks.JwtAsk.{JwtAsk}
@@ -26,11 +27,12 @@ use Rattle.wl_core.specs.Moments.{Beginning, Moment, moment, publication, seat, 
 use Rattle.wl_responses.specs.Steps.{Step, talk_after, AllFit}
 use Rattle.wl_responses.specs.Moves.{Move, session_after, steps_of, HasTalk}
 use Rattle.wl_responses.specs.Statuses.{HasTurnEnding, HasTokenEnding}
-use Rattle.wl_responses.specs.Completeness.{OnTalk, stage_in, IsWritten, waits_for, BehindTurns, BehindTokens, EachIsAnswered, AllIsWritten, WaitsForAsks, AsksAreAwaited, TakesToken, TokensAreTaken, TurnsOfRunsGiveStatuses, TokensOfRunsGiveStatuses}
+use Rattle.wl_responses.specs.Completeness.{OnTalk, stage_in, IsWritten, IsKeptBack, waits_for, BehindTurns, BehindTokens, EachIsAnswered, AllIsWritten, EachIsHeldBack, WaitsForAsks, AsksAreAwaited, TakesToken, TokensAreTaken, TurnsOfRunsGiveStatuses, TokensOfRunsGiveStatuses}
 use Rattle.wl_responses.proofs.Moving.{sessions_take_steps, steps_fit}
 use Rattle.wl_responses.proofs.Running.{seat_step, seat_next}
 use Rattle.wl_responses.proofs.Living.{sessions_have_moves}
 use Rattle.wl_responses.proofs.Endings.{turns_give, tokens_give}
+use Rattle.wl_responses.proofs.Waiting.{quiet_holds}
 use Rattle.wl_responses.proofs.Awaiting.{turn_awaits, token_awaits}
 
 -- ---- a session is complete
@@ -161,6 +163,15 @@ session_written x OutOfMemory = tt
 
 pub all_is_written : AllIsWritten
 all_is_written = behind_turns (λ x old now. OnTalk IsWritten now) (λ d past conn s within is. session_written (publication d past) s.session)
+
+session_holds : (x : Publication) (s : SessionState) → OnTalk IsKeptBack (turn_told x s).after
+unfolding turn_told
+session_holds x (Running e t shown) = quiet_holds (turn_said x t).after.phase (ap (λ (f : FlushResult). f.bytes) (turn_settled x t).1)
+session_holds x (Fallen fault begun) = tt
+session_holds x OutOfMemory = tt
+
+pub each_is_held_back : EachIsHeldBack
+each_is_held_back = behind_turns (λ x old now. OnTalk IsKeptBack now) (λ d past conn s within is. session_holds (publication d past) s.session)
 
 -- what holds of the talk behind steps holds in a session with these
 in_session : (P : Talking → Type 0) → ((steps : List Step) → AllFit steps → P (talk_after steps)) → (moves : List Move) (s : SessionState) → HasTalk s (steps_of moves) → OnTalk P s

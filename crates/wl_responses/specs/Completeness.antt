@@ -1,5 +1,11 @@
 -- Each Turn of a session of the core answers all its ready calls, and each token brings a call to its next ask (own rules).
-use Rattle.std.specs.Prelude.{◌≡◌, ℕ, ◌<◌, Bool, List, [], ◌∷◌, ◌++◌, find, Option, Some, None}
+use Rattle.std.specs.Prelude.{◌≡◌, ◌⊎◌, ℕ, ◌<◌, Bool, List, [], ◌∷◌, ◌++◌, length, find, Option, Some, None}
+use Rattle.std.specs.List.{AllByRecursion}
+use Rattle.h2_flow.specs.declared.flow.Flow.{Flow}
+use Rattle.h2_flow.specs.declared.stream.Stream.{Stream}
+use Rattle.h2_flow.specs.Windows.{room_of, window_of}
+use Rattle.h2_conn.specs.declared.phase.Phase.{Phase}
+use Rattle.h2_conn.specs.declared.phase.Phase.TheVariants.{Open, Failed, OutOfMemory as Exhausted}
 use Rattle.h2_conn.specs.Conns.{flush_of}
 use Rattle.workload_proto.specs.declared.message.JwtItem.{JwtItem}
 use Rattle.wl_entry.specs.declared.tokens.JwtToken.{JwtToken}
@@ -41,9 +47,23 @@ stage_in n (Running e t shown) = stage_on n t.served
 stage_in n (Fallen fault begun) = None
 stage_in n OutOfMemory = None
 
--- whatever may be written was: a message waits behind bytes of an older one, or for a window
+-- whatever may be written was
 abbrev pub IsWritten : Talking → Type 0
 IsWritten t = flush_of t.phase ≡ record { bytes = []; after = t.phase }
+
+-- A message that waits on a stream waits behind bytes of an older one, or for a window: no window lets anything through whose
+-- sum is not above zero (RFC 9113, section 6.9).
+abbrev pub IsHeldBack : Flow → Stream → Type 0
+IsHeldBack f s =
+    (m : List ℕ) → s.waiting ≡ Some m → 0 < length m → (s.sent < length s.last) ⊎ ((f.connection_window ≡ 0) ⊎ (room_of (window_of f.initial_window_size s.credit) ≡ 0))
+
+abbrev pub HoldsBack : Phase → Type 0
+HoldsBack (Open q) = AllByRecursion (IsHeldBack q.outbox.flow) q.outbox.streams
+HoldsBack (Failed fault left totals) = Unit {0}
+HoldsBack (Exhausted totals) = Unit {0}
+
+abbrev pub IsKeptBack : Talking → Type 0
+IsKeptBack t = HoldsBack t.phase
 
 -- a FetchJWTSVID call waits for the first of its asks, and then for the others; where it has none it has ended
 abbrev pub waits_for : ℕ → List (List ℕ) → List Wanted → List JwtItem → Option Stage
@@ -73,6 +93,10 @@ EachIsAnswered = BehindTurns (λ x old now. AllAnswered x now)
 
 abbrev pub AllIsWritten : Type 0
 AllIsWritten = BehindTurns (λ x old now. OnTalk IsWritten now)
+
+-- one that waits cannot begin
+abbrev pub EachIsHeldBack : Type 0
+EachIsHeldBack = BehindTurns (λ x old now. OnTalk IsKeptBack now)
 
 -- each ready FetchJWTSVID waits for exactly the asks of its view
 abbrev pub WaitsForAsks : Publication → SessionState → SessionState → Type 0

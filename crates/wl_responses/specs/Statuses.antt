@@ -1,16 +1,26 @@
 -- The last block that the stream of a call is given, and with it the status of the call (gRPC over HTTP/2, Responses; SPIFFE
 -- Workload API; own rules after the SPIRE agent).
-use Rattle.std.specs.Prelude.{◌≡◌, ℕ, nat_lt, Bool, true, false, not, if◌then◌else◌, List, [], ◌∷◌, ◌++◌, length, find, Option, Some, None}
+use Rattle.std.specs.Prelude.{◌≡◌, ◌↔◌, ℕ, nat_lt, Bool, true, false, not, if◌then◌else◌, List, [], ◌∷◌, ◌++◌, length, find, Option, Some, None}
 use Rattle.std.specs.List.{AllByRecursion}
 use Rattle.hpack.specs.Writing.{block_bytes}
 use Rattle.h2_flow.specs.declared.stream.Stream.{Stream}
 use Rattle.h2_conn.specs.declared.phase.Phase.{Phase}
 use Rattle.h2_conn.specs.declared.phase.Phase.TheVariants.{Open, Failed, OutOfMemory}
+use Rattle.h2_conn.specs.declared.happening.Happening.{Happening}
+use Rattle.h2_conn.specs.declared.happening.Happening.TheVariants as happening
+use Rattle.h2_conn.specs.Conns.{frame_result}
 use Rattle.h2_conn.specs.Holding.{IsHeld}
+use Rattle.h2_conn.specs.Kinds.{Fits}
+use Rattle.grpc_conn.specs.declared.event.CallEvent.{CallEvent}
+use Rattle.grpc_conn.specs.declared.event.CallEvent.TheVariants.{Nothing, Refuse}
+use Rattle.grpc_conn.specs.declared.standing.Call.{Call}
+use Rattle.grpc_conn.specs.Verdicts.{verdict}
+use Rattle.grpc_conn.specs.Calls.{standing_at, event_at}
+use Rattle.h2_frame.specs.declared.frame.Frame.{Frame}
 use Rattle.grpc_wire.specs.Messages.{framed}
 use Rattle.grpc_wire.specs.Answers.{trailer_fields, refused_fields}
 use Rattle.grpc_wire.specs.declared.refusal.Refusal.{Refusal}
-use Rattle.grpc_wire.specs.declared.refusal.Refusal.TheVariants.{LongResponse, Unsigned, Unattested}
+use Rattle.grpc_wire.specs.declared.refusal.Refusal.TheVariants.{NoIdentity, LongResponse, UnknownService, Unsigned, Unattested}
 use Rattle.workload_proto.specs.declared.limits.TheConstants.{MAX_RESPONSE_LEN}
 use Rattle.workload_proto.specs.declared.message.JwtItem.{JwtItem}
 use Rattle.workload_proto.specs.Spelling.{spell_jwt, capped}
@@ -26,10 +36,10 @@ use Rattle.wl_session.specs.declared.served.CallKind.TheVariants.{Stream as Stre
 use Rattle.wl_session.specs.declared.served.Stage.{Stage}
 use Rattle.wl_session.specs.declared.served.Stage.TheVariants.{Unnamed, Ready, Asking}
 use Rattle.wl_session.specs.Answering.{health_of}
-use Rattle.wl_session.specs.Refusing.{refusal_on}
+use Rattle.wl_session.specs.Refusing.{refusal_on, SeesNothing, AsksUnknown}
 use Rattle.wl_session.specs.Tokens.{first_unnamed, is_asking, item_for}
 use Rattle.wl_session.specs.Talks.{Talking}
-use Rattle.wl_responses.specs.Steps.{Step, CallAttested, TurnTaken, OutcomeCame, talk_after, unwritten, AllFit}
+use Rattle.wl_responses.specs.Steps.{Step, FrameCame, CallAttested, TurnTaken, OutcomeCame, talk_after, unwritten, AllFit}
 use Rattle.wl_responses.specs.Replies.{stage_on}
 
 -- ---- the stream of a call
@@ -70,6 +80,28 @@ HasEnding headed GoesOn s = IsUnfinished s
 HasEnding headed (IsRefused r) s = IsGivenNext (block_bytes (refused_fields r (not headed))) s
 HasEnding headed (IsAnswered message) s = IsGivenLast (block_bytes (trailer_fields 0 [] false)) s × IsHeld (framed message) s.waiting s.last
 
+-- ---- at its verdict
+
+-- the stream of which a frame told
+abbrev pub stream_told : Happening → ℕ
+stream_told (happening.Head n headers ended) = n
+stream_told (happening.Body n bytes ended) = n
+stream_told (happening.End n) = n
+stream_told (happening.Gone n) = n
+
+-- what it comes to for the call on that stream
+abbrev pub event_told : Happening → List Call → CallEvent
+event_told (happening.Head n headers ended) calls = verdict headers [] ended
+event_told (happening.Body n bytes ended) calls = event_at (standing_at n calls) bytes ended
+event_told (happening.End n) calls = event_at (standing_at n calls) [] true
+event_told (happening.Gone n) calls = Nothing
+
+-- a call that its verdict refuses
+abbrev pub HasVerdictEnding : Frame → Talking → Type 0
+HasVerdictEnding f t =
+    (told : Happening) (r : Refusal) → (frame_result t.phase f).told ≡ told ∷ [] → event_told told t.calls ≡ Refuse r
+    → OnPhase (stream_told told) (HasEnding false (IsRefused r)) (unwritten (FrameCame f) t)
+
 -- ---- at a turn
 
 -- a Check that is not refused has its one answer; each other call goes on
@@ -101,6 +133,18 @@ is_headed (Asking first rest got) = false
 -- each call behind a turn, before anything is written
 abbrev pub HasTurnEnding : Publication → Talking → Type 0
 HasTurnEnding x t = (n : ℕ) (s : Stage) → stage_on n t.served ≡ Some s → OnPhase n (HasEnding (is_headed s) (ending_at x s)) (unwritten (TurnTaken x) t)
+
+-- a call that is no health call, of a caller that sees no entry, or asks for no token
+abbrev pub SeesNothingAt : Publication → Stage → Type 0
+SeesNothingAt x (Unnamed kind) = ⊥
+SeesNothingAt x (Ready kind sel seen headed) = SeesNothing kind (view_in x sel)
+SeesNothingAt x (Asking first rest got) = ⊥
+
+-- a Check of a service that is not known
+abbrev pub AsksUnknownAt : Publication → Stage → Type 0
+AsksUnknownAt x (Unnamed kind) = ⊥
+AsksUnknownAt x (Ready kind sel seen headed) = AsksUnknown kind (view_in x sel)
+AsksUnknownAt x (Asking first rest got) = ⊥
 
 -- ---- at a name
 
@@ -138,8 +182,23 @@ HasTokenEnding o t =
 
 -- ---- laws
 
+-- a ready call was not given its last block
+abbrev pub NoStatusBefore : Type 0
+NoStatusBefore = (steps : List Step) → AllFit steps → (n : ℕ) (s : Stage) → stage_on n (talk_after steps).served ≡ Some s → OnPhase n IsUnfinished (talk_after steps).phase
+
+abbrev pub VerdictsGiveStatuses : Type 0
+VerdictsGiveStatuses = (f : Frame) (steps : List Step) → Fits f → AllFit steps → HasVerdictEnding f (talk_after steps)
+
 abbrev pub TurnsGiveStatuses : Type 0
 TurnsGiveStatuses = (x : Publication) (steps : List Step) → AllFit steps → HasTurnEnding x (talk_after steps)
+
+-- status 7 exactly where a call sees nothing
+abbrev pub DeniedWhereNothingIsSeen : Type 0
+DeniedWhereNothingIsSeen = (x : Publication) (s : Stage) → (ending_at x s ≡ IsRefused NoIdentity) ↔ SeesNothingAt x s
+
+-- status 5 exactly where it asks for a service that is not known
+abbrev pub UnknownWhereAsked : Type 0
+UnknownWhereAsked = (x : Publication) (s : Stage) → (ending_at x s ≡ IsRefused UnknownService) ↔ AsksUnknownAt x s
 
 abbrev pub NamesGiveStatuses : Type 0
 NamesGiveStatuses = (caller : Option (List (List ℕ))) (steps : List Step) → AllFit steps → HasNameEnding caller (talk_after steps)

@@ -4,10 +4,10 @@ ghost use Rattle.wl_responses.specs.Steps.{StepsWriteFrames};
 ghost use Rattle.wl_responses.specs.Responses.{StreamsHaveAnswers, StreamsHaveTurns, StreamsHaveSelectors, NumbersNeverFall};
 ghost use Rattle.wl_responses.specs.Moves.{SessionsTakeSteps, BytesAreResponses, ResponsesAreAnswers, ResponsesDiffer, MessagesAreCut, TurnsHaveSelectors, TurnsWereTaken, PublicationsNeverFall};
 ghost use Rattle.wl_responses.specs.Runs.{SessionsHaveMoves, BytesOfResponses, AnswersOfTurns, TurnsOfCalls, SelectorsOfCalls, TurnsOfPublications, NumbersOfResponses, ResponsesOfRunsDiffer, MessagesOfRuns};
-ghost use Rattle.wl_responses.specs.Statuses.{TurnsGiveStatuses, NamesGiveStatuses, TokensGiveStatuses};
-ghost use Rattle.wl_responses.specs.Completeness.{EachIsAnswered, AllIsWritten, AsksAreAwaited, TokensAreTaken, TurnsOfRunsGiveStatuses, TokensOfRunsGiveStatuses};
+ghost use Rattle.wl_responses.specs.Statuses.{NoStatusBefore, VerdictsGiveStatuses, TurnsGiveStatuses, DeniedWhereNothingIsSeen, UnknownWhereAsked, NamesGiveStatuses, TokensGiveStatuses};
+ghost use Rattle.wl_responses.specs.Completeness.{EachIsAnswered, AllIsWritten, EachIsHeldBack, AsksAreAwaited, TokensAreTaken, TurnsOfRunsGiveStatuses, TokensOfRunsGiveStatuses};
 
-use wl_session::turns_answer_all;
+use wl_session::{answers_are_of_views, turns_answer_all};
 
 /// Of each stream over all steps of a talk, whichever way its calls are attested: each response is the answer
 /// on the view of the publication of the latest turn that answered the stream before it began.
@@ -56,14 +56,20 @@ pub fn responses_are_of_publications()
     ensures messages { MessagesOfRuns }
 {}
 
-/// The status that ends a call is that of Answer on its view at a turn, of the attestor's answer at a name,
-/// and of the outcome and the size at a token: its last block is queued on its stream, where that is live.
-/// Each other call goes on.
+/// How a call ends, over all steps of a talk: by its verdict, by its view at a turn, by the attestor's answer,
+/// and by the outcome and the size at a token. The last block of its status is due on its stream, where
+/// that is live. Each other call goes on.
 pub fn statuses_are_of_views()
+    ensures before { NoStatusBefore }
+    ensures verdicts { VerdictsGiveStatuses }
     ensures turns { TurnsGiveStatuses }
+    ensures denied { DeniedWhereNothingIsSeen }
+    ensures unknown { UnknownWhereAsked }
     ensures names { NamesGiveStatuses }
     ensures tokens { TokensGiveStatuses }
-{}
+{
+    answers_are_of_views();
+}
 
 /// Behind each Turn of a session of the core that has not failed, each ready streaming call, Watch included,
 /// has its message of the publication that stands: it began last on its stream, or waits there; and all that
@@ -71,6 +77,7 @@ pub fn statuses_are_of_views()
 pub fn runs_answer_all()
     ensures answered { EachIsAnswered }
     ensures written { AllIsWritten }
+    ensures held_back { EachIsHeldBack }
     ensures asks { AsksAreAwaited }
     ensures tokens { TokensAreTaken }
 {
