@@ -33,7 +33,8 @@ use Rattle.wl_session.specs.Answering.{Turned, goes_on, has_ended, with_head, wi
 use Rattle.wl_session.specs.Tokens.{change_in, change_first, is_unnamed, name_call, name_stage, name_on, name_first, is_asking, item_for, token_message, next_ask, give_call, give_stage, give_on, give_first}
 use Rattle.wl_session.proofs.Serving.{place_here, place_later}
 use Rattle.wl_responses.proofs.Opened.{Stands, stands_itself, stands_both, withdrawal_stands, refusal_stands, answer_stands, last_answer_stands}
-use Rattle.wl_responses.proofs.Outgoing.{OnPhase, head_other, trailers_other, message_other, withdrawn_other}
+use Rattle.wl_responses.specs.Statuses.{OnPhase}
+use Rattle.wl_responses.proofs.Outgoing.{head_other, trailers_other, message_other, withdrawn_other}
 
 -- no call is on this stream
 abbrev pub NoneOn : ℕ → List ServedCall → Type 0

@@ -18,7 +18,8 @@ use Rattle.wl_session.specs.Talks.{Talking, with_served, after_event}
 use Rattle.wl_session.specs.Completing.{CameOn}
 use Rattle.wl_responses.specs.Replies.{AnsweringTurn, Replies, no_replies}
 use Rattle.wl_responses.proofs.Opened.{Stands, stands_itself, reset_stands, refusal_stands}
-use Rattle.wl_responses.proofs.Outgoing.{OnPhase, reset_on, IsUnfinished}
+use Rattle.wl_responses.specs.Statuses.{OnPhase, IsUnfinished}
+use Rattle.wl_responses.proofs.Outgoing.{reset_on}
 use Rattle.wl_responses.proofs.Writing.{Matches}
 use Rattle.wl_responses.proofs.Asides.{NoneOn, Leaves, refusal_apart}
 use Rattle.wl_responses.proofs.Owning.{StageFits, OneOn, Serves, none_one, none_fits, refusal_here}
@@ -93,7 +94,7 @@ none_after n k bytes ended (c ∷ calls) h =
 
 -- ---- lists of ready calls
 
-served_all : (P : ServedCall → Type 0) (c : ServedCall) (cs : List ServedCall) → P c → AllByRecursion P cs → AllByRecursion P (with_served c cs)
+pub served_all : (P : ServedCall → Type 0) (c : ServedCall) (cs : List ServedCall) → P c → AllByRecursion P cs → AllByRecursion P (with_served c cs)
 served_all P c [] p h = (p, tt)
 served_all P c (d ∷ ds) p h = go (nat_lt c.stream d.stream) (served_all P c ds p h.1)
   where

@@ -1,6 +1,6 @@
 -- What is said of the outbox's stream of one number, and what each call of a connection leaves of it.
 use Rattle.std.proofs.Common.{◌≡◌, inl, inr, ℕ, zero, suc, ◌+◌, ◌==◌, Bool, true, false, not, cond, ◌&&◌, ◌||◌, nat_lt, List, [], ◌∷◌, length, drop, map, Option, Some, None, refl, sym, subst, ◌∙◌, arith, eq-eqb, eqb-true}
-use Rattle.std.specs.List.{AllByRecursion, list_any}
+use Rattle.std.specs.List.{list_any}
 use Rattle.std.proofs.lemmas.Bool.{cases_Bool}
 use Rattle.list_laws.proofs.Elements.{all_filter}
 use Rattle.h2_frame.specs.declared.frame.Body.TheVariants.{Reset}
@@ -21,17 +21,9 @@ use Rattle.h2_conn.specs.Peer.{with_control_frame, without_live_stream}
 use Rattle.h2_conn.specs.Conns.{takes, with_head_on, with_trailers_on, with_message_on, without_waiting_on, after_reset, on_open, answer_ends, answers_end}
 use Rattle.h2_conn.specs.Sound.{Sound, SoundPhase}
 use Rattle.h2_conn.proofs.Sounds.{there_is}
+use Rattle.wl_responses.specs.Statuses.{On, OnPhase, IsUnfinished}
 
 -- ---- the streams of a number
-
--- each stream of this number has this
-abbrev pub On : ℕ → (Stream → Type 0) → List Stream → Type 0
-On n P ss = AllByRecursion (λ s. s.number ≡ n → P s) ss
-
-abbrev pub OnPhase : ℕ → (Stream → Type 0) → Phase → Type 0
-OnPhase n P (Open q) = On n P q.outbox.streams
-OnPhase n P (Failed fault left totals) = Unit {0}
-OnPhase n P (OutOfMemory totals) = Unit {0}
 
 abbrev pub IfFound : (Stream → Type 0) → Option Stream → Type 0
 IfFound P None = Unit {0}
@@ -175,9 +167,6 @@ reset_on n k code P (OutOfMemory totals) h = tt
 
 -- ---- a stream that was not given its last block
 
-abbrev pub IsUnfinished : Stream → Type 0
-IsUnfinished s = s.finished ≡ false
-
 parts : (a b : Bool) → (a || b) ≡ false → (a ≡ false) × (b ≡ false)
 parts true b e = absurd (cc e)
 parts false b e = (refl, e)
@@ -225,6 +214,16 @@ withdrawn_here n P Q go (Open q) sound u h =
     ]
 withdrawn_here n P Q go (Failed fault left totals) sound u h = tt
 withdrawn_here n P Q go (OutOfMemory totals) sound u h = tt
+
+pub trailers_here : (n : ℕ) (block : List ℕ) (P Q : Stream → Type 0) → ((s : Stream) → P s → Q (record s { trailers = Some block; finished = true })) → (p : Phase) → SoundPhase p → OnPhase n IsUnfinished p → OnPhase n P p → OnPhase n Q (on_open (with_trailers_on n block) p)
+unfolding with_trailers_on with_trailers
+trailers_here n block P Q go (Open q) sound u h =
+    elim (cases_Bool (takes n q)) [
+      | inl on ↦ rw on (changed_here 0 n (λ s. record s { trailers = Some block; finished = true }) P Q go q.outbox.streams sound.rises h)
+      | inr off ↦ rw off (untaken n Q q sound off u)
+    ]
+trailers_here n block P Q go (Failed fault left totals) sound u h = tt
+trailers_here n block P Q go (OutOfMemory totals) sound u h = tt
 
 -- ---- a flush
 

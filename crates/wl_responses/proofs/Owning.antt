@@ -33,7 +33,8 @@ use Rattle.wl_session.specs.Tokens.{name_call, name_stage}
 use Rattle.wl_responses.specs.Replies.{AnsweringTurn, Replies, answering}
 use Rattle.wl_responses.specs.Responses.{token_item, token_items, IsMessageOn, IsMessageOf}
 use Rattle.wl_responses.proofs.Opened.{withdrawal_stands, refusal_stands, answer_stands, last_answer_stands, first_stands}
-use Rattle.wl_responses.proofs.Outgoing.{OnPhase, phase_weaker, head_on, trailers_on, message_on, withdrawn_on, message_here, withdrawn_here, IsUnfinished}
+use Rattle.wl_responses.specs.Statuses.{OnPhase, IsUnfinished}
+use Rattle.wl_responses.proofs.Outgoing.{phase_weaker, head_on, trailers_on, message_on, withdrawn_on, message_here, withdrawn_here}
 use Rattle.wl_responses.proofs.Writing.{IfWaits, Matches, offered, silenced}
 use Rattle.wl_responses.proofs.Asides.{NoneOn}
 
@@ -114,7 +115,7 @@ unfolding with_refusal
 refusal_here n headed why old new r p sound u h =
     trailers_on n n (block_bytes (refused_fields why (not headed))) (Matches new r) (λ s m. m) (withdraws n p) (withdrawn_here n (Matches old r) (Matches new r) (silenced old new r) p sound u h)
 
-head_here : (n : ℕ) (headed : Bool) (P : flow.Stream → Type 0) (p : Phase) → ((s : flow.Stream) (b : List ℕ) → P s → P (record s { head = Some b })) → OnPhase n P p → OnPhase n P (with_head n headed p)
+pub head_here : (n : ℕ) (headed : Bool) (P : flow.Stream → Type 0) (p : Phase) → ((s : flow.Stream) (b : List ℕ) → P s → P (record s { head = Some b })) → OnPhase n P p → OnPhase n P (with_head n headed p)
 unfolding with_head
 head_here n true P p go h = h
 head_here n false P p go h = head_on n n (block_bytes response_fields) P (λ s m. go s (block_bytes response_fields) m) p h
@@ -125,7 +126,7 @@ answer_here n headed m old new r p is sound u h =
     message_here n (framed m) (Matches old r) (Matches new r) (offered old new r (framed m) is) (with_head n headed p) ((first_stands n headed p).sound sound)
     (head_here n headed IsUnfinished p (λ s b f. f) u) (head_here n headed (Matches old r) p (λ s b k. k) h)
 
-answer_unfinished : (n : ℕ) (headed : Bool) (m : List ℕ) (p : Phase) → OnPhase n IsUnfinished p → OnPhase n IsUnfinished (with_message n headed m p)
+pub answer_unfinished : (n : ℕ) (headed : Bool) (m : List ℕ) (p : Phase) → OnPhase n IsUnfinished p → OnPhase n IsUnfinished (with_message n headed m p)
 unfolding with_message
 answer_unfinished n headed m p u = message_on n n (framed m) IsUnfinished (λ s f. f) (with_head n headed p) (head_here n headed IsUnfinished p (λ s b f. f) u)
 

@@ -34,7 +34,7 @@ use Rattle.wl_session.specs.Talks.{Talking, others, after_event, after_body, aft
 use Rattle.wl_session.specs.Completing.{CameOn}
 use Rattle.wl_responses.specs.Replies.{AnsweringTurn, Replies}
 use Rattle.wl_responses.proofs.Opened.{stands_itself}
-use Rattle.wl_responses.proofs.Outgoing.{On, OnPhase, IsUnfinished}
+use Rattle.wl_responses.specs.Statuses.{On, OnPhase, IsUnfinished}
 use Rattle.wl_responses.proofs.Writing.{Matches}
 use Rattle.wl_responses.proofs.Asides.{NoneOn}
 use Rattle.wl_responses.proofs.Owning.{StageFits, Serves}
@@ -45,7 +45,7 @@ use Rattle.wl_responses.proofs.Frames.{Unborn, Undecided, Speaks, none_with, non
 calls_moved : (n : ℕ) (turn : Option AnsweringTurn) (r : Replies) (t : Talking) (k : ℕ) (bytes : List ℕ) (ended : Bool) → Speaks n turn r t → Speaks n turn r (record t { calls = calls_after k bytes ended t.calls })
 calls_moved n turn r t k bytes ended h = moved n turn r t t.phase (calls_after k bytes ended t.calls) (stands_itself t.phase) (λ P s. s) (none_after n k bytes ended t.calls) h
 
-some_verdict : (n : ℕ) (turn : Option AnsweringTurn) (r : Replies) (t : Talking) (s : Standing) → standing_at n t.calls ≡ Some s → Speaks n turn r t → Undecided n turn t × CameOn n t.phase
+pub some_verdict : (n : ℕ) (turn : Option AnsweringTurn) (r : Replies) (t : Talking) (s : Standing) → standing_at n t.calls ≡ Some s → Speaks n turn r t → Undecided n turn t × CameOn n t.phase
 some_verdict n turn r t s is h = (waits h.decided, came h.age)
   where
     waits : (standing_at n t.calls ≡ None) ⊎ Undecided n turn t → Undecided n turn t
@@ -74,7 +74,7 @@ body_speaks n k bytes ended turn r t h =
     ]
 
 -- a stream that opens
-abbrev IsNew : ℕ → ℕ → Option AnsweringTurn → Talking → Type 0
+abbrev pub IsNew : ℕ → ℕ → Option AnsweringTurn → Talking → Type 0
 IsNew n k turn t = k ≡ n → Undecided n turn t × CameOn n t.phase
 
 head_own : (n k : ℕ) (headers : List Header) (ended : Bool) (turn : Option AnsweringTurn) (r : Replies) (t : Talking) → k ≡ n → Undecided n turn t → CameOn n t.phase → Serves n turn r t.served t.phase
@@ -111,7 +111,7 @@ gone_speaks n k turn r t h = record {
     old (inl came) = inl came
     old (inr u) = inr (u.0, u.1, fewer u.2, none_without n k t.calls u.3)
 
-abbrev IfOpens : ℕ → Option AnsweringTurn → Talking → Happening → Type 0
+abbrev pub IfOpens : ℕ → Option AnsweringTurn → Talking → Happening → Type 0
 IfOpens n turn t (happening.Head k headers ended) = IsNew n k turn t
 IfOpens n turn t (happening.Body k bytes ended) = Unit {0}
 IfOpens n turn t (happening.End k) = Unit {0}
@@ -131,7 +131,7 @@ happening_speaks n (happening.Body k bytes ended) turn r t new h = body_speaks n
 happening_speaks n (happening.End k) turn r t new h = body_speaks n k [] true turn r t h
 happening_speaks n (happening.Gone k) turn r t new h = gone_speaks n k turn r t h
 
-abbrev IfTold : ℕ → Option AnsweringTurn → Talking → Option Happening → Type 0
+abbrev pub IfTold : ℕ → Option AnsweringTurn → Talking → Option Happening → Type 0
 IfTold n turn t None = Unit {0}
 IfTold n turn t (Some g) = IfOpens n turn t g
 
@@ -220,22 +220,23 @@ there_then n f old new told turn r t so due names (inr u) h =
     fresh : (k : ℕ) → Matches turn r (new_stream k)
     fresh k = rw u.1 (refl, refl, tt)
 
-peer_speaks : (n : ℕ) (f : Frame) (old : State) (turn : Option AnsweringTurn) (r : Replies) (t : Talking) (o : Outcome) → f.stream < 2 ^ 31 → t.phase ≡ Open old → peer old f ≡ o → Speaks n turn r t
-    → Speaks n turn r (after_happenings (result_of old o).told (record t { phase = (result_of old o).after }))
-peer_speaks n f old turn r t (fails control fault) low is due h = fails_speaks n turn r t _ _ _ h
-peer_speaks n f old turn r t (goes new told) low is due h =
+-- what is known of the calls once the frame was read, before it is told
+pub read_speaks : (n : ℕ) (f : Frame) (old new : State) (told : Option Happening) (turn : Option AnsweringTurn) (r : Replies) (t : Talking) → f.stream < 2 ^ 31 → t.phase ≡ Open old → peer old f ≡ goes new told → Speaks n turn r t
+    → IfTold n turn (record t { phase = Open new }) told × Speaks n turn r (record t { phase = Open new })
+read_speaks n f old new told turn r t low is due h =
     let so : Sound old = subst SoundPhase is h.serves.sound in
     let sn : Sound new = rw due at (peer_sound old f low so) in
     let names : NamesTold old told new = rw due at (peer_names old f low so) in
     let tells : TellsStreams old told new = frame_tells old new told f due in
     let aged : (n ≤ old.last_stream_id) ⊎ Unborn n turn r t = subst (λ (p : Phase). CameOn n p ⊎ Unborn n turn r t) is h.age in
-    let there : On n (Matches turn r) old.outbox.streams = subst (OnPhase n (Matches turn r)) is h.serves.there in
-    told_speaks n told turn r (record t { phase = Open new }) (new_told n f old new told turn r t so sn due names aged)
-    (record {
-      serves = record { sound = sn; one = h.serves.one; fits = h.serves.fits; unfinished = still so (subst (λ (p : Phase). NoneOn n t.served ⊎ OnPhase n IsUnfinished p) is h.serves.unfinished); there = there_then n f old new told turn r t so due names aged there };
-      decided = verdict_still so (subst (λ (p : Phase). (standing_at n t.calls ≡ None) ⊎ Undecided n turn (record t { phase = p })) is h.decided);
-      age = older tells.last aged;
-    })
+    let there : On n (Matches turn r) old.outbox.streams = subst (OnPhase n (Matches turn r)) is h.serves.there in (
+      new_told n f old new told turn r t so sn due names aged,
+      record {
+        serves = record { sound = sn; one = h.serves.one; fits = h.serves.fits; unfinished = still so (subst (λ (p : Phase). NoneOn n t.served ⊎ OnPhase n IsUnfinished p) is h.serves.unfinished); there = there_then n f old new told turn r t so due names aged there };
+        decided = verdict_still so (subst (λ (p : Phase). (standing_at n t.calls ≡ None) ⊎ Undecided n turn (record t { phase = p })) is h.decided);
+        age = older tells.last aged;
+      },
+    )
   where
     still : Sound old → NoneOn n t.served ⊎ On n IsUnfinished old.outbox.streams → NoneOn n t.served ⊎ On n IsUnfinished new.outbox.streams
     still so (inl absent) = inl absent
@@ -248,6 +249,12 @@ peer_speaks n f old turn r t (goes new told) low is due h =
     older : old.last_stream_id ≤ new.last_stream_id → (n ≤ old.last_stream_id) ⊎ Unborn n turn r t → (n ≤ new.last_stream_id) ⊎ Unborn n turn r (record t { phase = Open new })
     older le (inl came) = inl (omega (arith, le, came))
     older le (inr u) = inr u
+
+peer_speaks : (n : ℕ) (f : Frame) (old : State) (turn : Option AnsweringTurn) (r : Replies) (t : Talking) (o : Outcome) → f.stream < 2 ^ 31 → t.phase ≡ Open old → peer old f ≡ o → Speaks n turn r t
+    → Speaks n turn r (after_happenings (result_of old o).told (record t { phase = (result_of old o).after }))
+peer_speaks n f old turn r t (fails control fault) low is due h = fails_speaks n turn r t _ _ _ h
+peer_speaks n f old turn r t (goes new told) low is due h =
+    let known = read_speaks n f old new told turn r t low is due h in told_speaks n told turn r (record t { phase = Open new }) known.0 known.1
 
 frame_speaks : (n : ℕ) (f : Frame) (turn : Option AnsweringTurn) (r : Replies) (t : Talking) (p : Phase) → f.stream < 2 ^ 31 → t.phase ≡ p → Speaks n turn r t → Speaks n turn r (after_happenings (frame_result p f).told (record t { phase = (frame_result p f).after }))
 unfolding frame_result

@@ -20,7 +20,8 @@ use Rattle.wl_responses.specs.Steps.{Step, FrameCame, BytesBroke, CallAttested, 
 use Rattle.wl_responses.specs.Replies.{AnsweringTurn, Replies, no_replies, replies_with, waiting_on, stage_on, answering, turn_after, turn_on, replies_after, replies_on}
 use Rattle.wl_responses.specs.Responses.{StreamsHaveAnswers}
 use Rattle.wl_responses.proofs.Opened.{flush_stands}
-use Rattle.wl_responses.proofs.Outgoing.{OnPhase, IfFound, found, IsUnfinished}
+use Rattle.wl_responses.specs.Statuses.{OnPhase, IsUnfinished}
+use Rattle.wl_responses.proofs.Outgoing.{IfFound, found}
 use Rattle.wl_responses.proofs.Writing.{IfWaits, Matches, Written, nothing_written, quiet_is, flush_goes, flush_unfinished}
 use Rattle.wl_responses.proofs.Asides.{NoneOn, AllAside, calls_aside, names_aside, gives_aside}
 use Rattle.wl_responses.proofs.Owning.{Serves}

@@ -24,7 +24,8 @@ use Rattle.wl_session.specs.Answering.{Turned, goes_on, has_ended, with_refusal,
 use Rattle.wl_session.specs.Tokens.{change_first, is_unnamed, name_on, is_asking, item_for, token_message, next_ask, give_call, give_on}
 use Rattle.wl_responses.specs.Replies.{AnsweringTurn, Replies, stage_on, answering, one_token_more, with_outcome, asks_first}
 use Rattle.wl_responses.specs.Responses.{token_items, IsMessageOn, IsMessageOf}
-use Rattle.wl_responses.proofs.Outgoing.{OnPhase, differ, IsUnfinished}
+use Rattle.wl_responses.specs.Statuses.{OnPhase, IsUnfinished}
+use Rattle.wl_responses.proofs.Outgoing.{differ}
 use Rattle.wl_responses.proofs.Sizes.{not_above}
 use Rattle.wl_responses.proofs.Writing.{Matches}
 use Rattle.wl_responses.proofs.Asides.{NoneOn, Aside, over as apart_over, on as apart_on, AllAside, still_aside, turn_aside, calls_aside, name_aside, give_aside, first_here, first_later, first_none, first_aside}

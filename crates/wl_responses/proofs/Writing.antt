@@ -16,7 +16,8 @@ use Rattle.h2_conn.specs.Sound.{SoundPhase}
 use Rattle.wl_responses.specs.Steps.{frames_due}
 use Rattle.wl_responses.specs.Replies.{AnsweringTurn, Replies, no_replies, replies_with, waits_in, waiting_on}
 use Rattle.wl_responses.specs.Responses.{IsMessageOf, IsAnswer, all_bytes, last_bytes, AllDiffer}
-use Rattle.wl_responses.proofs.Outgoing.{OnPhase, IfFound, differ, found, all_found, IsUnfinished, unfinished_pull, answers_on}
+use Rattle.wl_responses.specs.Statuses.{OnPhase, IsUnfinished}
+use Rattle.wl_responses.proofs.Outgoing.{IfFound, differ, found, all_found, unfinished_pull, answers_on}
 
 -- ---- what is known of a stream
 

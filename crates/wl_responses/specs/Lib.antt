@@ -3,3 +3,5 @@ pub mod Replies
 pub mod Responses
 pub mod Moves
 pub mod Runs
+pub mod Statuses
+pub mod Completeness

@@ -4,6 +4,10 @@ ghost use Rattle.wl_responses.specs.Steps.{StepsWriteFrames};
 ghost use Rattle.wl_responses.specs.Responses.{StreamsHaveAnswers, StreamsHaveTurns, StreamsHaveSelectors, NumbersNeverFall};
 ghost use Rattle.wl_responses.specs.Moves.{SessionsTakeSteps, BytesAreResponses, ResponsesAreAnswers, ResponsesDiffer, MessagesAreCut, TurnsHaveSelectors, TurnsWereTaken, PublicationsNeverFall};
 ghost use Rattle.wl_responses.specs.Runs.{SessionsHaveMoves, BytesOfResponses, AnswersOfTurns, TurnsOfCalls, SelectorsOfCalls, TurnsOfPublications, NumbersOfResponses, ResponsesOfRunsDiffer, MessagesOfRuns};
+ghost use Rattle.wl_responses.specs.Statuses.{NoStatusBefore, VerdictsGiveStatuses, TurnsGiveStatuses, DeniedWhereNothingIsSeen, UnknownWhereAsked, NamesGiveStatuses, TokensGiveStatuses};
+ghost use Rattle.wl_responses.specs.Completeness.{EachIsAnswered, AllIsWritten, EachIsHeldBack, AsksAreAwaited, TokensAreTaken, TurnsOfRunsGiveStatuses, TokensOfRunsGiveStatuses};
+
+use wl_session::{answers_are_of_views, turns_answer_all};
 
 /// Of each stream over all steps of a talk, whichever way its calls are attested: each response is the answer
 /// on the view of the publication of the latest turn that answered the stream before it began.
@@ -50,4 +54,39 @@ pub fn responses_are_of_publications()
     ensures numbers { NumbersOfResponses }
     ensures differ { ResponsesOfRunsDiffer }
     ensures messages { MessagesOfRuns }
+{}
+
+/// How a call ends, over all steps of a talk: by its verdict, by its view at a turn, by the attestor's answer,
+/// and by the outcome and the size at a token. The last block of its status is due on its stream, where
+/// that is live. Each other call goes on.
+pub fn statuses_are_of_views()
+    ensures before { NoStatusBefore }
+    ensures verdicts { VerdictsGiveStatuses }
+    ensures turns { TurnsGiveStatuses }
+    ensures denied { DeniedWhereNothingIsSeen }
+    ensures unknown { UnknownWhereAsked }
+    ensures names { NamesGiveStatuses }
+    ensures tokens { TokensGiveStatuses }
+{
+    answers_are_of_views();
+}
+
+/// Behind each Turn of a session of the core that has not failed, each ready streaming call, Watch included,
+/// has its message of the publication that stands: it began last on its stream, or waits there; and all that
+/// may be written was. Each ready FetchJWTSVID waits for exactly its asks, one after the other.
+pub fn runs_answer_all()
+    ensures answered { EachIsAnswered }
+    ensures written { AllIsWritten }
+    ensures held_back { EachIsHeldBack }
+    ensures asks { AsksAreAwaited }
+    ensures tokens { TokensAreTaken }
+{
+    turns_answer_all();
+}
+
+/// Behind each Turn of a session of the core each ready call has its status, and behind each Token the call
+/// whose ask waited.
+pub fn runs_give_statuses()
+    ensures turns { TurnsOfRunsGiveStatuses }
+    ensures tokens { TokensOfRunsGiveStatuses }
 {}

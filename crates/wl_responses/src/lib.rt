@@ -4,6 +4,6 @@
 mod laws;
 
 pub use laws::{
-    responses_are_answers, responses_are_of_publications, sessions_have_moves, sessions_take_steps,
-    streams_have_answers,
+    responses_are_answers, responses_are_of_publications, runs_answer_all, runs_give_statuses,
+    sessions_have_moves, sessions_take_steps, statuses_are_of_views, streams_have_answers,
 };
