@@ -6,3 +6,11 @@ pub mod Blocks
 pub mod Serving
 pub mod Reading
 pub mod Hearing
+pub mod Lists
+pub mod Marks
+pub mod Turns
+pub mod Opens
+pub mod Given
+pub mod Owned
+pub mod Coming
+pub mod Hearers

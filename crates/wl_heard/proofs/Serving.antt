@@ -47,16 +47,16 @@ module _ (Q : Phase → Type 0) (lasts : Lasts Q) where
   unfolding with_refusal
   l_refusal n headed r p h = lasts.refused n r (not headed) (withdraws n p) (lasts.silenced n p h)
 
-  l_head : (n : ℕ) (headed : Bool) (p : Phase) → Q p → Q (with_head n headed p)
+  pub l_head : (n : ℕ) (headed : Bool) (p : Phase) → Q p → Q (with_head n headed p)
   unfolding with_head
   l_head n true p h = h
   l_head n false p h = lasts.headed n p h
 
-  l_message : (n : ℕ) (headed : Bool) (m : List ℕ) (p : Phase) → Q p → Q (with_message n headed m p)
+  pub l_message : (n : ℕ) (headed : Bool) (m : List ℕ) (p : Phase) → Q p → Q (with_message n headed m p)
   unfolding with_message
   l_message n headed m p h = lasts.offered n (framed m) (with_head n headed p) (l_head n headed p h)
 
-  l_last : (n : ℕ) (headed : Bool) (m : List ℕ) (p : Phase) → Q p → Q (with_last_message n headed m p)
+  pub l_last : (n : ℕ) (headed : Bool) (m : List ℕ) (p : Phase) → Q p → Q (with_last_message n headed m p)
   unfolding with_last_message
   l_last n headed m p h = lasts.finished n (with_message n headed m p) (l_message n headed m p h)
 

@@ -46,7 +46,7 @@ fresh_tidy = record {
 
 -- ---- a stream that is live
 
-live_below : (n last : ℕ) (ns : List ℕ) (ss : List live.Stream) → ns ≡ map number_of ss → AllByRecursion (λ m. m < last + 1) ns → is_live n ss ≡ true → n ≤ last
+pub live_below : (n last : ℕ) (ns : List ℕ) (ss : List live.Stream) → ns ≡ map number_of ss → AllByRecursion (λ m. m < last + 1) ns → is_live n ss ≡ true → n ≤ last
 live_below n last ns [] same below is = absurd (cc is)
 live_below n last [] (s ∷ ss) same below is = absurd (cc same)
 live_below n last (m ∷ ns) (s ∷ ss) same below is =

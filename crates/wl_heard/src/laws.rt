@@ -1,5 +1,6 @@
 //! What a reader of HTTP/2 finds in the bytes of a talk, and what a client hears in those of a session.
 
+ghost use Rattle.wl_heard.specs.Calls.{CallsAreHeard};
 ghost use Rattle.wl_heard.specs.Clients.{ClientsHearSessions};
 ghost use Rattle.wl_heard.specs.Written.{TalksAreRead, ControlIsRead, DataIsRead, SessionsAreRead, SessionDataIsRead};
 
@@ -26,4 +27,11 @@ pub fn sessions_are_read()
 /// goes on, all that were written in full.
 pub fn clients_hear_sessions()
     ensures { ClientsHearSessions }
+{}
+
+/// Where the peer makes one call, on stream 1, and sends nothing on another stream that opens it, a client hears no frame out
+/// of its order, each header block is decoded, and the stream ends with a status: its fault can only be the server's own
+/// refusal by HTTP, RST_STREAM or GOAWAY.
+pub fn calls_are_heard()
+    ensures faults { CallsAreHeard }
 {}

@@ -5,4 +5,6 @@ mod laws;
 #[cfg(test)]
 mod tests;
 
-pub use laws::{clients_hear_sessions, data_is_read, sessions_are_read, talks_are_read};
+pub use laws::{
+    calls_are_heard, clients_hear_sessions, data_is_read, sessions_are_read, talks_are_read,
+};

@@ -1,0 +1,121 @@
+-- What the header lists of answers say to a client, and that each block of them is decoded.
+use Rattle.std.proofs.Common.{◌≡◌, ℕ, ◌≤◌, true, false, List, ◌∷◌, ◌++◌, [], Some, None, Result, Ok, refl}
+use Rattle.std.specs.Fmt.{digits}
+use Rattle.wl_octets.specs.declared.header.Header.{Header}
+use Rattle.hpack.specs.declared.fault.HpackFault.{HpackFault}
+use Rattle.hpack.specs.declared.limit.TheConstants.{MAX_LIST_SIZE}
+use Rattle.hpack.specs.Tables.{Table, list_size, with_maximum}
+use Rattle.hpack.specs.Reading.{block_of, headers_of, block_in, representation_at, integer_at}
+use Rattle.hpack.specs.Decoding.{Standing, Good, Broken, decode_block}
+use Rattle.hpack.specs.Writing.{block_bytes}
+use Rattle.hpack.proofs.Spelling.{block_again}
+use Rattle.h2_flow.specs.declared.flow.TableSizeUpdate.{TableSizeUpdate}
+use Rattle.h2_flow.specs.declared.flow.TableSizeUpdate.TheVariants.{Unasked, Due, Written}
+use Rattle.h2_flow.specs.Streams.{size_update_bytes}
+use Rattle.grpc_wire.specs.Answers.{response_fields, trailer_fields, refused_fields, percent_encoded}
+use Rattle.grpc_wire.specs.declared.refusal.Refusal.{Refusal}
+use Rattle.grpc_wire.specs.declared.refusal.Refusal.TheVariants.{BadMethod, BadContent, UnknownPath, Compressed, Insecure, Flag, LongRequest, Count, Undecodable, NoAudience, BadId, NoIdentity, LongResponse, Unsigned, Unattested, UnknownService}
+use Rattle.wl_client.specs.Statuses.{http_fault, http_fault_of, grpc_code}
+use Rattle.wl_heard.proofs.Blocks.{head_size, last_size, refusal_size}
+
+-- ---- lists
+
+-- a list that opens an answer, one that ends it behind its head, and one that is all of it
+abbrev pub IsHead : List Header → Type 0
+IsHead hs = http_fault hs ≡ None
+
+abbrev pub IsEnd : List Header → Type 0
+IsEnd hs = (code : ℕ) × (grpc_code hs ≡ Some code)
+
+abbrev pub IsWhole : List Header → Type 0
+IsWhole hs = http_fault hs ≡ None → IsEnd hs
+
+head_says : IsHead response_fields
+unfolding response_fields http_fault_of
+head_says = refl
+
+last_says : IsEnd (trailer_fields 0 [] false)
+unfolding trailer_fields digits
+last_says = (0, refl)
+
+-- the refusals that come behind a head, too
+abbrev pub IsLate : Refusal → Type 0
+IsLate r = IsEnd (refused_fields r false)
+
+pub late_identity : IsLate NoIdentity
+unfolding refused_fields trailer_fields percent_encoded digits
+late_identity = (7, refl)
+
+pub late_length : IsLate LongResponse
+unfolding refused_fields trailer_fields percent_encoded digits
+late_length = (8, refl)
+
+pub late_service : IsLate UnknownService
+unfolding refused_fields trailer_fields percent_encoded digits
+late_service = (5, refl)
+
+some_none : {n : ℕ} → Some n ≡ None → ⊥
+some_none e = absurd (cc e)
+
+whole_says : (r : Refusal) → IsWhole (refused_fields r true)
+unfolding refused_fields trailer_fields response_fields percent_encoded http_fault_of digits
+whole_says BadMethod = λ e. absurd (some_none e)
+whole_says BadContent = λ e. absurd (some_none e)
+whole_says UnknownPath = λ e. (12, refl)
+whole_says Compressed = λ e. (12, refl)
+whole_says Insecure = λ e. (3, refl)
+whole_says Flag = λ e. (13, refl)
+whole_says LongRequest = λ e. (8, refl)
+whole_says Count = λ e. (13, refl)
+whole_says Undecodable = λ e. (13, refl)
+whole_says NoAudience = λ e. (3, refl)
+whole_says BadId = λ e. (3, refl)
+whole_says NoIdentity = λ e. (7, refl)
+whole_says LongResponse = λ e. (8, refl)
+whole_says Unsigned = λ e. (14, refl)
+whole_says Unattested = λ e. (14, refl)
+whole_says UnknownService = λ e. (5, refl)
+
+-- ---- blocks
+
+-- the block of such a list, which a decoder takes
+pub record BlockOf (P : List Header → Type 0) (block : List ℕ) : Type 0 where
+  pub list : List Header
+  pub bytes : block ≡ block_bytes list
+  pub fits : list_size list ≤ MAX_LIST_SIZE
+  pub right : P list
+
+abbrev pub IsGood : Standing → Type 0
+IsGood (Good table) = Unit {0}
+IsGood (Broken fault) = ⊥
+
+-- RFC 7541, section 6.3: a size update to 0 in front empties the table
+update_read : (table : Table) (block : List ℕ) → block_of table (32 ∷ block) ≡ block_of (with_maximum table 0) block
+unfolding headers_of block_in representation_at integer_at
+update_read table block = refl
+
+-- what a block gives behind a size update, or without one
+pub record Decoded (list : List Header) (r : Result (List Header) HpackFault × Standing) : Type 0 where
+  pub found : r.0 ≡ Ok list
+  pub goes_on : IsGood r.1
+
+good_block : (table : Table) (u : TableSizeUpdate) (list : List Header) → list_size list ≤ MAX_LIST_SIZE → Decoded list (decode_block (Good table) (size_update_bytes u ++ block_bytes list))
+good_block table Unasked list fits = rw (block_again list fits table) (record { found = refl; goes_on = tt })
+good_block table Due list fits = rw (update_read table (block_bytes list), block_again list fits (with_maximum table 0)) (record { found = refl; goes_on = tt })
+good_block table Written list fits = rw (block_again list fits table) (record { found = refl; goes_on = tt })
+
+pub block_decoded : {P : List Header → Type 0} (d : Standing) (u : TableSizeUpdate) (block : List ℕ) → IsGood d → (b : BlockOf P block) → Decoded b.list (decode_block d (size_update_bytes u ++ block))
+block_decoded (Good table) u block good b = rw b.bytes (good_block table u b.list b.fits)
+block_decoded (Broken fault) u block good b = absurd good
+
+pub head_block : BlockOf IsHead (block_bytes response_fields)
+head_block = record { list = response_fields; bytes = refl; fits = head_size; right = head_says }
+
+pub last_block : BlockOf IsEnd (block_bytes (trailer_fields 0 [] false))
+last_block = record { list = trailer_fields 0 [] false; bytes = refl; fits = last_size; right = last_says }
+
+pub late_block : (r : Refusal) → IsLate r → BlockOf IsEnd (block_bytes (refused_fields r false))
+late_block r late = record { list = refused_fields r false; bytes = refl; fits = refusal_size r false; right = late }
+
+pub whole_block : (r : Refusal) → BlockOf IsWhole (block_bytes (refused_fields r true))
+whole_block r = record { list = refused_fields r true; bytes = refl; fits = refusal_size r true; right = whole_says r }

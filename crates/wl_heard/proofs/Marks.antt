@@ -1,0 +1,118 @@
+-- How far the answer on a client's stream is, as the connection has it and as the client has heard it.
+use Rattle.std.proofs.Common.{◌≡◌, ◌⊎◌, ℕ, nat_lt, true, false, List, [], ◌∷◌, ◌++◌, length, Option, Some, None, Result, Ok, Err, sym, subst}
+use Rattle.wl_octets.specs.declared.header.Header.{Header}
+use Rattle.h2_frame.specs.declared.frame.Frame.{Frame}
+use Rattle.h2_flow.specs.declared.stream.Stream.{Stream}
+use Rattle.wl_client.specs.declared.fault.ClientFault.{ClientFault}
+use Rattle.wl_client.specs.declared.fault.ClientFault.TheVariants as faults
+use Rattle.wl_client.specs.declared.listener.Stage.{Stage}
+use Rattle.wl_client.specs.declared.listener.Stage.TheVariants.{Opening, Answering, Ended}
+use Rattle.wl_client.specs.declared.listener.Listener.{Listener}
+use Rattle.wl_client.specs.declared.reply.Heard.{Heard}
+use Rattle.wl_client.proofs.Hearings.{heard_two}
+use Rattle.wl_client.specs.Hearing.{Hearing, after_hearing, frame_heard, frames_heard}
+use Rattle.wl_heard.proofs.Lists.{IsHead, IsEnd, IsWhole, BlockOf, IsGood}
+
+-- ---- what was given to the stream
+
+-- nothing, its head, or its last block
+pub data Mark : Type 0 where
+  Bare : Mark
+  Headed : Mark
+  Closing : Mark
+
+abbrev pub HasBlock : (List Header → Type 0) → Option (List ℕ) → Type 0
+HasBlock P None = ⊥
+HasBlock P (Some block) = BlockOf P block
+
+-- the head is still due, or the client has it
+abbrev pub HeadAt : Stage → Option (List ℕ) → Type 0
+HeadAt Opening head = HasBlock IsHead head
+HeadAt Answering head = head ≡ None
+HeadAt Ended head = ⊥
+
+pub record IsBare (g : Stage) (s : Stream) : Type 0 where
+  pub stage : g ≡ Opening
+  pub head : s.head ≡ None
+  pub last : s.last ≡ []
+  pub waiting : s.waiting ≡ None
+  pub trailers : s.trailers ≡ None
+  pub finished : s.finished ≡ false
+
+pub record IsHeaded (g : Stage) (s : Stream) : Type 0 where
+  pub head : HeadAt g s.head
+  pub trailers : s.trailers ≡ None
+  pub finished : s.finished ≡ false
+
+-- the last block is due behind the head
+pub record IsEnding (g : Stage) (s : Stream) : Type 0 where
+  pub head : HeadAt g s.head
+  pub trailers : HasBlock IsEnd s.trailers
+  pub finished : s.finished ≡ true
+
+-- the last block is all of the answer
+pub record IsAlone (g : Stage) (s : Stream) : Type 0 where
+  pub stage : g ≡ Opening
+  pub head : s.head ≡ None
+  pub last : s.last ≡ []
+  pub waiting : s.waiting ≡ None
+  pub trailers : HasBlock IsWhole s.trailers
+  pub finished : s.finished ≡ true
+
+-- the client has the last block
+pub record IsOver (g : Stage) (s : Stream) : Type 0 where
+  pub stage : g ≡ Ended
+  pub head : s.head ≡ None
+  pub waiting : s.waiting ≡ None
+  pub trailers : s.trailers ≡ None
+  pub sent : nat_lt s.sent (length s.last) ≡ false
+  pub finished : s.finished ≡ true
+
+abbrev pub At : Mark → Stage → Stream → Type 0
+At Bare g s = IsBare g s
+At Headed g s = IsHeaded g s
+At Closing g s = IsEnding g s ⊎ (IsAlone g s ⊎ IsOver g s)
+
+-- ---- what the client makes of frames
+
+-- the faults that a session's bytes may have, but for those of messages the ones that they have
+abbrev pub IsSaid : ClientFault → Type 0
+IsSaid (faults.HttpStatus number) = Unit {0}
+IsSaid (faults.Message fault) = Unit {0}
+IsSaid (faults.Reset code) = Unit {0}
+IsSaid (faults.GoAway code) = Unit {0}
+IsSaid fault = ⊥
+
+-- the client goes on so, or has such a fault
+abbrev pub Lands : (Listener → Type 0) → Result Listener ClientFault → Type 0
+Lands P (Ok l) = P l
+Lands P (Err fault) = IsSaid fault
+
+-- no block is open, and blocks can be decoded
+pub record Ready (l : Listener) : Type 0 where
+  pub block : l.block ≡ None
+  pub decoder : IsGood l.decoder
+
+pub lands_weaker : (P Q : Listener → Type 0) → ((l : Listener) → P l → Q l) → (r : Result Listener ClientFault) → Lands P r → Lands Q r
+lands_weaker P Q go (Ok l) h = go l h
+lands_weaker P Q go (Err fault) h = h
+
+pub lands_none : (P : Listener → Type 0) (l : Listener) → P l → Lands P (frames_heard [] l).after
+unfolding frames_heard
+lands_none P l h = h
+
+after_lands : (P Q : Listener → Type 0) (told : List Heard) (bytes : List ℕ) (r : Result Listener ClientFault) (fs : List Frame) → Lands P r → ((l : Listener) → P l → Lands Q (frames_heard fs l).after) → Lands Q (after_hearing told bytes r (frames_heard fs)).after
+after_lands P Q told bytes (Ok l) fs h go = go l h
+after_lands P Q told bytes (Err fault) fs h go = h
+
+pub lands_first : (P Q : Listener → Type 0) (f : Frame) (fs : List Frame) (l : Listener) → Lands P (frame_heard f l).after → ((k : Listener) → P k → Lands Q (frames_heard fs k).after) → Lands Q (frames_heard (f ∷ fs) l).after
+unfolding frames_heard
+lands_first P Q f fs l h go = let x = frame_heard f l in after_lands P Q x.told x.bytes x.after fs h go
+
+pub lands_one : (P : Listener → Type 0) (f : Frame) (l : Listener) → Lands P (frame_heard f l).after → Lands P (frames_heard (f ∷ []) l).after
+lands_one P f l h = lands_first P P f [] l h (λ k p. lands_none P k p)
+
+pub lands_both : (P Q : Listener → Type 0) (fs gs : List Frame) (l : Listener) → Lands P (frames_heard fs l).after → ((k : Listener) → P k → Lands Q (frames_heard gs k).after) → Lands Q (frames_heard (fs ++ gs) l).after
+lands_both P Q fs gs l h go =
+    let x = frames_heard fs l in
+    subst (λ (y : Hearing). Lands Q y.after) (sym (heard_two fs gs l)) (after_lands P Q x.told x.bytes x.after gs h go)
