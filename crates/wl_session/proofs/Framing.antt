@@ -1,5 +1,5 @@
 -- Messages behind their gRPC prefix.
-use Rattle.std.proofs.Common.{◌≡◌, ℕ, ◌<◌, Bool, true, List, [], length, Option, Some, arith, refl, sym, ap, subst}
+use Rattle.std.proofs.Common.{◌≡◌, ℕ, ◌<◌, Bool, true, List, [], length, Some, arith, sym, ap, subst}
 use Rattle.grpc_wire.specs.Messages.{framed}
 use Rattle.h2_conn.specs.declared.phase.Phase.{Phase}
 use Rattle.wl_snapshot.specs.Views.{Sight}

@@ -1,10 +1,10 @@
 -- What is said on one stream and on another may be said in either order.
-use Rattle.std.proofs.Common.{◌≡◌, inl, inr, ℕ, ◌==◌, Bool, true, false, not, ◌&&◌, ◌||◌, cond, if◌then◌else◌, List, [], ◌∷◌, ◌++◌, Option, Some, None, refl, sym, ap, ◌∙◌, eqb-true}
+use Rattle.std.proofs.Common.{◌≡◌, inl, inr, ℕ, ◌==◌, Bool, true, false, not, ◌&&◌, ◌||◌, cond, if◌then◌else◌, List, [], ◌∷◌, Option, Some, None, refl, sym, ap, ◌∙◌, eqb-true}
 use Rattle.std.proofs.lemmas.Bool.{cases_Bool}
 use Rattle.std.specs.List.{list_any}
 use Rattle.hpack.specs.Writing.{block_bytes}
 use Rattle.h2_flow.specs.declared.stream.Stream.{Stream}
-use Rattle.h2_flow.specs.Outboxes.{is_number, is_open, update_stream, with_offer, with_head, with_message, without_waiting, with_trailers}
+use Rattle.h2_flow.specs.Outboxes.{is_number, update_stream, with_offer, with_head, with_message, without_waiting, with_trailers}
 use Rattle.h2_conn.specs.declared.phase.Phase.{Phase}
 use Rattle.h2_conn.specs.declared.phase.Phase.TheVariants.{Open, Failed, OutOfMemory}
 use Rattle.h2_conn.specs.declared.state.State.{State}
@@ -28,7 +28,7 @@ use Rattle.wl_session.specs.declared.served.Stage.{Stage}
 use Rattle.wl_session.specs.declared.served.Stage.TheVariants.{Unnamed, Ready, Asking}
 use Rattle.wl_session.specs.declared.served.ServedCall.{ServedCall}
 use Rattle.wl_session.specs.Kinds.{was_seen}
-use Rattle.wl_session.specs.Answering.{Turned, goes_on, has_ended, with_head as with_first_head, with_message as with_message_behind, with_last_message, with_refusal, stream_answer, health_of, token_answer, call_answer, stage_turn, call_turn, turn_before, calls_turn}
+use Rattle.wl_session.specs.Answering.{Turned, goes_on, has_ended, with_head as with_first_head, with_message as with_message_behind, with_last_message, with_refusal, stream_answer, health_of, token_answer, call_answer, stage_turn, call_turn, calls_turn}
 
 -- ---- two streams of an outbox
 
