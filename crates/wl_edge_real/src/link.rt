@@ -23,7 +23,8 @@ const CLOSING_READS: usize = 64;
 #[derive(Drop)]
 pub struct RealLink {
     stream: UnixStream,
-    /// Whether the last receive gave bytes, so that more may be there. One who watches the link shares it.
+    /// Whether the last receive gave bytes and no sending stalled since, so that more may be there. One who watches the
+    /// link shares it.
     more: Option<Arc<AtomicBool>>,
     failed_receives: u64,
     failed_sends: u64,
@@ -148,6 +149,8 @@ impl Link for RealLink {
         match self.stream.write(bytes) {
             Ok(count) if count > 0 => TrySent::Took(count),
             Err(error) if is_pause(&error) => {
+                // What is unsent goes first, so nothing is received until the poll tells that the peer has read.
+                self.note(false);
                 self.stalls = self.stalls.saturating_add(1);
                 TrySent::Later
             }

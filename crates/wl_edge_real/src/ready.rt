@@ -34,7 +34,7 @@ const EVENTS: usize = 64;
 struct Watched {
     number: u32,
     /// Whether the link's last receive gave bytes. The poll tells of changes alone, so a link is taken to be ready
-    /// until a receive gave none.
+    /// until a receive gave none, or a sending stalled.
     more: Arc<AtomicBool>,
     /// Whether the poll told of it since it was appended last.
     changed: bool,

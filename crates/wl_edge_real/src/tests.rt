@@ -125,11 +125,8 @@ fn a_finished_link_gives_its_peer_the_end(rt: HostRuntime) -> Result<(), Fail> {
     Ok(())
 }
 
-#[test]
-fn a_link_puts_off_what_its_peer_does_not_read(rt: HostRuntime) -> Result<(), Fail> {
-    let (near, far) = UnixStream::pair(&rt)?;
-    let mut link = RealLink::start(near)?;
-    let mut room = [0; 4];
+/// Sends until the link takes no more for now: its last answer.
+fn fill(link: &mut RealLink) -> TrySent {
     let piece = [1; 65_536];
     let mut last = TrySent::Failed;
     for _ in 0..1_000 {
@@ -138,7 +135,15 @@ fn a_link_puts_off_what_its_peer_does_not_read(rt: HostRuntime) -> Result<(), Fa
             break;
         }
     }
-    assert_eq!(rt; last, TrySent::Later);
+    last
+}
+
+#[test]
+fn a_link_puts_off_what_its_peer_does_not_read(rt: HostRuntime) -> Result<(), Fail> {
+    let (near, far) = UnixStream::pair(&rt)?;
+    let mut link = RealLink::start(near)?;
+    let mut room = [0; 4];
+    assert_eq!(rt; fill(&mut link), TrySent::Later);
     assert_eq!(rt; link.receive(&mut room), Received::Idle);
     far.shutdown(std::net::Shutdown::Write)?;
     assert_eq!(rt; link.receive(&mut room), Received::End);
@@ -208,6 +213,50 @@ fn a_watcher_tells_of_links_and_a_bell_of_all(rt: HostRuntime) -> Result<(), Fai
     let ringer = thread::spawn(&rt, move || ring_later(&rt, bell))?;
     assert_eq!(rt; next_told(alloc, &mut ready)?.as_slice(), [4, 5].as_slice());
     ringer.join(&rt);
+    fs::remove_file(&rt, path.as_str())?;
+    Ok(())
+}
+
+/// Reads all that a link sent.
+fn read_away(peer: &mut UnixStream) -> Result<(), Fail> {
+    let mut room = [0; 65_536];
+    peer.set_nonblocking(true)?;
+    for _ in 0..1_000 {
+        if !matches!(peer.read(&mut room), Ok(count) if count > 0) {
+            break;
+        }
+    }
+    Ok(())
+}
+
+/// Whether no wait tells of a link with bytes that were not read while it is stalled, and one does once its peer reads.
+fn waits_for_its_peer(
+    alloc: Global,
+    ready: &mut RealReady,
+    link: &mut RealLink,
+    peer: &mut UnixStream,
+) -> Result<bool, Fail> {
+    let mut room = [0; 2];
+    peer.write_all(b"abcd")?;
+    let got = link.receive(&mut room);
+    let filled = fill(link);
+    let _ = told(alloc, ready)?;
+    let stalled = told(alloc, ready)?;
+    read_away(peer)?;
+    let later = next_told(alloc, ready)?;
+    let held = (got, filled, stalled.len()) == (Received::Got(2), TrySent::Later, 0);
+    Ok(held && later.as_slice() == [7].as_slice())
+}
+
+#[test]
+fn a_watcher_tells_of_a_stalled_link_once_its_peer_reads(rt: HostRuntime) -> Result<(), Fail> {
+    let path = path_of(&rt, "stalled")?;
+    let mut listener = bound(&rt, path.as_str())?;
+    let (mut ready, _bell) = RealReady::start(&rt, rt.alloc(), &listener)?;
+    let mut peer = UnixStream::connect(&rt, path.as_str())?;
+    let mut link = accepted(&mut listener)?;
+    assert_eq!(rt; ready.add(7, &mut link), Ok(()));
+    assert!(rt; waits_for_its_peer(rt.alloc(), &mut ready, &mut link, &mut peer)?);
     fs::remove_file(&rt, path.as_str())?;
     Ok(())
 }
