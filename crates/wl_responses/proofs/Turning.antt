@@ -24,14 +24,15 @@ use Rattle.jwt_cache.specs.declared.rings.CachedToken.{CachedToken}
 use Rattle.wl_core.specs.Seats.{joined_seat, named_seat, told_seat, feed_seat, turn_seat, with_session}
 use Rattle.wl_core.specs.Tokens.{kept_token, outcome_of}
 use Rattle.wl_core.specs.Moments.{Beginning, Moment, moment, publication, seat, answer_ask, token_seat}
-use Rattle.wl_responses.specs.Steps.{Step, talk_after, AllFit}
+use Rattle.wl_responses.specs.Steps.{Step, FrameCame, BytesBroke, CallAttested, TurnTaken, OutcomeCame, talk_after, FitsStep, AllFit}
 use Rattle.wl_responses.specs.Moves.{Move, session_after, steps_of, HasTalk}
-use Rattle.wl_responses.specs.Statuses.{HasTurnEnding, HasTokenEnding}
-use Rattle.wl_responses.specs.Completeness.{OnTalk, stage_in, IsWritten, IsKeptBack, waits_for, BehindTurns, BehindTokens, EachIsAnswered, AllIsWritten, EachIsHeldBack, WaitsForAsks, AsksAreAwaited, TakesToken, TokensAreTaken, TurnsOfRunsGiveStatuses, TokensOfRunsGiveStatuses}
+use Rattle.wl_responses.specs.Statuses.{HasTurnEnding, HasTokenEnding, GivesStatus, AllGiveStatuses}
+use Rattle.wl_responses.specs.Completeness.{OnTalk, stage_in, IsWritten, IsKeptBack, waits_for, BehindTurns, BehindTokens, EachIsAnswered, AllIsWritten, EachIsHeldBack, StepsOfRunsGiveStatuses, WaitsForAsks, AsksAreAwaited, TakesToken, TokensAreTaken, TurnsOfRunsGiveStatuses, TokensOfRunsGiveStatuses}
 use Rattle.wl_responses.proofs.Moving.{sessions_take_steps, steps_fit}
 use Rattle.wl_responses.proofs.Running.{seat_step, seat_next}
 use Rattle.wl_responses.proofs.Living.{sessions_have_moves}
-use Rattle.wl_responses.proofs.Endings.{turns_give, tokens_give}
+use Rattle.wl_responses.proofs.Deciding.{verdicts_give}
+use Rattle.wl_responses.proofs.Endings.{turns_give, names_give, tokens_give}
 use Rattle.wl_responses.proofs.Waiting.{quiet_holds}
 use Rattle.wl_responses.proofs.Awaiting.{turn_awaits, token_awaits}
 
@@ -239,3 +240,19 @@ tokens_are_taken = behind_tokens TakesToken (λ o d past conn s within is. takes
 
 pub tokens_of_runs_give : TokensOfRunsGiveStatuses
 tokens_of_runs_give = behind_tokens (λ o old now. OnTalk (HasTokenEnding o) old) (λ o d past conn s within is. in_run (HasTokenEnding o) (tokens_give o) d past conn s within is)
+
+-- ---- all steps
+
+step_gives : (step : Step) (before : List Step) → FitsStep step → AllFit before → GivesStatus step (talk_after before)
+step_gives (FrameCame f) before fits fit = verdicts_give f before fits fit
+step_gives (BytesBroke why) before fits fit = tt
+step_gives (CallAttested caller) before fits fit = names_give caller before fit
+step_gives (TurnTaken x) before fits fit = turns_give x before fit
+step_gives (OutcomeCame o) before fits fit = tokens_give o before fit
+
+all_give : (steps : List Step) → AllFit steps → AllGiveStatuses steps
+all_give [] fit = tt
+all_give (step ∷ before) fit = (step_gives step before fit.1 fit.0, all_give before fit.0)
+
+pub steps_of_runs_give : StepsOfRunsGiveStatuses
+steps_of_runs_give d past conn moves within is = all_give (steps_of moves) (steps_fit moves)

@@ -31,7 +31,9 @@ use Rattle.wl_core.specs.declared.seats.Seat.{Seat}
 use Rattle.wl_core.specs.Tokens.{kept_token, outcome_of}
 use Rattle.wl_core.specs.Moments.{Beginning, moment, publication, seat}
 use Rattle.wl_responses.specs.Replies.{stage_on}
-use Rattle.wl_responses.specs.Statuses.{HasTurnEnding, HasTokenEnding}
+use Rattle.wl_responses.specs.Statuses.{HasTurnEnding, HasTokenEnding, AllGiveStatuses}
+use Rattle.wl_responses.specs.Moves.{Move, steps_of}
+use Rattle.wl_responses.specs.Runs.{moves_of}
 
 -- ---- the calls of a session
 
@@ -124,3 +126,7 @@ TurnsOfRunsGiveStatuses = BehindTurns (λ x old now. OnTalk (HasTurnEnding x) ol
 -- the first call that waits is given its status, by the outcome
 abbrev pub TokensOfRunsGiveStatuses : Type 0
 TokensOfRunsGiveStatuses = BehindTokens (λ o old now. OnTalk (HasTokenEnding o) old)
+
+-- each step of each session gives its statuses: by verdicts, names, turns and outcomes
+abbrev pub StepsOfRunsGiveStatuses : Type 0
+StepsOfRunsGiveStatuses = (d : Beginning) (past : List Event) (conn : ℕ) (moves : List Move) → conn < CONNS → moves_of d past conn ≡ Some moves → AllGiveStatuses (steps_of moves)
