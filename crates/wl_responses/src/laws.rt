@@ -5,7 +5,7 @@ ghost use Rattle.wl_responses.specs.Responses.{StreamsHaveAnswers, StreamsHaveTu
 ghost use Rattle.wl_responses.specs.Moves.{SessionsTakeSteps, BytesAreResponses, ResponsesAreAnswers, ResponsesDiffer, MessagesAreCut, TurnsHaveSelectors, TurnsWereTaken, PublicationsNeverFall};
 ghost use Rattle.wl_responses.specs.Runs.{SessionsHaveMoves, BytesOfResponses, AnswersOfTurns, TurnsOfCalls, SelectorsOfCalls, TurnsOfPublications, NumbersOfResponses, ResponsesOfRunsDiffer, MessagesOfRuns};
 ghost use Rattle.wl_responses.specs.Statuses.{NoStatusBefore, VerdictsGiveStatuses, TurnsGiveStatuses, DeniedWhereNothingIsSeen, UnknownWhereAsked, NamesGiveStatuses, TokensGiveStatuses};
-ghost use Rattle.wl_responses.specs.Completeness.{EachIsAnswered, AllIsWritten, EachIsHeldBack, AsksAreAwaited, TokensAreTaken, StepsOfRunsGiveStatuses, TurnsOfRunsGiveStatuses, TokensOfRunsGiveStatuses};
+ghost use Rattle.wl_responses.specs.Completeness.{EachIsAnswered, AllIsWritten, EachIsHeldBack, AsksAreAwaited, AsksStay, OutcomesAreTaken, StepsOfRunsGiveStatuses, TurnsOfRunsGiveStatuses, TokensOfRunsGiveStatuses};
 
 use wl_session::{answers_are_of_views, turns_answer_all};
 
@@ -79,7 +79,8 @@ pub fn runs_answer_all()
     ensures written { AllIsWritten }
     ensures held_back { EachIsHeldBack }
     ensures asks { AsksAreAwaited }
-    ensures tokens { TokensAreTaken }
+    ensures stay { AsksStay }
+    ensures outcomes { OutcomesAreTaken }
 {
     turns_answer_all();
 }
