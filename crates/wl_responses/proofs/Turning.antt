@@ -1,5 +1,5 @@
 -- What holds behind each Turn and each Token of a session of the core.
-use Rattle.std.proofs.Common.{◌≡◌, ℕ, zero, suc, ◌<◌, ◌==◌, if◌then◌else◌, List, [], ◌∷◌, ◌++◌, Option, Some, None, Ok, refl, sym, ap, subst, ◌∙◌, arith, eq-eqb}
+use Rattle.std.proofs.Common.{◌≡◌, ℕ, zero, suc, ◌<◌, ◌==◌, if◌then◌else◌, List, [], ◌∷◌, Option, Some, None, Ok, refl, sym, ap, subst, ◌∙◌, arith, eq-eqb}
 use Rattle.std.specs.Prelude.{IsSome, Bool, true, false}
 use Rattle.std.proofs.lemmas.List.{get_or-replicate}
 use Rattle.h2_frame.specs.Reading.{End, reading_from}
@@ -9,7 +9,7 @@ use Rattle.wl_entry.specs.declared.tokens.JwtToken.{JwtToken}
 use Rattle.wl_snapshot.specs.Snapshots.{Publication}
 use Rattle.wl_session.specs.declared.asks.JwtAsk.{JwtAsk}
 use Rattle.wl_session.specs.declared.asks.JwtOutcome.{JwtOutcome}
-use Rattle.wl_session.specs.Tokens.{first_unnamed, first_ask, item_for}
+use Rattle.wl_session.specs.Tokens.{first_unnamed, first_ask}
 use Rattle.wl_session.specs.Talks.{Talking}
 use Rattle.wl_session.specs.Sessions.{SessionState, Running, Fallen, OutOfMemory, fresh_session, feed_said, name_said, turn_said, given_said, state_of_fault, asks_in}
 use Rattle.wl_session.specs.Steps.{Told, unnamed_count, names_said, fed_by, feed_told, turn_told, outcome_told}
@@ -24,16 +24,17 @@ use Rattle.jwt_cache.specs.declared.rings.CachedToken.{CachedToken}
 use Rattle.wl_core.specs.Seats.{joined_seat, named_seat, told_seat, feed_seat, turn_seat, with_session}
 use Rattle.wl_core.specs.Tokens.{kept_token, outcome_of}
 use Rattle.wl_core.specs.Moments.{Beginning, Moment, moment, publication, seat, answer_ask, token_seat}
-use Rattle.wl_responses.specs.Steps.{Step, talk_after, AllFit}
+use Rattle.wl_responses.specs.Steps.{Step, FrameCame, BytesBroke, CallAttested, TurnTaken, OutcomeCame, talk_after, FitsStep, AllFit}
 use Rattle.wl_responses.specs.Moves.{Move, session_after, steps_of, HasTalk}
-use Rattle.wl_responses.specs.Statuses.{HasTurnEnding, HasTokenEnding}
-use Rattle.wl_responses.specs.Completeness.{OnTalk, stage_in, IsWritten, IsKeptBack, waits_for, BehindTurns, BehindTokens, EachIsAnswered, AllIsWritten, EachIsHeldBack, WaitsForAsks, AsksAreAwaited, TakesToken, TokensAreTaken, TurnsOfRunsGiveStatuses, TokensOfRunsGiveStatuses}
+use Rattle.wl_responses.specs.Statuses.{HasTurnEnding, HasTokenEnding, GivesStatus, AllGiveStatuses}
+use Rattle.wl_responses.specs.Completeness.{OnTalk, IsWritten, IsKeptBack, BehindTurns, BehindTokens, EachIsAnswered, AllIsWritten, EachIsHeldBack, StepsOfRunsGiveStatuses, WaitsForAsks, AsksAreAwaited, StillWaits, AsksStay, TakesOutcome, OutcomesAreTaken, TurnsOfRunsGiveStatuses, TokensOfRunsGiveStatuses}
 use Rattle.wl_responses.proofs.Moving.{sessions_take_steps, steps_fit}
 use Rattle.wl_responses.proofs.Running.{seat_step, seat_next}
 use Rattle.wl_responses.proofs.Living.{sessions_have_moves}
-use Rattle.wl_responses.proofs.Endings.{turns_give, tokens_give}
+use Rattle.wl_responses.proofs.Deciding.{verdicts_give}
+use Rattle.wl_responses.proofs.Endings.{turns_give, names_give, tokens_give}
 use Rattle.wl_responses.proofs.Waiting.{quiet_holds}
-use Rattle.wl_responses.proofs.Awaiting.{turn_awaits, token_awaits}
+use Rattle.wl_responses.proofs.Awaiting.{turn_awaits, turn_stays, outcome_awaits}
 
 -- ---- a session is complete
 
@@ -201,6 +202,15 @@ awaits_in x OutOfMemory h = λ n audience id sel seen headed is. absurd (cc is)
 pub asks_are_awaited : AsksAreAwaited
 asks_are_awaited = behind_turns WaitsForAsks (λ d past conn s within is. awaits_in (publication d past) s.session (in_run (Awaits (publication d past)) (waits (publication d past)) d past conn s within is))
 
+still_waits : (x : Publication) (s : SessionState) → StillWaits s (turn_told x s).after
+unfolding turn_told
+still_waits x (Running e t shown) = turn_stays x t
+still_waits x (Fallen fault begun) = λ n first rest got is. absurd (cc is)
+still_waits x OutOfMemory = λ n first rest got is. absurd (cc is)
+
+pub asks_stay : AsksStay
+asks_stay = behind_turns (λ x old now. StillWaits old now) (λ d past conn s within is. still_waits (publication d past) s.session)
+
 pub turns_of_runs_give : TurnsOfRunsGiveStatuses
 turns_of_runs_give = behind_turns (λ x old now. OnTalk (HasTurnEnding x) old) (λ d past conn s within is. in_run (HasTurnEnding (publication d past)) (turns_give (publication d past)) d past conn s within is)
 
@@ -222,20 +232,35 @@ behind_tokens P go d past conn time given a old now within was asks is =
     subst (λ (s : SessionState). P o old.session s) (given_on d past conn time given a old now within was asks is) (go o d past conn old within was)
 
 abbrev Takes : JwtOutcome → Talking → Type 0
-Takes o t = (e : End) (shown : Option Publication) → TakesToken o (Running e t shown) (outcome_told o (Running e t shown)).after
+Takes o t = (e : End) (shown : Option Publication) → TakesOutcome o (Running e t shown) (outcome_told o (Running e t shown)).after
 
 takes : (o : JwtOutcome) (steps : List Step) → AllFit steps → Takes o (talk_after steps)
 unfolding outcome_told
-takes o steps fit e shown n first rest got token is call =
-    subst (λ (p : JwtOutcome). stage_in n (Running e (given_said p (talk_after steps)).after shown) ≡ waits_for n first.audience rest (got ++ item_for first token ∷ [])) (sym is) (token_awaits token steps fit n first rest got call)
+takes o steps fit e shown n first rest got call = outcome_awaits o steps fit n first rest got call
 
-takes_in : (o : JwtOutcome) (s : SessionState) → OnTalk (Takes o) s → TakesToken o s (outcome_told o s).after
+takes_in : (o : JwtOutcome) (s : SessionState) → OnTalk (Takes o) s → TakesOutcome o s (outcome_told o s).after
 takes_in o (Running e t shown) h = h e shown
 takes_in o (Fallen fault begun) h = tt
 takes_in o OutOfMemory h = tt
 
-pub tokens_are_taken : TokensAreTaken
-tokens_are_taken = behind_tokens TakesToken (λ o d past conn s within is. takes_in o s.session (in_run (Takes o) (takes o) d past conn s within is))
+pub outcomes_are_taken : OutcomesAreTaken
+outcomes_are_taken = behind_tokens TakesOutcome (λ o d past conn s within is. takes_in o s.session (in_run (Takes o) (takes o) d past conn s within is))
 
 pub tokens_of_runs_give : TokensOfRunsGiveStatuses
 tokens_of_runs_give = behind_tokens (λ o old now. OnTalk (HasTokenEnding o) old) (λ o d past conn s within is. in_run (HasTokenEnding o) (tokens_give o) d past conn s within is)
+
+-- ---- all steps
+
+step_gives : (step : Step) (before : List Step) → FitsStep step → AllFit before → GivesStatus step (talk_after before)
+step_gives (FrameCame f) before fits fit = verdicts_give f before fits fit
+step_gives (BytesBroke why) before fits fit = tt
+step_gives (CallAttested caller) before fits fit = names_give caller before fit
+step_gives (TurnTaken x) before fits fit = turns_give x before fit
+step_gives (OutcomeCame o) before fits fit = tokens_give o before fit
+
+all_give : (steps : List Step) → AllFit steps → AllGiveStatuses steps
+all_give [] fit = tt
+all_give (step ∷ before) fit = (step_gives step before fit.1 fit.0, all_give before fit.0)
+
+pub steps_of_runs_give : StepsOfRunsGiveStatuses
+steps_of_runs_give d past conn moves within is = all_give (steps_of moves) (steps_fit moves)

@@ -5,7 +5,7 @@ use Rattle.h2_flow.specs.declared.flow.Flow.{Flow}
 use Rattle.h2_flow.specs.declared.stream.Stream.{Stream}
 use Rattle.h2_flow.specs.Windows.{room_of, window_of}
 use Rattle.h2_conn.specs.declared.phase.Phase.{Phase}
-use Rattle.h2_conn.specs.declared.phase.Phase.TheVariants.{Open, Failed, OutOfMemory as Exhausted}
+use Rattle.h2_conn.specs.declared.phase.Phase.TheVariants.{Open, Failed as Faulty, OutOfMemory as Exhausted}
 use Rattle.h2_conn.specs.Conns.{flush_of}
 use Rattle.workload_proto.specs.declared.message.JwtItem.{JwtItem}
 use Rattle.wl_entry.specs.declared.tokens.JwtToken.{JwtToken}
@@ -15,7 +15,7 @@ use Rattle.wl_snapshot.specs.Answers.{asks_of}
 use Rattle.wl_snapshot.specs.declared.token_asks.Wanted.{Wanted}
 use Rattle.wl_session.specs.declared.asks.JwtAsk.{JwtAsk}
 use Rattle.wl_session.specs.declared.asks.JwtOutcome.{JwtOutcome}
-use Rattle.wl_session.specs.declared.asks.JwtOutcome.TheVariants.{Token}
+use Rattle.wl_session.specs.declared.asks.JwtOutcome.TheVariants.{Token, Failed, Unfit}
 use Rattle.wl_session.specs.declared.served.CallKind.TheVariants.{Tokens}
 use Rattle.wl_session.specs.declared.served.Stage.{Stage}
 use Rattle.wl_session.specs.declared.served.Stage.TheVariants.{Ready, Asking}
@@ -31,7 +31,9 @@ use Rattle.wl_core.specs.declared.seats.Seat.{Seat}
 use Rattle.wl_core.specs.Tokens.{kept_token, outcome_of}
 use Rattle.wl_core.specs.Moments.{Beginning, moment, publication, seat}
 use Rattle.wl_responses.specs.Replies.{stage_on}
-use Rattle.wl_responses.specs.Statuses.{HasTurnEnding, HasTokenEnding}
+use Rattle.wl_responses.specs.Statuses.{HasTurnEnding, HasTokenEnding, AllGiveStatuses}
+use Rattle.wl_responses.specs.Moves.{Move, steps_of}
+use Rattle.wl_responses.specs.Runs.{moves_of}
 
 -- ---- the calls of a session
 
@@ -59,7 +61,7 @@ IsHeldBack f s =
 
 abbrev pub HoldsBack : Phase → Type 0
 HoldsBack (Open q) = AllByRecursion (IsHeldBack q.outbox.flow) q.outbox.streams
-HoldsBack (Failed fault left totals) = Unit {0}
+HoldsBack (Faulty fault left totals) = Unit {0}
 HoldsBack (Exhausted totals) = Unit {0}
 
 abbrev pub IsKeptBack : Talking → Type 0
@@ -69,6 +71,12 @@ IsKeptBack t = HoldsBack t.phase
 abbrev pub waits_for : ℕ → List (List ℕ) → List Wanted → List JwtItem → Option Stage
 waits_for n audience [] got = None
 waits_for n audience (w ∷ ws) got = Some (Asking (ask_on n audience w) ws got)
+
+-- how far it is behind the outcome of its first ask: where that is no token it has ended
+abbrev pub waits_after : JwtOutcome → ℕ → JwtAsk → List Wanted → List JwtItem → Option Stage
+waits_after (Token t) n first rest got = waits_for n first.audience rest (got ++ item_for first t ∷ [])
+waits_after Failed n first rest got = None
+waits_after (Unfit why) n first rest got = None
 
 -- ---- an event of a session
 
@@ -107,15 +115,23 @@ WaitsForAsks x old now =
 abbrev pub AsksAreAwaited : Type 0
 AsksAreAwaited = BehindTurns WaitsForAsks
 
--- with a fit token the first call that waits goes to its next ask, and behind the last one it ends
-abbrev pub TakesToken : JwtOutcome → SessionState → SessionState → Type 0
-TakesToken o old now = OnTalk (λ (t : Talking).
-    (n : ℕ) (first : JwtAsk) (rest : List Wanted) (got : List JwtItem) (token : JwtToken) → o ≡ Token token
-    → find is_asking t.served ≡ Some (record { stream = n; stage = Asking first rest got })
-    → stage_in n now ≡ waits_for n first.audience rest (got ++ item_for first token ∷ [])) old
+-- a call that waits for tokens goes on waiting for the same ones
+abbrev pub StillWaits : SessionState → SessionState → Type 0
+StillWaits old now = (n : ℕ) (first : JwtAsk) (rest : List Wanted) (got : List JwtItem) → stage_in n old ≡ Some (Asking first rest got) → stage_in n now ≡ Some (Asking first rest got)
 
-abbrev pub TokensAreTaken : Type 0
-TokensAreTaken = BehindTokens TakesToken
+abbrev pub AsksStay : Type 0
+AsksStay = BehindTurns (λ x old now. StillWaits old now)
+
+-- with a fit token the first call that waits goes to its next ask, and behind the last one it ends; without one it ends
+abbrev pub TakesOutcome : JwtOutcome → SessionState → SessionState → Type 0
+TakesOutcome o old now =
+    OnTalk
+    (λ (t : Talking).
+    (n : ℕ) (first : JwtAsk) (rest : List Wanted) (got : List JwtItem) → find is_asking t.served ≡ Some (record { stream = n; stage = Asking first rest got }) → stage_in n now ≡ waits_after o n first rest got)
+    old
+
+abbrev pub OutcomesAreTaken : Type 0
+OutcomesAreTaken = BehindTokens TakesOutcome
 
 -- each ready call is given its status, by the view of that publication
 abbrev pub TurnsOfRunsGiveStatuses : Type 0
@@ -124,3 +140,7 @@ TurnsOfRunsGiveStatuses = BehindTurns (λ x old now. OnTalk (HasTurnEnding x) ol
 -- the first call that waits is given its status, by the outcome
 abbrev pub TokensOfRunsGiveStatuses : Type 0
 TokensOfRunsGiveStatuses = BehindTokens (λ o old now. OnTalk (HasTokenEnding o) old)
+
+-- each step of each session gives its statuses: by verdicts, names, turns and outcomes
+abbrev pub StepsOfRunsGiveStatuses : Type 0
+StepsOfRunsGiveStatuses = (d : Beginning) (past : List Event) (conn : ℕ) (moves : List Move) → conn < CONNS → moves_of d past conn ≡ Some moves → AllGiveStatuses (steps_of moves)

@@ -39,7 +39,7 @@ use Rattle.wl_session.specs.Answering.{health_of}
 use Rattle.wl_session.specs.Refusing.{refusal_on, SeesNothing, AsksUnknown}
 use Rattle.wl_session.specs.Tokens.{first_unnamed, is_asking, item_for}
 use Rattle.wl_session.specs.Talks.{Talking}
-use Rattle.wl_responses.specs.Steps.{Step, FrameCame, CallAttested, TurnTaken, OutcomeCame, talk_after, unwritten, AllFit}
+use Rattle.wl_responses.specs.Steps.{Step, FrameCame, BytesBroke, CallAttested, TurnTaken, OutcomeCame, talk_after, unwritten, AllFit}
 use Rattle.wl_responses.specs.Replies.{stage_on}
 
 -- ---- the stream of a call
@@ -179,6 +179,21 @@ abbrev pub HasTokenEnding : JwtOutcome → Talking → Type 0
 HasTokenEnding o t =
     (n : ℕ) (first : JwtAsk) (rest : List Wanted) (got : List JwtItem) → find is_asking t.served ≡ Some (record { stream = n; stage = Asking first rest got })
     → OnPhase n (HasEnding false (ending_given o first rest got)) (unwritten (OutcomeCame o) t)
+
+-- ---- each step
+
+-- what a step gives the calls of a talk
+abbrev pub GivesStatus : Step → Talking → Type 0
+GivesStatus (FrameCame f) t = HasVerdictEnding f t
+GivesStatus (BytesBroke why) t = Unit {0}
+GivesStatus (CallAttested caller) t = HasNameEnding caller t
+GivesStatus (TurnTaken x) t = HasTurnEnding x t
+GivesStatus (OutcomeCame o) t = HasTokenEnding o t
+
+-- so it is with all of these steps
+abbrev pub AllGiveStatuses : List Step → Type 0
+AllGiveStatuses [] = Unit {0}
+AllGiveStatuses (step ∷ before) = GivesStatus step (talk_after before) × AllGiveStatuses before
 
 -- ---- laws
 

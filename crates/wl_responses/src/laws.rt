@@ -5,7 +5,7 @@ ghost use Rattle.wl_responses.specs.Responses.{StreamsHaveAnswers, StreamsHaveTu
 ghost use Rattle.wl_responses.specs.Moves.{SessionsTakeSteps, BytesAreResponses, ResponsesAreAnswers, ResponsesDiffer, MessagesAreCut, TurnsHaveSelectors, TurnsWereTaken, PublicationsNeverFall};
 ghost use Rattle.wl_responses.specs.Runs.{SessionsHaveMoves, BytesOfResponses, AnswersOfTurns, TurnsOfCalls, SelectorsOfCalls, TurnsOfPublications, NumbersOfResponses, ResponsesOfRunsDiffer, MessagesOfRuns};
 ghost use Rattle.wl_responses.specs.Statuses.{NoStatusBefore, VerdictsGiveStatuses, TurnsGiveStatuses, DeniedWhereNothingIsSeen, UnknownWhereAsked, NamesGiveStatuses, TokensGiveStatuses};
-ghost use Rattle.wl_responses.specs.Completeness.{EachIsAnswered, AllIsWritten, EachIsHeldBack, AsksAreAwaited, TokensAreTaken, TurnsOfRunsGiveStatuses, TokensOfRunsGiveStatuses};
+ghost use Rattle.wl_responses.specs.Completeness.{EachIsAnswered, AllIsWritten, EachIsHeldBack, AsksAreAwaited, AsksStay, OutcomesAreTaken, StepsOfRunsGiveStatuses, TurnsOfRunsGiveStatuses, TokensOfRunsGiveStatuses};
 
 use wl_session::{answers_are_of_views, turns_answer_all};
 
@@ -79,14 +79,16 @@ pub fn runs_answer_all()
     ensures written { AllIsWritten }
     ensures held_back { EachIsHeldBack }
     ensures asks { AsksAreAwaited }
-    ensures tokens { TokensAreTaken }
+    ensures stay { AsksStay }
+    ensures outcomes { OutcomesAreTaken }
 {
     turns_answer_all();
 }
 
-/// Behind each Turn of a session of the core each ready call has its status, and behind each Token the call
-/// whose ask waited.
+/// Each step of each session of the core gives its statuses: a frame, a name, a turn and an outcome. So behind
+/// each Turn each ready call has its status, and behind each Token the call whose ask waited.
 pub fn runs_give_statuses()
+    ensures steps { StepsOfRunsGiveStatuses }
     ensures turns { TurnsOfRunsGiveStatuses }
     ensures tokens { TokensOfRunsGiveStatuses }
 {}

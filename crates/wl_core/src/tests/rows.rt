@@ -121,7 +121,7 @@ pub const FIRST_SAID: [Said; 6] = [
     Said::Out(0, &[RESPONSE_HEAD, RESPONSE]),
 ];
 
-pub const SEQUELS: [Transcript; 7] = [
+pub const SEQUELS: [Transcript; 8] = [
     Transcript {
         name: "first_transcript",
         is_strict: false,
@@ -193,6 +193,40 @@ pub const SEQUELS: [Transcript; 7] = [
             Said::Words("ticket 2 6532"),
             Said::Words("kept"),
             Said::Words("published 3"),
+        ],
+    },
+    Transcript {
+        name: "one_caller_of_two",
+        is_strict: false,
+        is_sequel: true,
+        document: DOC,
+        steps: &[
+            Step::Sync(TWO),
+            Step::Claim(100),
+            Step::Signed(2, b"\x07", b"\x08", 100, 200, 100),
+            Step::Join(1, b"unix:uid:2"),
+            Step::Feed(1, &[PREFACE, SETTINGS, HEAD, EMPTY]),
+            Step::Turn(1),
+            Step::Turn(0),
+            Step::Claim(150),
+            Step::Signed(4, b"\x09", b"\x0a", 150, 250, 150),
+            Step::Turn(0),
+            Step::Turn(1),
+            Step::Turn(1),
+        ],
+        said: &[
+            Said::Words("published 2"),
+            Said::Words("ticket 2 6532"),
+            Said::Words("kept"),
+            Said::Words("published 3"),
+            Said::Words("joined 1"),
+            Said::Out(1, &[SERVER_SETTINGS, ACKNOWLEDGEMENT, STEP_5]),
+            Said::Out(1, &[RESPONSE_HEAD, OTHER_RESPONSE]),
+            Said::Words("ticket 3 6531"),
+            Said::Words("ticket 4 6532"),
+            Said::Words("kept"),
+            Said::Words("published 4"),
+            Said::Out(1, &[OTHER_NEXT_RESPONSE]),
         ],
     },
     Transcript {
