@@ -14,3 +14,5 @@ pub mod Given
 pub mod Owned
 pub mod Coming
 pub mod Hearers
+pub mod Fed
+pub mod Sending

@@ -1,14 +1,18 @@
 -- A talk in which the peer makes one call, and what a client hears of it.
-use Rattle.std.specs.Prelude.{◌≡◌, ℕ, List, [], ◌∷◌}
+use Rattle.std.specs.Prelude.{◌≡◌, ℕ, ◌≤◌, List, [], ◌∷◌, ◌++◌, length}
+use Rattle.list_laws.specs.Lists.{BeginsWith}
+use Rattle.h2_wire.specs.declared.limit.TheConstants.{MAX_FRAME_SIZE}
 use Rattle.h2_frame.specs.declared.frame.Frame.{Frame}
 use Rattle.h2_frame.specs.declared.frame.Body.{Body}
 use Rattle.h2_frame.specs.declared.frame.Body.TheVariants.{Headers, Continuation}
 use Rattle.wl_client.specs.declared.fault.ClientFault.{ClientFault}
 use Rattle.wl_client.specs.declared.fault.ClientFault.TheVariants as faults
-use Rattle.wl_client.specs.Openings.{call_stream}
+use Rattle.grpc_wire.specs.declared.method.Method.{Method}
+use Rattle.grpc_wire.specs.Messages.{framed}
+use Rattle.wl_client.specs.Openings.{call_stream, opening_of}
 use Rattle.wl_client.specs.Clients.{ClientState, Listening, Failed, heard}
 use Rattle.wl_responses.specs.Steps.{Step, FrameCame, BytesBroke, CallAttested, TurnTaken, OutcomeCame}
-use Rattle.wl_responses.specs.Moves.{Move, bytes_after, steps_of}
+use Rattle.wl_responses.specs.Moves.{Move, Fed, TurnedOn, GivenTo, bytes_after, steps_of}
 
 -- ---- the peer's frames
 
@@ -49,3 +53,20 @@ FailsAsSaid (Failed fault) = IsSaidOfCall fault
 -- no frame of a session is out of its order to the client, each header block is decoded, and the stream ends with a status
 abbrev pub CallsAreHeard : Type 0
 CallsAreHeard = (moves : List Move) → MakesOneCall (steps_of moves) → FailsAsSaid (heard (bytes_after moves)).after
+
+-- ---- a client's bytes
+
+-- all bytes that were fed to a session
+abbrev pub bytes_fed : List Move → List ℕ
+bytes_fed [] = []
+bytes_fed (Fed piece caller ∷ before) = bytes_fed before ++ piece
+bytes_fed (TurnedOn x ∷ before) = bytes_fed before
+bytes_fed (GivenTo o ∷ before) = bytes_fed before
+
+-- those that open a client's call, and what it wrote for these bytes of a server
+abbrev pub client_bytes : Method → List ℕ → List ℕ → List ℕ
+client_bytes method message server = opening_of method message ++ (heard server).bytes
+
+-- so it is where a session was fed the bytes of a client, as far as they came; the call's message fits one frame
+abbrev pub ClientsAreAnswered : Type 0
+ClientsAreAnswered = (method : Method) (message server : List ℕ) (moves : List Move) → length (framed message) ≤ MAX_FRAME_SIZE → BeginsWith (client_bytes method message server) (bytes_fed moves) → FailsAsSaid (heard (bytes_after moves)).after

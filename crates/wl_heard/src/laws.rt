@@ -1,6 +1,6 @@
 //! What a reader of HTTP/2 finds in the bytes of a talk, and what a client hears in those of a session.
 
-ghost use Rattle.wl_heard.specs.Calls.{CallsAreHeard};
+ghost use Rattle.wl_heard.specs.Calls.{CallsAreHeard, ClientsAreAnswered};
 ghost use Rattle.wl_heard.specs.Clients.{ClientsHearSessions};
 ghost use Rattle.wl_heard.specs.Written.{TalksAreRead, ControlIsRead, DataIsRead, SessionsAreRead, SessionDataIsRead};
 
@@ -34,4 +34,5 @@ pub fn clients_hear_sessions()
 /// refusal by HTTP, RST_STREAM or GOAWAY.
 pub fn calls_are_heard()
     ensures faults { CallsAreHeard }
+    ensures clients { ClientsAreAnswered }
 {}

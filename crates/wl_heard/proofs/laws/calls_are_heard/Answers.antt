@@ -1,5 +1,6 @@
+use Rattle.wl_heard.proofs.Sending.{clients_are_answered}
 use Rattle.wl_heard.proofs.Hearers.{calls_are_heard}
 use Rattle.wl_heard.proofs.laws.calls_are_heard.Goals as goal
 
 pub returns : goal.returns
-returns c = record { faults = calls_are_heard }
+returns c = record { faults = calls_are_heard; clients = clients_are_answered }
