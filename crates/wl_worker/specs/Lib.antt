@@ -8,5 +8,6 @@ pub mod Served
 pub mod Sending
 pub mod Stepping
 pub mod Connections
+pub mod Completeness
 pub mod Tended
 pub mod Seating

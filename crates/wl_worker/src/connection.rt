@@ -3,6 +3,7 @@
 ghost use Rattle.std.specs.Prelude.{◌≡◌, ◌≤◌};
 ghost use Rattle.wl_edge.specs.Edge.{Rose};
 ghost use Rattle.wl_worker.specs.Served.{around};
+ghost use Rattle.wl_worker.specs.Completeness.{Completes, link_faults};
 ghost use Rattle.wl_worker.specs.Connections.{ConnectionTells};
 
 use crate::ended::{Ended, RoundEnd};
@@ -33,6 +34,15 @@ pub fn serve_connection<L: Link, S: Signer, A: Attestor, C: Clock, G: Gate, R: W
     gate: &G,
 ) -> Ended
     ensures tells { ConnectionTells S.V.token socket (L.told link.old) (L.told link.new)
+        (around (A.calls attestor.old) (A.faults attestor.old) (S.calls signer.old) (S.faults signer.old)
+        (C.answers clock.old) pass.old)
+        (around (A.calls attestor.new) (A.faults attestor.new) (S.calls signer.new) (S.faults signer.new)
+        (C.answers clock.new) pass.new)
+        result }
+    // Where no count of the link, the attestor and the signer rose: how it ended, and that all was answered and sent.
+    ensures completeness { Completes S.V.token socket (L.told link.old) (L.told link.new)
+        (link_faults (L.failed_receives link.old) (L.failed_sends link.old))
+        (link_faults (L.failed_receives link.new) (L.failed_sends link.new))
         (around (A.calls attestor.old) (A.faults attestor.old) (S.calls signer.old) (S.faults signer.old)
         (C.answers clock.old) pass.old)
         (around (A.calls attestor.new) (A.faults attestor.new) (S.calls signer.new) (S.faults signer.new)

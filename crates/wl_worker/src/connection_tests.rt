@@ -4,6 +4,7 @@ mod cases;
 pub mod desks;
 mod failing;
 pub mod frames;
+mod gates;
 mod input;
 pub mod outside;
 mod rotation;
@@ -13,7 +14,7 @@ use desks::open;
 use outside::{Outside, Stop, memory_outside};
 use std::alloc::Global;
 use std::sync::Wait;
-use wl_edge::{LinkPlan, MemoryLink, OpenGate};
+use wl_edge::{Gate, LinkPlan, MemoryLink, OpenGate};
 use wl_octets::Octets;
 
 /// How a connection ended, what its link took, and how often the signer was asked.
@@ -25,11 +26,12 @@ struct Came {
 }
 
 /// Serves a link on a desk of its own.
-fn serve_link<R: Wait>(
+fn serve_link<G: Gate, R: Wait>(
     rt: &R,
     alloc: Global,
     link: &mut MemoryLink,
     outside: &mut Outside,
+    gate: &G,
 ) -> Result<Ended, Stop> {
     let (desk, mut pass) = open(rt, alloc, 1)?;
     let end = serve_connection(
@@ -42,7 +44,7 @@ fn serve_link<R: Wait>(
         &mut outside.signer,
         &mut outside.attestor,
         &mut outside.clock,
-        &OpenGate,
+        gate,
     );
     desk.into_inner().end(rt);
     Ok(end)
@@ -56,7 +58,7 @@ fn serve<R: Wait>(
     outside: &mut Outside,
 ) -> Result<Came, Stop> {
     let mut link = MemoryLink::start(alloc, plan)?;
-    let end = serve_link(rt, alloc, &mut link, outside)?;
+    let end = serve_link(rt, alloc, &mut link, outside, &OpenGate)?;
     Ok(Came {
         end,
         took: Octets::from_slice(alloc, link.took())?,

@@ -1,18 +1,19 @@
 //! Seats over memory.
 
 mod outside;
+mod rooms;
 
 ghost use Rattle.std.specs.Prelude.{IsSome};
 
 use crate::connection_tests::desks::open;
-use crate::connection_tests::outside::Stop;
+use crate::connection_tests::outside::{Stop, numbers};
 use crate::{SeatEnd, serve_seat};
 use outside::{MemorySeat, seat};
 use std::alloc::Global;
 use std::sync::{Mutex, Wait};
 use std::test::Fail;
 use wl_desk::Desk;
-use wl_edge::{MemoryLink, OpenGate};
+use wl_edge::{MemoryLink, MemoryReady, OpenGate, Ready};
 use wl_entry::Free;
 
 /// A seat and what becomes of it. Each link gives the opening and a call for identities, and then its end.
@@ -33,7 +34,7 @@ struct Case {
     finished: &'static [(bool, u64)],
 }
 
-const CASES: [Case; 7] = [
+const CASES: [Case; 8] = [
     Case {
         name: "two links, of which one is served at a time",
         room: 1,
@@ -73,6 +74,18 @@ const CASES: [Case; 7] = [
         unwatched: &[],
         end: SeatEnd::End,
         finished: &[(true, 0), (true, 40)],
+    },
+    // The watcher's calls are two additions and then waits, so that its call 20 comes after 18 turns. The first link
+    // puts off a sending in each of them.
+    Case {
+        name: "beside a link that takes nothing any more the other is served in full",
+        room: 2,
+        links: &[1_000, 0],
+        idle: &[],
+        failing: &[],
+        unwatched: &[20],
+        end: SeatEnd::WaitFault,
+        finished: &[(true, 0), (false, 18)],
     },
     Case {
         name: "an accept fails while a link is served",
@@ -114,11 +127,11 @@ fn are_due(links: &[MemoryLink], due: &[(bool, u64)]) -> bool {
 }
 
 /// Serves a seat of which no link was finished yet.
-fn serve_first<R: Wait>(
+fn serve_first<P: Ready<MemoryLink>, R: Wait>(
     rt: &R,
     alloc: Global,
     desk: &Mutex<Desk<Free>>,
-    seat: &mut MemorySeat,
+    seat: &mut MemorySeat<P>,
 ) -> Result<SeatEnd, Stop>
     requires { IsSome seat.old.pass }
 {
@@ -129,27 +142,30 @@ fn serve_first<R: Wait>(
     }
 }
 
-/// Serves a seat on a desk of its own. The desk has one seat fewer then.
-fn serve<R: Wait>(rt: &R, alloc: Global, case: &Case) -> Result<(SeatEnd, u32, MemorySeat), Stop> {
-    let mut seat = seat(
-        alloc,
-        case.room,
-        case.links,
-        case.idle,
-        case.failing,
-        case.unwatched,
-    )?;
+/// Serves a seat on a desk of its own of three seats: its end, and how many seats the desk has then.
+fn serve<P: Ready<MemoryLink>, R: Wait>(
+    rt: &R,
+    alloc: Global,
+    seat: &mut MemorySeat<P>,
+) -> Result<(SeatEnd, u32), Stop> {
     let (desk, pass) = open(rt, alloc, 3)?;
     seat.pass = Some(pass);
-    let end = serve_first(rt, alloc, &desk, &mut seat);
+    let end = serve_first(rt, alloc, &desk, seat);
     let left = desk.lock(rt).seats();
     desk.into_inner().end(rt);
-    Ok((end?, left, seat))
+    Ok((end?, left))
 }
 
-/// Whether a seat ends as is due.
+/// The seat of a case.
+fn seat_of(alloc: Global, case: &Case) -> Result<MemorySeat<MemoryReady>, Stop> {
+    let ready = MemoryReady::start(alloc, numbers(alloc, case.unwatched)?);
+    seat(alloc, case.room, case.links, case.idle, case.failing, ready)
+}
+
+/// Whether a seat ends as is due, and the desk has one seat fewer then.
 fn is_due<R: Wait>(rt: &R, alloc: Global, case: &Case) -> Result<bool, Stop> {
-    let (end, left, seat) = serve(rt, alloc, case)?;
+    let mut seat = seat_of(alloc, case)?;
+    let (end, left) = serve(rt, alloc, &mut seat)?;
     Ok(end == case.end && left == 2 && are_due(seat.listener.finished(), case.finished))
 }
 

@@ -5,12 +5,12 @@ use crate::connection_tests::frames::{EMPTY, GREETING, HEAD, OPENING, RESPONSE};
 use crate::connection_tests::outside::{Stop, memory_outside, numbers, plan};
 use std::alloc::Global;
 use wl_edge::{
-    LinkPlan, ListenerPlan, MemoryAttestor, MemoryClock, MemoryLink, MemoryListener, MemoryReady,
-    MemorySigner,
+    LinkPlan, ListenerPlan, MemoryAttestor, MemoryClock, MemoryLink, MemoryListener, MemorySigner,
 };
 use wl_octets::{Memory, Row};
 
-pub type MemorySeat = Seat<MemoryListener, MemorySigner, MemoryAttestor, MemoryClock, MemoryReady>;
+/// A seat whose links are watched by this.
+pub type MemorySeat<P> = Seat<MemoryListener, MemorySigner, MemoryAttestor, MemoryClock, P>;
 
 /// Whether a link took its whole talk, or else nothing.
 pub fn took(link: &MemoryLink, whole: bool) -> bool {
@@ -54,16 +54,15 @@ fn listener(
 }
 
 /// A seat without a pass.
-pub fn seat(
+pub fn seat<P: Drop>(
     alloc: Global,
     room: u32,
     stalls: &[u64],
     idle: &[u64],
     failing: &[u64],
-    unwatched: &[u64],
-) -> Result<MemorySeat, Stop> {
+    ready: P,
+) -> Result<MemorySeat<P>, Stop> {
     let listener = listener(alloc, stalls, idle, failing)?;
-    let ready = MemoryReady::start(alloc, numbers(alloc, unwatched)?);
     let outside = memory_outside(alloc, 100, &[], &[])?;
     Ok(Seat {
         listener,
