@@ -1,6 +1,5 @@
 -- What is given to a connection that has the call's stream alone.
-use Rattle.std.proofs.Common.{◌≡◌, inl, ℕ, ◌≤◌, Bool, true, false, not, cond, List, [], ◌∷◌, Some, None, refl, sym, ◌∙◌, eq-eqb}
-use Rattle.std.specs.List.{list_any}
+use Rattle.std.proofs.Common.{◌≡◌, inl, ℕ, ◌≤◌, Bool, true, false, not, cond, List, [], ◌∷◌, filter, Some, None, refl, sym, ◌∙◌, eq-eqb}
 use Rattle.hpack.specs.Writing.{block_bytes}
 use Rattle.h2_frame.specs.declared.frame.Body.TheVariants.{Reset}
 use Rattle.h2_flow.specs.declared.stream.Stream.{Stream}
@@ -41,7 +40,7 @@ only_weaker P Q go [] h = tt
 only_weaker P Q go (s ∷ []) h = (h.0, go s h.1)
 only_weaker P Q go (s ∷ t ∷ ss) h = absurd h
 
-pub only_filter : (P : Stream → Type 0) (test : Stream → Bool) (ss : List Stream) → OnlyOf P ss → OnlyOf P (Rattle.std.specs.List.filter test ss)
+pub only_filter : (P : Stream → Type 0) (test : Stream → Bool) (ss : List Stream) → OnlyOf P ss → OnlyOf P (filter test ss)
 only_filter P test [] h = tt
 only_filter P test (s ∷ []) h = go (test s)
   where

@@ -1,5 +1,5 @@
 -- What is queued while the call's stream is there lets the client go on.
-use Rattle.std.proofs.Common.{◌≡◌, ◌⊎◌, inl, inr, ℕ, ◌+◌, ◌≤◌, ◌<◌, ◌^◌, ◌==◌, cond, Bool, true, false, List, [], ◌∷◌, map, Option, Some, None, refl, arith, eqb-true, eq-eqb}
+use Rattle.std.proofs.Common.{◌≡◌, ◌⊎◌, inl, inr, ℕ, ◌+◌, ◌≤◌, ◌<◌, ◌^◌, ◌==◌, cond, not, Bool, true, false, List, [], ◌∷◌, map, Option, Some, None, refl, arith, eqb-true, eq-eqb}
 use Rattle.std.specs.List.{AllByRecursion}
 use Rattle.std.proofs.lemmas.Bool.{cases_Bool}
 use Rattle.hpack.specs.Writing.{block_bytes}
@@ -32,7 +32,7 @@ use Rattle.wl_responses.specs.Steps.{Step, FrameCame, BytesBroke, CallAttested, 
 use Rattle.wl_heard.specs.Calls.{ComesOfOneCall, IsOfOneCall}
 use Rattle.wl_heard.proofs.Found.{Holds, holds_both, holds_spelled}
 use Rattle.wl_heard.proofs.Opens.{IsFirst, frame_opens}
-use Rattle.wl_heard.proofs.Given.{OnlyOf, sound_lasts, FirstOn, first_lasts}
+use Rattle.wl_heard.proofs.Given.{OnlyOf, only_filter, sound_lasts, FirstOn, first_lasts}
 use Rattle.wl_heard.proofs.Serving.{Lasts, l_refusal, l_turns, l_names, l_gives}
 use Rattle.wl_heard.proofs.Tidy.{live_below}
 use Rattle.wl_heard.proofs.Coming.{IsNone, Kind, head, other, kind_of, only_of, old_streams}
@@ -98,11 +98,6 @@ n_silence : (n : ℕ) (q : State) → CleanState q → CleanState (without_waiti
 unfolding without_waiting_on without_waiting
 n_silence n q h = n_update n (λ s. record s { waiting = None }) (takes n q) q h
 
-none_filter : (test : Stream → Bool) (ss : List Stream) → OnlyOf IsNone ss → OnlyOf IsNone (Rattle.std.specs.List.filter test ss)
-none_filter test [] h = tt
-none_filter test (s ∷ []) h = absurd h.1
-none_filter test (s ∷ t ∷ ss) h = absurd h
-
 reset_now : (n : ℕ) (q : State) → is_live n q.streams ≡ true → NeatState q → CleanState (without_live_stream n (with_control_frame n (Reset 1) q))
 unfolding without_live_stream without_stream with_control
 reset_now n q live h =
@@ -110,7 +105,7 @@ reset_now n q live h =
     go h.clean below (cases_Bool (n == call_stream))
   where
     go : CleanState q → n ≤ q.last_stream_id → ((n == call_stream) ≡ true) ⊎ ((n == call_stream) ≡ false) → CleanState (without_live_stream n (with_control_frame n (Reset 1) q))
-    go (inr none) below is = inr (none_filter _ q.outbox.streams none.0, none.1)
+    go (inr none) below is = inr (only_filter IsNone (λ s. not (is_number n s)) q.outbox.streams none.0, none.1)
     go (inl mild) below (inl here) =
         let own = eqb-true n call_stream here in
         inr (none_left n q.outbox.streams own (only_of IsAny q h.sound h.first (any_streams q.outbox.streams)), omega (arith, below, own))
