@@ -31,7 +31,7 @@ use Rattle.wl_client.specs.declared.listener.Stage.{Stage}
 use Rattle.wl_client.specs.declared.listener.Stage.TheVariants.{Opening}
 use Rattle.wl_client.specs.Openings.{call_stream}
 use Rattle.wl_heard.specs.Calls.{IsOfOneCall}
-use Rattle.wl_heard.proofs.Marks.{Mark, Bare, Headed, Closing, At}
+use Rattle.wl_heard.proofs.Marks.{Mark, Bare, Headed, Closing, Alone, At}
 use Rattle.wl_heard.proofs.Opens.{IsFirst, frame_opens}
 use Rattle.wl_heard.proofs.Given.{OnlyOf, OnlyOn, sound_lasts, refusal_only, reset_only, FirstOn, first_lasts, CameHere, came_lasts}
 use Rattle.wl_heard.proofs.Serving.{l_refusal}
@@ -73,8 +73,8 @@ at_free : (m : Mark) (g : Stage) (s : Stream) (c : ℤ) → At m g s → At m g 
 at_free Bare g s c h = record { stage = h.stage; head = h.head; last = h.last; waiting = h.waiting; trailers = h.trailers; finished = h.finished }
 at_free Headed g s c h = record { head = h.head; trailers = h.trailers; finished = h.finished }
 at_free Closing g s c (inl h) = inl (record { head = h.head; trailers = h.trailers; finished = h.finished })
-at_free Closing g s c (inr (inl h)) = inr (inl (record { stage = h.stage; head = h.head; last = h.last; waiting = h.waiting; trailers = h.trailers; finished = h.finished }))
-at_free Closing g s c (inr (inr h)) = inr (inr (record { stage = h.stage; head = h.head; waiting = h.waiting; trailers = h.trailers; sent = h.sent; finished = h.finished }))
+at_free Alone g s c h = record { stage = h.stage; head = h.head; last = h.last; waiting = h.waiting; trailers = h.trailers; finished = h.finished }
+at_free Closing g s c (inr h) = inr ((record { stage = h.stage; head = h.head; waiting = h.waiting; trailers = h.trailers; sent = h.sent; finished = h.finished }))
 
 abbrev Each : (Stream → Type 0) → Stream → Type 0
 Each P s = s.number ≡ call_stream → P s
@@ -90,7 +90,7 @@ only_in P last (s ∷ []) low rises below h =
     let own : s.number ≡ call_stream = omega (arith, low, rises.0, below.0) in (own, h.0 own)
 only_in P last (s ∷ t ∷ ss) low rises below h = absurd (omega (arith, low, rises.0, rises.1.0, below.1.0))
 
-only_of : (P : Stream → Type 0) (q : State) → Sound q → IsFirst q → AllByRecursion (Each P) q.outbox.streams → OnlyOf P q.outbox.streams
+pub only_of : (P : Stream → Type 0) (q : State) → Sound q → IsFirst q → AllByRecursion (Each P) q.outbox.streams → OnlyOf P q.outbox.streams
 only_of P q sound first h = only_in P q.last_stream_id q.outbox.streams first sound.rises sound.below h
 
 -- what is said hangs neither on the credit nor on what a frame told
@@ -108,7 +108,7 @@ all_after P told other [] h = tt
 all_after P told other (s ∷ ss) h = (h.0 other, all_after P told other ss h.1)
 
 -- where the stream is not opened now
-old_streams : (P : Stream → Type 0) → IsFree P → (f : Frame) (told : Option Happening) (old new : State) → Sound old → Sound new → IsFirst new → peer old f ≡ goes new told → OpensNot call_stream told → OnlyOf P old.outbox.streams → OnlyOf P new.outbox.streams
+pub old_streams : (P : Stream → Type 0) → IsFree P → (f : Frame) (told : Option Happening) (old new : State) → Sound old → Sound new → IsFirst new → peer old f ≡ goes new told → OpensNot call_stream told → OnlyOf P old.outbox.streams → OnlyOf P new.outbox.streams
 old_streams P free f told old new so sn first due other h =
     let c = old.outbox.flow.connection_window in
     let i = old.outbox.flow.initial_window_size in
@@ -146,7 +146,7 @@ event_told g events.Malformed greeted p k own sound first h came =
     })
 event_told g (events.Refuse why) greeted p k own sound first h came =
     rw (own_gone k own) (record {
-      mark = Closing;
+      mark = Alone;
       sound = l_refusal SoundPhase sound_lasts call_stream false why p sound;
       first = l_refusal FirstOn first_lasts call_stream false why p first;
       phase = refusal_only false why g p tt sound h;
@@ -221,11 +221,11 @@ head_told g headers ended greeted p calls served none nobody sound first h came 
 -- ---- a frame
 
 -- a head is of the call's stream, which was not there
-data Kind (old new : State) : Option Happening → Type 0 where
+pub data Kind (old new : State) : Option Happening → Type 0 where
   head : (headers : List Header) (ended : Bool) → old.last_stream_id < call_stream → call_stream ≤ new.last_stream_id → Kind old new (Some (happening.Head call_stream headers ended))
   other : (told : Option Happening) → OpensNot call_stream told → ((k : ℕ) (headers : List Header) (ended : Bool) → told ≡ Some (happening.Head k headers ended) → ⊥) → Kind old new told
 
-kind_of : (old new : State) (told : Option Happening) → Sound new → IsFirst new → NamesTold old told new → Kind old new told
+pub kind_of : (old new : State) (told : Option Happening) → Sound new → IsFirst new → NamesTold old told new → Kind old new told
 kind_of old new None sn first names = other None tt (λ k headers ended e. absurd (cc e))
 kind_of old new (Some (happening.Head k headers ended)) sn first names =
     let higher : old.last_stream_id < k = ltb-true old.last_stream_id k names.0 in

@@ -1,6 +1,5 @@
 -- What is given to a connection that has the call's stream alone.
-use Rattle.std.proofs.Common.{◌≡◌, inl, inr, ℕ, ◌≤◌, Bool, true, false, not, cond, List, [], ◌∷◌, Some, None, refl, sym, ◌∙◌, eq-eqb}
-use Rattle.std.specs.List.{list_any}
+use Rattle.std.proofs.Common.{◌≡◌, inl, ℕ, ◌≤◌, Bool, true, false, not, cond, List, [], ◌∷◌, filter, Some, None, refl, sym, ◌∙◌, eq-eqb}
 use Rattle.hpack.specs.Writing.{block_bytes}
 use Rattle.h2_frame.specs.declared.frame.Body.TheVariants.{Reset}
 use Rattle.h2_flow.specs.declared.stream.Stream.{Stream}
@@ -20,7 +19,7 @@ use Rattle.wl_session.specs.Answering.{with_head as with_first_head, with_messag
 use Rattle.wl_client.specs.declared.listener.Stage.{Stage}
 use Rattle.wl_client.specs.Openings.{call_stream}
 use Rattle.wl_heard.proofs.Lists.{IsLate, head_block, last_block, late_block, whole_block}
-use Rattle.wl_heard.proofs.Marks.{Mark, Bare, Headed, Closing, At}
+use Rattle.wl_heard.proofs.Marks.{Mark, Bare, Headed, Closing, Alone, At}
 use Rattle.wl_heard.proofs.Serving.{Lasts, l_head, l_message}
 
 -- ---- the one stream
@@ -41,7 +40,7 @@ only_weaker P Q go [] h = tt
 only_weaker P Q go (s ∷ []) h = (h.0, go s h.1)
 only_weaker P Q go (s ∷ t ∷ ss) h = absurd h
 
-pub only_filter : (P : Stream → Type 0) (test : Stream → Bool) (ss : List Stream) → OnlyOf P ss → OnlyOf P (Rattle.std.specs.List.filter test ss)
+pub only_filter : (P : Stream → Type 0) (test : Stream → Bool) (ss : List Stream) → OnlyOf P ss → OnlyOf P (filter test ss)
 only_filter P test [] h = tt
 only_filter P test (s ∷ []) h = go (test s)
   where
@@ -123,6 +122,10 @@ abbrev pub mark_if : Bool → Mark
 mark_if true = Headed
 mark_if false = Bare
 
+abbrev pub mark_end : Bool → Mark
+mark_end true = Closing
+mark_end false = Alone
+
 -- what is refused behind the head says a status there
 abbrev pub LateIf : Bool → Refusal → Type 0
 LateIf true r = IsLate r
@@ -139,17 +142,17 @@ silenced false g s h = record { stage = h.stage; head = h.head; last = h.last; w
 headed_now : (g : Stage) (s : Stream) → At Bare g s → At Headed g (record s { head = Some (block_bytes response_fields) })
 headed_now g s h = rw h.stage (record { head = head_block; trailers = h.trailers; finished = h.finished })
 
-refused_now : (headed : Bool) (r : Refusal) (g : Stage) (s : Stream) → LateIf headed r → At (mark_if headed) g s → At Closing g (record s { trailers = Some (block_bytes (refused_fields r (not headed))); finished = true })
+refused_now : (headed : Bool) (r : Refusal) (g : Stage) (s : Stream) → LateIf headed r → At (mark_if headed) g s → At (mark_end headed) g (record s { trailers = Some (block_bytes (refused_fields r (not headed))); finished = true })
 refused_now true r g s late h = inl (record { head = h.head; trailers = late_block r late; finished = refl })
-refused_now false r g s late h = inr (inl (record { stage = h.stage; head = h.head; last = h.last; waiting = h.waiting; trailers = whole_block r; finished = refl }))
+refused_now false r g s late h = record { stage = h.stage; head = h.head; last = h.last; waiting = h.waiting; trailers = whole_block r; finished = refl }
 
 pub silence_only : (headed : Bool) (g : Stage) (p : Phase) → SoundPhase p → OnlyOn (At (mark_if headed) g) p → OnlyOn (At (mark_if headed) g) (withdraws call_stream p)
 silence_only headed g p sound h = silence_given (At (mark_if headed) g) (At (mark_if headed) g) (silenced headed g) (still_open headed g) p sound h
 
-pub refusal_only : (headed : Bool) (r : Refusal) (g : Stage) (p : Phase) → LateIf headed r → SoundPhase p → OnlyOn (At (mark_if headed) g) p → OnlyOn (At Closing g) (with_refusal call_stream headed r p)
+pub refusal_only : (headed : Bool) (r : Refusal) (g : Stage) (p : Phase) → LateIf headed r → SoundPhase p → OnlyOn (At (mark_if headed) g) p → OnlyOn (At (mark_end headed) g) (with_refusal call_stream headed r p)
 unfolding with_refusal
 refusal_only headed r g p late sound h =
-    trailers_given (At (mark_if headed) g) (At Closing g) (block_bytes (refused_fields r (not headed))) (λ s a. refused_now headed r g s late a) (still_open headed g) (withdraws call_stream p) (sound_lasts.silenced call_stream p sound)
+    trailers_given (At (mark_if headed) g) (At (mark_end headed) g) (block_bytes (refused_fields r (not headed))) (λ s a. refused_now headed r g s late a) (still_open headed g) (withdraws call_stream p) (sound_lasts.silenced call_stream p sound)
     (silence_only headed g p sound h)
 
 head_only : (headed : Bool) (g : Stage) (p : Phase) → SoundPhase p → OnlyOn (At (mark_if headed) g) p → OnlyOn (At Headed g) (with_first_head call_stream headed p)

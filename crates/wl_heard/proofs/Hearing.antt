@@ -49,7 +49,7 @@ begins_both whole mid front h k = (k.0 ++ h.0, h.1 ∙ (ap (λ xs. xs ++ h.0) k.
 
 -- ---- messages that were told
 
-told_both : (hs ks : List Heard) → messages_told (hs ++ ks) ≡ messages_told hs ++ messages_told ks
+pub told_both : (hs ks : List Heard) → messages_told (hs ++ ks) ≡ messages_told hs ++ messages_told ks
 told_both [] ks = refl
 told_both (Head ∷ hs) ks = told_both hs ks
 told_both (Message m ∷ hs) ks = ap (λ (ms : List (List ℕ)). m ∷ ms) (told_both hs ks)
@@ -60,17 +60,17 @@ told_map [] = refl
 told_map (m ∷ ms) = ap (λ (rest : List (List ℕ)). m ∷ rest) (told_map ms)
 
 -- all that came on the stream so far: its whole messages were told, and the rest is kept
-record Knows (came : List ℕ) (told : List Heard) (l : Listener) : Type 0 where
-  heard : messages_told told ≡ whole_messages came
-  kept : l.messages ≡ record { limit = MAX_RESPONSE_LEN; ending = (messages_of MAX_RESPONSE_LEN came).ending }
+pub record Knows (came : List ℕ) (told : List Heard) (l : Listener) : Type 0 where
+  pub heard : messages_told told ≡ whole_messages came
+  pub kept : l.messages ≡ record { limit = MAX_RESPONSE_LEN; ending = (messages_of MAX_RESPONSE_LEN came).ending }
 
 -- a fault of messages is in what came
-abbrev Blames : List ℕ → ClientFault → Type 0
+abbrev pub Blames : List ℕ → ClientFault → Type 0
 Blames came (faults.Frame fault) = ⊥
 Blames came (faults.Message fault) = (messages_of MAX_RESPONSE_LEN came).ending ≡ Fault fault
 Blames came fault = Unit {0}
 
-abbrev IfBlames : List ℕ → Result Listener ClientFault → Type 0
+abbrev pub IfBlames : List ℕ → Result Listener ClientFault → Type 0
 IfBlames came (Ok l) = Unit {0}
 IfBlames came (Err fault) = Blames came fault
 
@@ -122,15 +122,15 @@ blames_content came (faults.Reset code) unbroken h = tt
 blames_content came (faults.GoAway code) unbroken h = tt
 blames_content came faults.Memory unbroken h = tt
 
-abbrev IfKnows : List ℕ → List Heard → Result Listener ClientFault → Type 0
+abbrev pub IfKnows : List ℕ → List Heard → Result Listener ClientFault → Type 0
 IfKnows came told (Ok l) = Knows came told l
 IfKnows came told (Err fault) = Unit {0}
 
 -- what was told before and now are the first messages of what came, and all of them unless there was a fault
-record Goes (came : List ℕ) (told : List Heard) (h : Hearing) : Type 0 where
-  first : BeginsWith (whole_messages came) (messages_told (told ++ h.told))
-  knows : IfKnows came (told ++ h.told) h.after
-  blame : IfBlames came h.after
+pub record Goes (came : List ℕ) (told : List Heard) (h : Hearing) : Type 0 where
+  pub first : BeginsWith (whole_messages came) (messages_told (told ++ h.told))
+  pub knows : IfKnows came (told ++ h.told) h.after
+  pub blame : IfBlames came h.after
 
 -- ---- what brings no DATA
 
@@ -306,7 +306,7 @@ frame_goes came told f l k =
 
 -- ---- frames
 
-abbrev AllGo : List Frame → Type 0
+abbrev pub AllGo : List Frame → Type 0
 AllGo fs = (came : List ℕ) (told : List Heard) (l : Listener) → Knows came told l → Goes (came ++ data_in call_stream fs) told (frames_heard fs l)
 
 then_goes : (fs : List Frame) (came d : List ℕ) (told new : List Heard) (bytes : List ℕ) (r : Result Listener ClientFault) → AllGo fs → BeginsWith (whole_messages (came ++ d)) (messages_told (told ++ new)) → IfKnows (came ++ d) (told ++ new) r → IfBlames (came ++ d) r
@@ -324,7 +324,7 @@ then_goes fs came d told new bytes (Ok l) go first knows blame =
       blame = h.blame;
     })
 
-frames_go : (fs : List Frame) → AllGo fs
+pub frames_go : (fs : List Frame) → AllGo fs
 unfolding frames_heard
 frames_go [] came told l k = wordless_goes came told l (silent l) k (w_silent l l refl)
 frames_go (f ∷ fs) came told l k =
@@ -334,7 +334,7 @@ frames_go (f ∷ fs) came told l k =
 
 -- ---- a session
 
-fresh_knows : Knows [] [] fresh_listener
+pub fresh_knows : Knows [] [] fresh_listener
 fresh_knows = record { heard = sym (ap (λ (r : Reading). r.messages) nothing_whole); kept = ap (λ (e : End). record { limit = MAX_RESPONSE_LEN; ending = e }) (sym (ap (λ (r : Reading). r.ending) nothing_whole)) }
 
 found_heard : (bytes : List ℕ) (fs : List Frame) → reader.frames_of bytes ≡ record { frames = fs; ending = reader.Rest [] } → heard bytes ≡ heard_in (record { frames = fs; ending = reader.Rest [] }) fresh_listener

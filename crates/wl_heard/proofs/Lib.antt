@@ -16,3 +16,5 @@ pub mod Coming
 pub mod Hearers
 pub mod Fed
 pub mod Sending
+pub mod Clean
+pub mod Neat

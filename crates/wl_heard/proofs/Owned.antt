@@ -33,7 +33,7 @@ use Rattle.wl_client.specs.Openings.{call_stream}
 use Rattle.wl_heard.proofs.Lists.{late_identity, late_length, late_service}
 use Rattle.wl_heard.proofs.Marks.{Mark, Bare, Headed, Closing, At}
 use Rattle.wl_heard.proofs.Serving.{l_refusal, l_message, l_last}
-use Rattle.wl_heard.proofs.Given.{OnlyOn, sound_lasts, mark_if, LateIf, silence_only, refusal_only, message_only, last_only}
+use Rattle.wl_heard.proofs.Given.{OnlyOn, sound_lasts, mark_if, mark_end, LateIf, silence_only, refusal_only, message_only, last_only}
 
 -- ---- how a call stands
 
@@ -77,7 +77,7 @@ late_unknown true = late_service
 late_unknown false = tt
 
 refused : (headed : Bool) (r : Refusal) (g : client.Stage) (p : Phase) → LateIf headed r → SoundPhase p → OnlyOn (At (mark_if headed) g) p → Owned g (has_ended (with_refusal call_stream headed r p))
-refused headed r g p late sound h = record { mark = Closing; sound = l_refusal SoundPhase sound_lasts call_stream headed r p sound; phase = refusal_only headed r g p late sound h; kept = tt }
+refused headed r g p late sound h = record { mark = mark_end headed; sound = l_refusal SoundPhase sound_lasts call_stream headed r p sound; phase = refusal_only headed r g p late sound h; kept = tt }
 
 answered : (kind : CallKind) (sel : List (List ℕ)) (seen : Option Sight) (headed : Bool) (m : List ℕ) (g : client.Stage) (p : Phase) → HeadFits kind true → SoundPhase p → OnlyOn (At (mark_if headed) g) p
     → Owned g (goes_on call_stream (Ready kind sel seen true) (with_message call_stream headed m p))

@@ -258,7 +258,7 @@ r_connection q step h = go (nat_lt MAX_WINDOW_SIZE (q.outbox.flow.connection_win
     go false = record { control = h.control; last = h.last }
 
 -- a step moves a window, or nothing else
-abbrev KeepsQueue : Out → Result Out Overflow → Type 0
+abbrev pub KeepsQueue : Out → Result Out Overflow → Type 0
 KeepsQueue o (Ok new) = new.control ≡ o.control
 KeepsQueue o (Err e) = Unit {0}
 
@@ -266,7 +266,7 @@ keeps_cond : (o : Out) (b : Bool) (x y : Result Out Overflow) → KeepsQueue o x
 keeps_cond o true x y h k = h
 keeps_cond o false x y h k = k
 
-step_keeps : (n step : ℕ) (o : Out) → KeepsQueue o (with_step n step o)
+pub step_keeps : (n step : ℕ) (o : Out) → KeepsQueue o (with_step n step o)
 unfolding with_step with_connection_step with_stream_step
 step_keeps n step o =
     keeps_cond o (n == 0) (with_connection_step step o) (with_stream_step n step o)

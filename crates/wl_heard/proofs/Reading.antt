@@ -144,7 +144,7 @@ control_is_read step before fit =
 
 -- ---- DATA
 
-data_both : (n : ℕ) (fs gs : List Frame) → data_in n (fs ++ gs) ≡ data_in n fs ++ data_in n gs
+pub data_both : (n : ℕ) (fs gs : List Frame) → data_in n (fs ++ gs) ≡ data_in n fs ++ data_in n gs
 data_both n [] gs = refl
 data_both n (f ∷ fs) gs = ap (λ (xs : List ℕ). data_on n f ++ xs) (data_both n fs gs) ∙ sym (append_assoc (data_on n f) (data_in n fs) (data_in n gs))
 
@@ -173,7 +173,7 @@ controls_data : (n : ℕ) (fs : List Frame) → AllByRecursion IsControl fs → 
 controls_data n [] h = refl
 controls_data n (f ∷ fs) h = rw (control_data n f h.0) (controls_data n fs h.1)
 
-sents_data : (n : ℕ) (ss : List Sent) → data_in n (map frame_of ss) ≡ all_data_on n ss
+pub sents_data : (n : ℕ) (ss : List Sent) → data_in n (map frame_of ss) ≡ all_data_on n ss
 sents_data n [] = refl
 sents_data n (headers stream block ended ∷ ss) = rw (none_if (n == stream)) (sents_data n ss)
 sents_data n (content stream bytes ∷ ss) = ap (λ (xs : List ℕ). data_on n (frame_of (content stream bytes)) ++ xs) (sents_data n ss)
@@ -192,7 +192,7 @@ due_data n step before fit =
     ∙ (ap (λ (xs : List ℕ). xs ++ data_in n (map frame_of sent)) (controls_data n (control_frames step t) (control_is_read step before fit))
     ∙ sents_data n sent)))
 
-step_data : (n : ℕ) (step : Step) (before : List Step) → AllFit (step ∷ before) → data_in n (step_frames step (talk_after before)) ≡ all_data_on n (frames_of step (talk_after before))
+pub step_data : (n : ℕ) (step : Step) (before : List Step) → AllFit (step ∷ before) → data_in n (step_frames step (talk_after before)) ≡ all_data_on n (frames_of step (talk_after before))
 step_data n (FrameCame f) before fit = due_data n (FrameCame f) before fit
 step_data n (BytesBroke why) before fit = due_data n (BytesBroke why) before fit
 step_data n (CallAttested None) before fit = due_data n (CallAttested None) before fit

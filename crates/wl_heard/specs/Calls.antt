@@ -12,7 +12,8 @@ use Rattle.grpc_wire.specs.Messages.{framed}
 use Rattle.wl_client.specs.Openings.{call_stream, opening_of}
 use Rattle.wl_client.specs.Clients.{ClientState, Listening, Failed, heard}
 use Rattle.wl_responses.specs.Steps.{Step, FrameCame, BytesBroke, CallAttested, TurnTaken, OutcomeCame}
-use Rattle.wl_responses.specs.Moves.{Move, Fed, TurnedOn, GivenTo, bytes_after, steps_of}
+use Rattle.wl_responses.specs.Moves.{Move, Fed, TurnedOn, GivenTo, bytes_after, steps_of, replies_in}
+use Rattle.wl_heard.specs.Clients.{messages_told, whole_messages}
 
 -- ---- the peer's frames
 
@@ -50,9 +51,14 @@ abbrev pub FailsAsSaid : ClientState → Type 0
 FailsAsSaid (Listening ending l) = Unit {0}
 FailsAsSaid (Failed fault) = IsSaidOfCall fault
 
--- no frame of a session is out of its order to the client, each header block is decoded, and the stream ends with a status
+-- No frame of a session is out of its order to the client, each header block is decoded, and the stream ends with a status;
+-- and whether it goes on or has failed, the messages that it hears are all whole ones that were written on its stream.
+pub record HearsCall (moves : List Move) : Type 0 where
+  pub faults : FailsAsSaid (heard (bytes_after moves)).after
+  pub messages : messages_told (heard (bytes_after moves)).told ≡ whole_messages (replies_in call_stream moves).written
+
 abbrev pub CallsAreHeard : Type 0
-CallsAreHeard = (moves : List Move) → MakesOneCall (steps_of moves) → FailsAsSaid (heard (bytes_after moves)).after
+CallsAreHeard = (moves : List Move) → MakesOneCall (steps_of moves) → HearsCall moves
 
 -- ---- a client's bytes
 
@@ -69,4 +75,4 @@ client_bytes method message server = opening_of method message ++ (heard server)
 
 -- so it is where a session was fed the bytes of a client, as far as they came; the call's message fits one frame
 abbrev pub ClientsAreAnswered : Type 0
-ClientsAreAnswered = (method : Method) (message server : List ℕ) (moves : List Move) → length (framed message) ≤ MAX_FRAME_SIZE → BeginsWith (client_bytes method message server) (bytes_fed moves) → FailsAsSaid (heard (bytes_after moves)).after
+ClientsAreAnswered = (method : Method) (message server : List ℕ) (moves : List Move) → length (framed message) ≤ MAX_FRAME_SIZE → BeginsWith (client_bytes method message server) (bytes_fed moves) → HearsCall moves

@@ -29,10 +29,10 @@ pub fn clients_hear_sessions()
     ensures { ClientsHearSessions }
 {}
 
-/// Where the peer makes one call, on stream 1, and sends nothing on another stream that opens it, a client hears no frame out
-/// of its order, each header block is decoded, and the stream ends with a status: its fault can only be the server's own
-/// refusal by HTTP, RST_STREAM or GOAWAY.
+/// Where the peer makes one call, on stream 1, a client hears all messages that were written there in full, in their order.
+/// No frame is out of its order to it, each header block is decoded, and the stream ends with a status: its fault can only
+/// be the server's own refusal by HTTP, RST_STREAM or GOAWAY. So it is where a session was fed the bytes of a client.
 pub fn calls_are_heard()
-    ensures faults { CallsAreHeard }
+    ensures calls { CallsAreHeard }
     ensures clients { ClientsAreAnswered }
 {}

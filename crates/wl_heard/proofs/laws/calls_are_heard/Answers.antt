@@ -3,4 +3,4 @@ use Rattle.wl_heard.proofs.Hearers.{calls_are_heard}
 use Rattle.wl_heard.proofs.laws.calls_are_heard.Goals as goal
 
 pub returns : goal.returns
-returns c = record { faults = calls_are_heard; clients = clients_are_answered }
+returns c = record { calls = calls_are_heard; clients = clients_are_answered }
