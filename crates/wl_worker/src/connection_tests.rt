@@ -1,6 +1,7 @@
 //! Connections over memory: rotation, tokens, stalls, cut and changed input, and calls that fail.
 
 mod cases;
+mod clients;
 pub mod desks;
 mod failing;
 pub mod frames;
