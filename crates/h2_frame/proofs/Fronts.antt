@@ -74,7 +74,7 @@ judged_more h after more =
       ]
     ]
 
-head_more : (b more : List ℕ) → 9 ≤ length b → head_of (b ++ more) ≡ head_of b
+pub head_more : (b more : List ℕ) → 9 ≤ length b → head_of (b ++ more) ≡ head_of b
 unfolding head_of
 head_more b more long =
     let at_most : (n : ℕ) → n ≤ 8 → get_or (b ++ more) n 0 ≡ get_or b n 0 = λ n le. get_or_append_left b more 0 n (omega arith) in

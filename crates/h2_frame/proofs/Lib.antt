@@ -4,3 +4,4 @@ pub mod Settings
 pub mod Openings
 pub mod Spelled
 pub mod Feeding
+pub mod Pieces

@@ -12,6 +12,7 @@ mod laws;
 mod opening;
 mod parser;
 mod payload;
+mod pending;
 mod reading;
 mod stage;
 #[cfg(test)]

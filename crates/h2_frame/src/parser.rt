@@ -9,11 +9,10 @@ ghost use Rattle.list_laws.specs.Lists.{GainsFront};
 
 use crate::fault::FrameFault;
 use crate::frame::Frame;
-use crate::head::Head;
 use crate::opening::{Greeting, PREFACE, greet};
+use crate::pending::Pending;
 use crate::reading::frames;
 use crate::stage::Stage;
-use h2_wire::limit::HEAD_LEN;
 use std::alloc::Global;
 use std::marker::Model;
 use wl_octets::Row;
@@ -25,14 +24,13 @@ use wl_octets::Row;
 #[derive(Drop)]
 pub struct Parser {
     stage: Stage,
-    /// The bytes of a frame that isn't whole.
-    pending: Vec<u8>,
+    pending: Pending,
 }
 
 impl Model for Parser {
     ghost Value = { End };
 
-    ghost view = { λ a. ending_of a.stage a.pending.items };
+    ghost view = { λ a. ending_of a.stage a.pending };
 
     ghost invariant = { λ a. IsWithin a.stage };
 }
@@ -44,7 +42,7 @@ impl Parser {
     {
         Parser {
             stage: Stage::Preface(0),
-            pending: Vec::new(alloc),
+            pending: Pending::empty(alloc),
         }
     }
 
@@ -54,7 +52,7 @@ impl Parser {
     {
         Parser {
             stage: Stage::Frames,
-            pending: Vec::new(alloc),
+            pending: Pending::empty(alloc),
         }
     }
 
@@ -72,8 +70,8 @@ impl Parser {
     /// `into` holds. After a fault, each later call answers that fault again; the frames
     /// before it are in `into`.
     ///
-    /// A byte is copied once into its frame, and once before that if its frame comes in
-    /// several pieces.
+    /// A byte is copied once into its frame, and once before that where its frame comes in
+    /// several pieces and is not DATA without padding.
     #[tactic(auto, using(crate::proofs::Feeding::stands_on))]
     pub fn feed(
         &mut self,
@@ -131,7 +129,7 @@ impl Parser {
     fn lacking(&self) -> usize {
         match self.stage {
             Stage::Preface(matched) => PREFACE.len() - matched,
-            Stage::Frames => lacking_of(self.pending.as_slice()),
+            Stage::Frames => self.pending.lacking(),
             Stage::Failed(_) => 0,
         }
     }
@@ -170,31 +168,20 @@ impl Parser {
     }
 }
 
-/// How many bytes complete a frame of which these are the first.
-fn lacking_of(pending: &[u8]) -> usize {
-    if pending.is_empty() {
-        0
-    } else if pending.len() < HEAD_LEN {
-        HEAD_LEN - pending.len()
-    } else {
-        (HEAD_LEN + Head::read(pending).length as usize).saturating_sub(pending.len())
-    }
-}
-
 /// Reads frames, and keeps the fault.
 #[tactic(auto, unfolding(crate::specs::Reading::reading_from))]
 fn read(
     alloc: Global,
     stage: &mut Stage,
-    pending: &mut Vec<u8>,
+    pending: &mut Pending,
     piece: &[u8],
     into: &mut Row<Frame>,
 ) -> Result<(), FrameFault>
     requires { stage.old ≡ Frames }
-    ensures fed { Feeds result (reading_from (Rest pending.old.items) piece.now) into.old into.new
-        (ending_of stage.new pending.new.items) }
+    ensures fed { Feeds result (reading_from (Rest pending.old) piece.now) into.old into.new
+        (ending_of stage.new pending.new) }
     ensures within { IsWithin stage.new }
-    ensures front { GainsFront (reading_from (Rest pending.old.items) piece.now).frames into.old into.new }
+    ensures front { GainsFront (reading_from (Rest pending.old) piece.now).frames into.old into.new }
 {
     match take_in(alloc, pending, piece, into) {
         Ok(()) => Ok(()),
@@ -208,39 +195,24 @@ fn read(
 /// Reads frames from the bytes that were kept and a piece behind them, and keeps the rest.
 fn take_in(
     alloc: Global,
-    pending: &mut Vec<u8>,
+    pending: &mut Pending,
     piece: &[u8],
     into: &mut Row<Frame>,
 ) -> Result<(), FrameFault>
     ensures ok { OnOk result
-        ((into.new ≡ into.old ++ (frames_of (pending.old.items ++ piece.now)).frames)
-        × ((frames_of (pending.old.items ++ piece.now)).ending ≡ Rest pending.new.items)) }
+        ((into.new ≡ into.old ++ (frames_of (pending.old ++ piece.now)).frames)
+        × ((frames_of (pending.old ++ piece.now)).ending ≡ Rest pending.new)) }
     ensures fault { IfErr result
         (λ fault. Refuses fault
-        ((into.new ≡ into.old ++ (frames_of (pending.old.items ++ piece.now)).frames)
-        × ((frames_of (pending.old.items ++ piece.now)).ending ≡ Fault fault))) }
-    ensures front { GainsFront (frames_of (pending.old.items ++ piece.now)).frames into.old into.new }
+        ((into.new ≡ into.old ++ (frames_of (pending.old ++ piece.now)).frames)
+        × ((frames_of (pending.old ++ piece.now)).ending ≡ Fault fault))) }
+    ensures front { GainsFront (frames_of (pending.old ++ piece.now)).frames into.old into.new }
 {
-    if pending.is_empty() {
+    if pending.len() == 0 {
         let used = frames(alloc, piece, into)?;
         let (_, rest) = piece.split_at(used);
-        return keep(pending, rest);
+        return pending.keep(rest);
     }
-    keep(pending, piece)?;
-    let used = frames(alloc, pending.as_slice(), into)?;
-    if used > 0 {
-        pending.rotate_left(used);
-        pending.truncate(pending.len() - used);
-    }
-    Ok(())
-}
-
-fn keep(pending: &mut Vec<u8>, bytes: &[u8]) -> Result<(), FrameFault>
-    ensures ok { OnOk result (pending.new.items ≡ pending.old.items ++ bytes.now) }
-    ensures err { IfErr result (λ fault. fault ≡ FrameFault.Memory) }
-{
-    match pending.extend_from_slice(bytes) {
-        Ok(()) => Ok(()),
-        Err(_) => Err(FrameFault::Memory),
-    }
+    pending.keep(piece)?;
+    pending.read(alloc, into)
 }
