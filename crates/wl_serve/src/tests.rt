@@ -1,6 +1,9 @@
 //! Serving over a host in memory.
 
 mod bytes;
+mod failing;
 mod gates;
 mod hosts;
+mod neighbours;
+mod refusals;
 mod serving;

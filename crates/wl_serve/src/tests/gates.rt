@@ -9,6 +9,17 @@ use wl_edge::{BEFORE_TURN, Gate};
 /// How many times a held turn looks at most, a thousandth of a second apart.
 const LOOKS: u64 = 10_000;
 
+/// Whether a count comes to this.
+fn comes_to<R: Clock>(rt: &R, count: &AtomicU64, wanted: u64) -> bool {
+    for _ in 0..LOOKS {
+        if count.load(Ordering::SeqCst) >= wanted {
+            return true;
+        }
+        thread::sleep(rt, Duration::from_millis(1));
+    }
+    false
+}
+
 /// Holds each turn until a point was passed so often, whoever passed it.
 #[derive(Drop)]
 pub struct Holding<'a, R> {
@@ -32,13 +43,9 @@ impl<'a, R: Clock> Holding<'a, R> {
     }
 
     fn hold(&self) {
-        for _ in 0..LOOKS {
-            if self.passed.load(Ordering::SeqCst) >= self.wanted {
-                return;
-            }
-            thread::sleep(self.rt, Duration::from_millis(1));
+        if !comes_to(self.rt, &self.passed, self.wanted) {
+            self.given_up.fetch_add(1, Ordering::SeqCst);
         }
-        self.given_up.fetch_add(1, Ordering::SeqCst);
     }
 }
 
@@ -49,6 +56,44 @@ impl<'a, R: Clock> Gate for Holding<'a, R> {
         }
         if point == BEFORE_TURN {
             self.hold();
+        }
+    }
+}
+
+/// Holds each turn until upkeep was begun twice, so that identities are signed, and the first turn until so many turns
+/// were due, its own among them.
+#[derive(Drop)]
+pub struct HoldingFirst<'a, R> {
+    pub rt: &'a R,
+    pub wanted: u64,
+    pub upkeep: AtomicU64,
+    pub turns: AtomicU64,
+    /// Whether the first turn was let go although no other had come.
+    pub given_up: AtomicU64,
+}
+
+impl<'a, R: Clock> HoldingFirst<'a, R> {
+    pub fn start(rt: &'a R, wanted: u64) -> HoldingFirst<'a, R> {
+        HoldingFirst {
+            rt,
+            wanted,
+            upkeep: AtomicU64::new(0),
+            turns: AtomicU64::new(0),
+            given_up: AtomicU64::new(0),
+        }
+    }
+}
+
+impl<'a, R: Clock> Gate for HoldingFirst<'a, R> {
+    fn pass(&self, point: u32) {
+        if point != BEFORE_TURN {
+            self.upkeep.fetch_add(1, Ordering::SeqCst);
+            return;
+        }
+        let signed = comes_to(self.rt, &self.upkeep, 2);
+        let first = self.turns.fetch_add(1, Ordering::SeqCst) == 0;
+        if !signed || first && !comes_to(self.rt, &self.turns, self.wanted) {
+            self.given_up.fetch_add(1, Ordering::SeqCst);
         }
     }
 }

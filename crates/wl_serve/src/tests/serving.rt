@@ -2,17 +2,16 @@
 
 use super::bytes::{HEAD, LEAF, MESSAGE, NEXT_HEAD, NEXT_MESSAGE, OPENING, TWO};
 use super::gates::Holding;
-use super::hosts::{LINKS, Trial, served};
+use super::hosts::{CALLS, LINKS, Stop, Trial, served};
 use crate::{MemoryHost, Parts, ServeEnd};
 use std::alloc::Global;
 use std::rt::Clock;
 use std::sync::Wait;
-use std::sync::atomic::Ordering;
 use std::test::Fail;
 use std::thread::Threads;
 use wl_config::ConfigFault;
 use wl_document::DocFault;
-use wl_edge::{BEFORE_TURN, BEFORE_UPKEEP, Gate, OpenGate};
+use wl_edge::{BEFORE_UPKEEP, Gate, OpenGate};
 use wl_worker::SeatEnd;
 
 /// What is served, and its end.
@@ -76,7 +75,7 @@ fn end_of<R: Threads + Wait + Sync>(
     rt: &R,
     alloc: Global,
     trial: &Trial,
-) -> Result<ServeEnd, Fail> {
+) -> Result<ServeEnd, Stop> {
     let (end, _) = served(rt, alloc, trial, OpenGate)?;
     Ok(end)
 }
@@ -114,12 +113,13 @@ fn holds(bytes: &[u8], part: &[u8]) -> bool {
     false
 }
 
-/// How many links of the first seat took this.
-fn takers<G: Gate + Sync + Drop>(
+/// How many links of this seat took this.
+pub fn takers_at<G: Gate + Sync + Drop>(
     kept: &Option<Parts<MemoryHost<G>>>,
+    seat: usize,
     part: &[u8],
 ) -> Option<usize> {
-    let links = kept.as_ref()?.seats.first()?.listener.finished();
+    let links = kept.as_ref()?.seats.get(seat)?.listener.finished();
     Some(links.iter().filter(|link| holds(link.took(), part)).count())
 }
 
@@ -129,16 +129,16 @@ fn takers_of<R: Threads + Wait + Sync + Clock>(
     alloc: Global,
     trial: &Trial,
     part: &[u8],
-) -> Result<Option<usize>, Fail> {
+) -> Result<Option<usize>, Stop> {
     let (_, kept) = served(rt, alloc, trial, Holding::start(rt, BEFORE_UPKEEP, 2))?;
-    Ok(takers(&kept, part))
+    Ok(takers_at(&kept, 0, part))
 }
 
 /// The id of a message, and the chain's field.
 const ID_IN_MESSAGE: &[u8] = b"\x0a\x0espiffe://a.b/w\x12";
 
 /// The same with the length of the sample's leaf and its first bytes.
-const LEAF_IN_MESSAGE: &[u8] = b"spiffe://a.b/w\x12\x58\x30\x56\x30\x4f";
+pub const LEAF_IN_MESSAGE: &[u8] = b"spiffe://a.b/w\x12\x58\x30\x56\x30\x4f";
 
 /// A call on stream 1, whose caller cannot be attested, and one on stream 3.
 const TWO_CALLS: Trial = Trial {
@@ -162,37 +162,11 @@ const CHAINS: [(&[u8], usize); 2] = [(LEAF, 2), (b"\x01", 0)];
 #[test]
 fn the_store_is_strict(rt: HostRuntime) -> Result<(), Fail> {
     for (chain, count) in CHAINS {
-        let trial = Trial {
-            pieces: &[OPENING, HEAD, MESSAGE],
-            chain,
-            ..LINKS
-        };
+        let trial = Trial { chain, ..CALLS };
         assert_eq!(rt;
             takers_of(&rt, rt.alloc(), &trial, ID_IN_MESSAGE)?,
             Some(count)
         );
     }
-    Ok(())
-}
-
-/// Two sockets with a link each.
-const TWO_LINKS: Trial = Trial {
-    configuration: TWO,
-    seats: 2,
-    links: 1,
-    pieces: &[OPENING, HEAD, MESSAGE],
-    ..LINKS
-};
-
-/// How many turns were let go although no other had come.
-fn given_up<'a, R: Clock + Sync>(kept: &Option<Parts<MemoryHost<Holding<'a, R>>>>) -> Option<u64> {
-    Some(kept.as_ref()?.gate.given_up.load(Ordering::SeqCst))
-}
-
-#[test]
-fn sockets_are_served_at_once(rt: HostRuntime) -> Result<(), Fail> {
-    let gate = Holding::start(&rt, BEFORE_TURN, 2);
-    let (_, kept) = served(&rt, rt.alloc(), &TWO_LINKS, gate)?;
-    assert_eq!(rt; given_up(&kept), Some(0));
     Ok(())
 }
