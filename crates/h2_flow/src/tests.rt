@@ -378,11 +378,7 @@ fn lowest_overflow(rt: HostRuntime) -> Result<(), Fail> {
 }
 
 /// Whether a stream takes this message, which others share.
-fn takes_share(
-    outbox: &mut Outbox,
-    stream: u32,
-    message: &Shared<Octets>,
-) -> Result<bool, Memory> {
+fn takes_share(outbox: &mut Outbox, stream: u32, message: &Shared<Octets>) -> Result<bool, Memory> {
     if !outbox.is_open(stream) || message.part().len() == 0 {
         return Ok(false);
     }
