@@ -314,12 +314,14 @@ fn a_dialed_link_connects_at_its_first_sending(rt: HostRuntime) -> Result<(), Fa
 #[test]
 fn a_clock_tells_the_time_and_a_gate_holds_upkeep(rt: HostRuntime) -> Result<(), Fail> {
     let mut clock = RealClock::start(rt);
-    let gate = RealGate::start(rt, 1);
+    let gate = RealGate::start(rt, 3);
     let before = clock.now();
     gate.pass(BEFORE_TURN);
+    gate.pass(BEFORE_UPKEEP);
+    assert!(rt; clock.now() < before.saturating_add(3));
     let begun = Instant::now(&rt)?;
     gate.pass(BEFORE_UPKEEP);
-    assert!(rt; begun.elapsed(&rt)? >= Duration::from_secs(1));
+    assert!(rt; begun.elapsed(&rt)? >= Duration::from_secs(3));
     assert!(rt; before > 1_700_000_000 && clock.now() > before);
     Ok(())
 }
