@@ -3,9 +3,10 @@
 //	load SOCKET new COUNT WORKERS          first responses, each on a connection of its own
 //	load SOCKET calls COUNT WORKERS        first responses on WORKERS open connections
 //	load SOCKET spread CONNECTIONS STREAMS from the first stream that has its second message to the last one
+//	load SOCKET burst ROUNDS STREAMS       first responses on so many streams of one connection at once, in each round
 //	load SOCKET hold CONNECTIONS STREAMS   opens streams, and holds them until its input ends
 //
-// A line of seconds and, for the first two, of responses a second.
+// A line of seconds and, but for the spread, of responses a second.
 package main
 
 import (
@@ -96,6 +97,27 @@ func rate(count, workers int64, each bool) {
 	fmt.Printf("%.3f %.0f\n", seconds, float64(count)/seconds)
 }
 
+func burst(rounds, each int64) {
+	conn := connect()
+	begin := time.Now()
+	for i := int64(0); i < rounds; i++ {
+		ctx, cancel := context.WithCancel(context.Background())
+		var group sync.WaitGroup
+		for j := int64(0); j < each; j++ {
+			group.Add(1)
+			go func() {
+				defer group.Done()
+				next(open(ctx, conn))
+			}()
+		}
+		group.Wait()
+		cancel()
+	}
+	conn.Close()
+	seconds := time.Since(begin).Seconds()
+	fmt.Printf("%.3f %.0f\n", seconds, float64(rounds*each)/seconds)
+}
+
 func streams(connections, each int64) []grpc.ClientStream {
 	var opened []grpc.ClientStream
 	for i := int64(0); i < connections; i++ {
@@ -147,6 +169,8 @@ func main() {
 		rate(a, b, false)
 	case "spread":
 		spread(a, b)
+	case "burst":
+		burst(a, b)
 	case "hold":
 		streams(a, b)
 		fmt.Println("held")

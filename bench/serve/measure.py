@@ -1,6 +1,6 @@
 #!/usr/bin/python3
-"""Measures the built agentd beside a server by grpc-go that sends ready bytes, in one run: both on Unix sockets, on one
-processor, under the same load from the others. Usage: bench/serve/measure.py [SECONDS_OF_IDLE]
+"""Measures the built agentd beside a server by grpc-go that sends ready bytes, or that makes each message anew, in one run: all
+on Unix sockets, on one processor, under the same load from the others. Usage: bench/serve/measure.py [SECONDS_OF_IDLE]
 
 It needs Debian's golang-go, golang-google-grpc-dev, python3-grpcio and openssl, and at least two processors."""
 import os
@@ -25,8 +25,12 @@ LOADING = f"1-{os.cpu_count() - 1}"
 NEW, CALLS, WORKERS = 2_000, 10_000, 8
 BROADCAST = 2_000
 agent.AGENTD_WORDS = ["taskset", "-c", SERVED]
-agent.SOCKETS = {"web": (12, {"web": (3600, [])}), "large": (4, {"large": (3600, ["large.example", "larger.example"])}),
-                 "rotating": (16, {"rotating": (4, [])})}
+# 1.5 MB and 2.5 MB
+LARGE = ["large.example", "larger.example"]
+SOCKETS = {"web": (12, {"web": (3600, [])}), "large": (4, {"large": (3600, LARGE)}),
+           "huge": (4, {"huge": (3600, LARGE + ["largest.example"])})}
+ROTATING = {"rotating": (32, {"rotating": (4, [])})}
+agent.BUNDLES["largest.example"] = 1_000_000
 
 
 def built(folder, name):
@@ -80,35 +84,61 @@ def go_server(folder, name, message, *words):
     return process, socket
 
 
+def served_by(folder, sockets):
+    agent.SOCKETS = sockets
+    pathlib.Path(folder).mkdir()
+    return agent.Agent(folder)
+
+
+def messages(folder, load, seconds):
+    served = served_by(f"{folder}/messages", SOCKETS)
+    others = []
+    try:
+        ours = Measured("agentd", served.agentd, load)
+        for name in SOCKETS:
+            message = message_of(served.socket(name))
+            made = [(ours, served.socket(name))]
+            for kind, words in (("ready", []), ("copied", ["copied"])):
+                process, socket = go_server(folder, f"{name}-{kind}", message, *words)
+                others.append(process)
+                made.append((Measured(kind, process, load), socket))
+            for it, at in made:
+                if name == "huge":
+                    it.run(f"16 streams, {len(message)} B", at, "burst", 10, 16)
+                    continue
+                scale, workers = (1, WORKERS) if name == "web" else (20, 4)
+                it.run(f"new connections, {len(message)} B", at, "new", NEW // scale, workers)
+                it.run(f"calls, {len(message)} B", at, "calls", CALLS // scale, workers)
+                if name == "web":
+                    it.idle(at, seconds)
+    finally:
+        for it in others:
+            it.send_signal(signal.SIGKILL)
+            it.wait()
+        served.stop()
+
+
+def spread(folder, load):
+    served = served_by(f"{folder}/spread", ROTATING)
+    process = None
+    try:
+        Measured("agentd", served.agentd, load).run("a rotation to 16 x 32", served.socket("rotating"), "spread", 32, 16)
+        process, socket = go_server(folder, "rotating", message_of(served.socket("rotating")), str(BROADCAST))
+        Measured("ready", process, load).run("a broadcast to 16 x 32", socket, "spread", 32, 16)
+    finally:
+        if process:
+            process.send_signal(signal.SIGKILL)
+            process.wait()
+        served.stop()
+
+
 def main():
     seconds = int(sys.argv[1]) if len(sys.argv) > 1 else 10
     with tempfile.TemporaryDirectory(prefix="serve-") as folder:
         load = built(folder, "load")
         built(folder, "server")
-        served = agent.Agent(folder)
-        others = []
-        try:
-            ours = Measured("agentd", served.agentd, load)
-            for name, message in [(it, message_of(served.socket(it))) for it in ("web", "large")]:
-                process, socket = go_server(folder, name, message)
-                others.append(process)
-                theirs = Measured("grpc-go", process, load)
-                scale = 1 if name == "web" else 100
-                for it, at in ((ours, served.socket(name)), (theirs, socket)):
-                    workers = WORKERS if name == "web" else 4
-                    it.run(f"new connections, {len(message)} B", at, "new", NEW // scale, workers)
-                    it.run(f"calls, {len(message)} B", at, "calls", CALLS // scale, workers)
-                    if name == "web":
-                        it.idle(at, seconds)
-            process, socket = go_server(folder, "rotating", message_of(served.socket("rotating")), str(BROADCAST))
-            others.append(process)
-            ours.run("a rotation to 16 x 16", served.socket("rotating"), "spread", 16, 16)
-            Measured("grpc-go", process, load).run("a broadcast to 16 x 16", socket, "spread", 16, 16)
-        finally:
-            for it in others:
-                it.send_signal(signal.SIGKILL)
-                it.wait()
-            served.stop()
+        messages(folder, load, seconds)
+        spread(folder, load)
 
 
 main()

@@ -1,5 +1,6 @@
 // A server of FetchX509SVID by grpc-go, for comparison: it sends the bytes of a file to each call, and keeps the stream open.
-// With a period it sends to all streams again, the last byte changed. Usage: server SOCKET FILE [MILLISECONDS]
+// With a period it sends to all streams again, the last byte changed. With the word copied it makes each message anew, which for a message
+// of a few long fields is what encoding costs: its bytes are copied once. Usage: server SOCKET FILE [MILLISECONDS|copied]
 package main
 
 import (
@@ -13,9 +14,15 @@ import (
 	"google.golang.org/grpc"
 )
 
-type plain struct{}
+type plain struct{ copies bool }
 
-func (plain) Marshal(v interface{}) ([]byte, error) { return *v.(*[]byte), nil }
+func (p plain) Marshal(v interface{}) ([]byte, error) {
+	message := *v.(*[]byte)
+	if p.copies {
+		return append([]byte(nil), message...), nil
+	}
+	return message, nil
+}
 func (plain) Unmarshal(data []byte, v interface{}) error {
 	*v.(*[]byte) = data
 	return nil
@@ -67,7 +74,8 @@ func main() {
 			}
 		}
 	}
-	if len(os.Args) > 3 {
+	copies := len(os.Args) > 3 && os.Args[3] == "copied"
+	if len(os.Args) > 3 && !copies {
 		period, err := strconv.Atoi(os.Args[3])
 		if err != nil {
 			panic(err)
@@ -78,7 +86,7 @@ func main() {
 			}
 		}()
 	}
-	server := grpc.NewServer(grpc.CustomCodec(plain{}))
+	server := grpc.NewServer(grpc.CustomCodec(plain{copies}))
 	server.RegisterService(&grpc.ServiceDesc{
 		ServiceName: "SpiffeWorkloadAPI",
 		HandlerType: (*interface{})(nil),
