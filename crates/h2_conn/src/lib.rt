@@ -5,32 +5,20 @@
 //! that a server writes on the connection goes through it too, so that a fault is its end.
 #![tactic(auto)]
 
-#[cfg(test)]
-mod answer_tests;
 mod answers;
 mod blocks;
 mod conn;
 mod control;
 mod data;
 mod fault;
-#[cfg(test)]
-mod flood_tests;
 mod happening;
 mod laws;
 mod limits;
 mod phase;
-#[cfg(test)]
-mod request_tests;
-#[cfg(test)]
-mod row_tests;
-#[cfg(test)]
-mod samples;
 mod settings;
 mod state;
 mod streams;
 mod table;
-#[cfg(test)]
-mod testing;
 mod windows;
 mod writing;
 

@@ -8,4 +8,3 @@ pub mod Holding
 pub mod Standing
 pub mod Transcribing
 pub mod Tracing
-mod Samples

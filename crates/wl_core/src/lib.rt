@@ -12,8 +12,6 @@ mod lines;
 mod naming;
 mod seats;
 mod step;
-#[cfg(test)]
-mod tests;
 mod tokens;
 mod world;
 

@@ -9,8 +9,6 @@ mod bundles;
 mod entries;
 mod fault;
 mod kept;
-#[cfg(test)]
-mod limit_tests;
 mod limits;
 mod lists;
 mod members;
@@ -18,8 +16,6 @@ mod names;
 mod read;
 mod state;
 mod svids;
-#[cfg(test)]
-mod tests;
 mod top;
 
 pub use fault::{DocFault, Place};

@@ -29,8 +29,6 @@ mod script;
 mod signer;
 mod sink;
 mod source;
-#[cfg(test)]
-mod tests;
 mod upstream;
 
 pub use attestor::{Attestor, AttestorCall};

@@ -10,8 +10,6 @@ mod pass;
 mod publisher;
 mod rule;
 mod steps;
-#[cfg(test)]
-mod tests;
 
 pub use edition::Edition;
 pub use pass::{Note, Pass};

@@ -14,8 +14,6 @@ mod memory_ready;
 mod passes;
 mod seats;
 mod serving;
-#[cfg(test)]
-mod tests;
 
 pub use binder::{Binder, Parts, PartsShown};
 pub use ending::ServeEnd;

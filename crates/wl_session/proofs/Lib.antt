@@ -7,8 +7,6 @@ mod Views
 mod Sizes
 mod Framing
 mod Feeding
-mod Samples
-mod Holding
 pub mod Following
 mod Refusals
 mod Streams

@@ -15,8 +15,6 @@ mod replies;
 mod served;
 mod session;
 mod talk;
-#[cfg(test)]
-mod tests;
 mod turn;
 
 pub use asks::{JwtAsk, JwtOutcome, SessionFault};

@@ -9,8 +9,6 @@
 #![tactic(auto)]
 
 mod connection;
-#[cfg(test)]
-mod connection_tests;
 mod documents;
 mod ended;
 mod flush;
@@ -22,14 +20,10 @@ mod outcomes;
 mod places;
 mod seat;
 mod seat_rounds;
-#[cfg(test)]
-mod seat_tests;
 mod seating;
 mod served;
 mod step;
 mod stepping;
-#[cfg(test)]
-mod tests;
 mod upkeep;
 
 pub use connection::serve_connection;

@@ -1,0 +1,6 @@
+use Rattle.std.specs.List.Sorted.{IsStrictlySortedBy}
+use Rattle.wl_publish_tests.proofs.tests.edition.Goals as goal
+
+pub build-requires-clause-rises : goal.build-requires-clause-rises
+unfolding IsStrictlySortedBy
+build-requires-clause-rises c = tt

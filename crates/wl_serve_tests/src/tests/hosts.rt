@@ -1,0 +1,201 @@
+//! Hosts in memory, and what serving them comes to.
+
+use super::bytes::{DOC, HEAD, LEAF, MESSAGE, ONE, OPENING};
+use wl_serve::{HostPlan, MemoryHost, Parts, SeatPlan, ServeEnd, serve};
+use std::alloc::{AllocError, Global};
+use std::sync::Wait;
+use std::thread::Threads;
+use wl_edge::{Gate, Heard, LinkPlan, ListenerPlan, Script};
+use wl_entry::Signed;
+use wl_octets::{Memory, Octets, Row};
+use wl_selector::{Selector, SelectorFault, Selectors, SelectorsFault};
+
+/// Why a host cannot be made.
+#[derive(Debug, Drop)]
+pub enum Stop {
+    Memory,
+    Selector,
+}
+
+impl From<Memory> for Stop {
+    fn from(_: Memory) -> Stop {
+        Stop::Memory
+    }
+}
+
+impl From<AllocError> for Stop {
+    fn from(_: AllocError) -> Stop {
+        Stop::Memory
+    }
+}
+
+/// What is served. Calls that fail are given by their numbers from 0.
+#[derive(Clone, Copy, Drop)]
+pub struct Trial {
+    pub configuration: &'static [u8],
+    pub document: &'static [u8],
+    pub seats: u32,
+    /// How many links each seat gives.
+    pub links: u32,
+    /// What each of them gives.
+    pub pieces: &'static [&'static [u8]],
+    /// The chain that the signer gives.
+    pub chain: &'static [u8],
+    pub pulls: &'static [u64],
+    pub accepts: &'static [u64],
+    pub attests: &'static [u64],
+    pub waits: &'static [u64],
+    pub signs: &'static [u64],
+    /// Those of each link.
+    pub receives: &'static [u64],
+    pub sends: &'static [u64],
+}
+
+/// One socket with two links that give nothing; no call fails.
+pub const LINKS: Trial = Trial {
+    configuration: ONE,
+    document: DOC,
+    seats: 1,
+    links: 2,
+    pieces: &[],
+    chain: LEAF,
+    pulls: &[],
+    accepts: &[],
+    attests: &[],
+    waits: &[],
+    signs: &[],
+    receives: &[],
+    sends: &[],
+};
+
+/// The same where each link gives a call.
+pub const CALLS: Trial = Trial {
+    pieces: &[OPENING, HEAD, MESSAGE],
+    ..LINKS
+};
+
+/// How many bytes a link has room for.
+const ROOM: usize = 4_096;
+
+fn numbers(alloc: Global, numbers: &[u64]) -> Result<Row<u64>, Memory> {
+    Ok(Row::from_vec(Vec::from_slice(alloc, numbers)?))
+}
+
+fn link(alloc: Global, trial: &Trial) -> Result<LinkPlan, Memory> {
+    let mut gives = Row::empty(alloc);
+    for piece in trial.pieces {
+        gives.push(Heard::Piece(Octets::from_slice(alloc, piece)?))?;
+    }
+    let mut plan = LinkPlan::smooth(alloc, gives, 64, ROOM);
+    plan.failing_receives = numbers(alloc, trial.receives)?;
+    plan.failing_sends = numbers(alloc, trial.sends)?;
+    Ok(plan)
+}
+
+fn listener(alloc: Global, trial: &Trial) -> Result<ListenerPlan, Memory> {
+    let mut links = Row::empty(alloc);
+    for _ in 0..trial.links {
+        links.push(link(alloc, trial)?)?;
+    }
+    Ok(ListenerPlan {
+        links,
+        idle: Row::empty(alloc),
+        failing: numbers(alloc, trial.accepts)?,
+        answers: 64,
+    })
+}
+
+/// Puts an item behind others.
+fn push<T: Drop>(items: &mut Row<T>, item: T) -> Result<(), Memory> {
+    items.push(item)?;
+    Ok(())
+}
+
+fn selector(alloc: Global) -> Result<Selector, Stop> {
+    match Selector::parse(alloc, b"unix:uid:1") {
+        Ok(selector) => Ok(selector),
+        Err(SelectorFault::Memory) => Err(Stop::Memory),
+        Err(_) => Err(Stop::Selector),
+    }
+}
+
+/// The selectors of each caller.
+fn caller(alloc: Global) -> Result<Selectors, Stop> {
+    let mut selectors = Row::empty(alloc);
+    push(&mut selectors, selector(alloc)?)?;
+    match Selectors::from_list(alloc, selectors.into_vec(), 1) {
+        Ok(selectors) => Ok(selectors),
+        Err(SelectorsFault::Memory) => Err(Stop::Memory),
+        Err(_) => Err(Stop::Selector),
+    }
+}
+
+/// An attestor's answers: this one.
+fn attested(
+    alloc: Global,
+    caller: Selectors,
+    failing: &[u64],
+) -> Result<Script<Selectors>, Memory> {
+    let mut answers = Row::empty(alloc);
+    answers.push(caller)?;
+    Ok(Script::start(answers, numbers(alloc, failing)?))
+}
+
+fn seat(alloc: Global, trial: &Trial) -> Result<SeatPlan, Stop> {
+    Ok(SeatPlan {
+        listener: listener(alloc, trial)?,
+        selectors: attested(alloc, caller(alloc)?, trial.attests)?,
+        tokens: Script::start(Row::empty(alloc), Row::empty(alloc)),
+        times: numbers(alloc, &[100])?,
+        failing: numbers(alloc, trial.waits)?,
+    })
+}
+
+/// Identities from 100 to 200.
+fn identities(alloc: Global, trial: &Trial) -> Result<Script<Signed>, Memory> {
+    let mut answers = Row::empty(alloc);
+    answers.push(Signed {
+        chain: Octets::from_slice(alloc, trial.chain)?,
+        key: Octets::from_slice(alloc, b"\x02")?,
+        not_before: 100,
+        not_after: 200,
+    })?;
+    Ok(Script::start(answers, numbers(alloc, trial.signs)?))
+}
+
+fn documents(alloc: Global, trial: &Trial) -> Result<Script<Octets>, Memory> {
+    let mut answers = Row::empty(alloc);
+    answers.push(Octets::from_slice(alloc, trial.document)?)?;
+    Ok(Script::start(answers, numbers(alloc, trial.pulls)?))
+}
+
+/// A host that prepares what is to be served.
+pub fn host<G>(alloc: Global, trial: &Trial, gate: G) -> Result<MemoryHost<G>, Stop>
+where
+    G: Drop,
+{
+    let mut seats = Row::empty(alloc);
+    for _ in 0..trial.seats {
+        push(&mut seats, seat(alloc, trial)?)?;
+    }
+    Ok(MemoryHost::start(Some(HostPlan {
+        documents: documents(alloc, trial)?,
+        identities: identities(alloc, trial)?,
+        times: numbers(alloc, &[100])?,
+        gate,
+        seats: seats.into_vec(),
+    })))
+}
+
+/// Serves it, and gives its end and what was prepared.
+pub fn served<G: Gate + Sync + Drop, R: Threads + Wait + Sync>(
+    rt: &R,
+    alloc: Global,
+    trial: &Trial,
+    gate: G,
+) -> Result<(ServeEnd, Option<Parts<MemoryHost<G>>>), Stop> {
+    let mut host = host(alloc, trial, gate)?;
+    let mut kept = None;
+    let end = serve(rt, alloc, trial.configuration, &mut host, &mut kept);
+    Ok((end, kept))
+}

@@ -1,5 +1,0 @@
-use Rattle.wl_session.proofs.Holding.{always}
-use Rattle.wl_session.proofs.tests.feed.Goals as goal
-
-pub returns-clause-keeps : goal.returns-clause-keeps
-returns-clause-keeps c = always c.all_named.result _ (λ x may. c.in_ok-name.ensures.keeps x (c.in_ok-hear.ensures.keeps x may))

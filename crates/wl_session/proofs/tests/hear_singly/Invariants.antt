@@ -1,6 +1,0 @@
-use Rattle.wl_snapshot.specs.Snapshots.{Publication}
-use Rattle.wl_session.specs.Settled.{MayTurn}
-use Rattle.wl_session.proofs.tests.hear_singly.Given as goal
-
-abbrev pub invariant-loop-byte : goal.invariant-loop-byte
-invariant-loop-byte l = (x : Publication) → MayTurn x l.fn.session → MayTurn x l.session

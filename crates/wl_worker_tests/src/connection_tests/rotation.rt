@@ -1,0 +1,108 @@
+//! A served connection beside a desk that signs anew.
+
+use super::desks::{open, sign};
+use super::frames::{EMPTY, GREETING, HEAD, OPENING, RESPONSE, ROTATED};
+use super::outside::{Outside, Stop, joined, memory_outside, plan};
+use std::alloc::Global;
+use std::sync::atomic::{AtomicU64, Ordering};
+use std::sync::{Barrier, Mutex, Wait};
+use std::test::Fail;
+use std::thread::{Threads, join};
+use wl_desk::Desk;
+use wl_edge::{BEFORE_TURN, Gate, MemoryLink};
+use wl_entry::Free;
+use wl_octets::Memory;
+use wl_publish::Pass;
+use wl_worker::{Ended, serve_connection};
+
+/// A gate that meets another thread when the second turn is due, and again before it is let go on.
+#[derive(Drop)]
+struct Meeting<'a, R: Wait> {
+    rt: &'a R,
+    barrier: &'a Barrier,
+    turns: AtomicU64,
+}
+
+impl<'a, R: Wait> Gate for Meeting<'a, R> {
+    fn pass(&self, point: u32) {
+        if point == BEFORE_TURN && self.turns.fetch_add(1, Ordering::SeqCst) == 1 {
+            let _ = self.barrier.wait(self.rt);
+            let _ = self.barrier.wait(self.rt);
+        }
+    }
+}
+
+/// Signs the identity anew at 150, between the two meetings.
+fn sign_between<R: Wait>(
+    rt: &R,
+    alloc: Global,
+    desk: &Mutex<Desk<Free>>,
+    barrier: &Barrier,
+) -> bool {
+    let _ = barrier.wait(rt);
+    let signed = sign(rt, alloc, desk, 150, 3).is_ok();
+    let _ = barrier.wait(rt);
+    signed
+}
+
+/// Serves a link beside this desk.
+fn serve_beside<R: Wait>(
+    rt: &R,
+    alloc: Global,
+    desk: &Mutex<Desk<Free>>,
+    barrier: &Barrier,
+    pass: &mut Pass<Free>,
+    link: &mut MemoryLink,
+    outside: &mut Outside,
+) -> Ended {
+    let gate = Meeting {
+        rt,
+        barrier,
+        turns: AtomicU64::new(0),
+    };
+    serve_connection(
+        rt,
+        alloc,
+        desk,
+        pass,
+        link,
+        0,
+        &mut outside.signer,
+        &mut outside.attestor,
+        &mut outside.clock,
+        &gate,
+    )
+}
+
+/// Serves a link at 150 beside a desk of its own, and another thread that signs: whether it did, and the end.
+fn rotate<R: Threads + Wait + Sync>(
+    rt: &R,
+    alloc: Global,
+    link: &mut MemoryLink,
+) -> Result<(bool, Ended), Stop> {
+    let mut outside = memory_outside(alloc, 150, &[], &[])?;
+    let (desk, mut pass) = open(rt, alloc, 1)?;
+    let barrier = Barrier::new(2);
+    let both = join(
+        rt,
+        || sign_between(rt, alloc, &desk, &barrier),
+        || serve_beside(rt, alloc, &desk, &barrier, &mut pass, link, &mut outside),
+    );
+    desk.into_inner().end(rt);
+    Ok(both)
+}
+
+/// A link of one caller, which goes on after its call.
+fn link(alloc: Global) -> Result<MemoryLink, Memory> {
+    let plan = plan(alloc, &[&[OPENING, HEAD, EMPTY], &[], &[]])?;
+    MemoryLink::start(alloc, plan)
+}
+
+#[test]
+fn a_rotation_is_sent_once(rt: HostRuntime) -> Result<(), Fail> {
+    let mut link = link(rt.alloc())?;
+    let (signed, end) = rotate(&rt, rt.alloc(), &mut link)?;
+    let due = joined(rt.alloc(), &[GREETING, RESPONSE, ROTATED])?;
+    assert!(rt; signed && end == Ended::Closed && link.took() == due.as_slice());
+    Ok(())
+}

@@ -1,0 +1,186 @@
+//! Seats over memory.
+
+mod outside;
+mod rooms;
+
+ghost use Rattle.std.specs.Prelude.{IsSome};
+
+use crate::connection_tests::desks::open;
+use crate::connection_tests::outside::{Stop, numbers};
+use outside::{MemorySeat, seat};
+use std::alloc::Global;
+use std::sync::{Mutex, Wait};
+use std::test::Fail;
+use wl_desk::Desk;
+use wl_edge::{MemoryLink, MemoryReady, OpenGate, Ready};
+use wl_entry::Free;
+use wl_worker::{SeatEnd, serve_seat};
+
+/// A seat and what becomes of it. Each link gives the opening and a call for identities, and then its end.
+#[derive(Clone, Copy)]
+struct Case {
+    name: &'static str,
+    room: u32,
+    /// For each link, how many of its first sendings are put off.
+    links: &'static [u64],
+    /// The accepts that find no link, and those that fail.
+    idle: &'static [u64],
+    failing: &'static [u64],
+    /// The calls of the watcher that fail.
+    unwatched: &'static [u64],
+    end: SeatEnd,
+    /// For each link that was finished, in their order, whether it took its whole talk, else nothing; and
+    /// how many sendings were put off.
+    finished: &'static [(bool, u64)],
+}
+
+const CASES: [Case; 8] = [
+    Case {
+        name: "two links, of which one is served at a time",
+        room: 1,
+        links: &[0, 0],
+        idle: &[0],
+        failing: &[],
+        unwatched: &[],
+        end: SeatEnd::End,
+        finished: &[(true, 0), (true, 0)],
+    },
+    Case {
+        name: "three links on two places",
+        room: 2,
+        links: &[0, 0, 0],
+        idle: &[1],
+        failing: &[],
+        unwatched: &[],
+        end: SeatEnd::End,
+        finished: &[(true, 0), (true, 0), (true, 0)],
+    },
+    Case {
+        name: "no links",
+        room: 2,
+        links: &[],
+        idle: &[],
+        failing: &[],
+        unwatched: &[],
+        end: SeatEnd::End,
+        finished: &[],
+    },
+    Case {
+        name: "a link that takes nothing for long is finished last, and in full",
+        room: 2,
+        links: &[40, 0],
+        idle: &[],
+        failing: &[],
+        unwatched: &[],
+        end: SeatEnd::End,
+        finished: &[(true, 0), (true, 40)],
+    },
+    // The watcher's calls are two additions and then waits, so that its call 20 comes after 18 turns. The first link
+    // puts off a sending in each of them.
+    Case {
+        name: "beside a link that takes nothing any more the other is served in full",
+        room: 2,
+        links: &[1_000, 0],
+        idle: &[],
+        failing: &[],
+        unwatched: &[20],
+        end: SeatEnd::WaitFault,
+        finished: &[(true, 0), (false, 18)],
+    },
+    Case {
+        name: "an accept fails while a link is served",
+        room: 2,
+        links: &[0],
+        idle: &[],
+        failing: &[1],
+        unwatched: &[],
+        end: SeatEnd::ListenFault,
+        finished: &[(false, 0)],
+    },
+    Case {
+        name: "a link cannot be watched",
+        room: 2,
+        links: &[0],
+        idle: &[],
+        failing: &[],
+        unwatched: &[0],
+        end: SeatEnd::WaitFault,
+        finished: &[(false, 0)],
+    },
+    Case {
+        name: "the watcher fails after the end of the listener",
+        room: 2,
+        links: &[0],
+        idle: &[],
+        failing: &[],
+        unwatched: &[1],
+        end: SeatEnd::WaitFault,
+        finished: &[(false, 0)],
+    },
+];
+
+/// Whether these links took their whole talk or nothing, and put off so many sendings, as is said of each.
+fn are_due(links: &[MemoryLink], due: &[(bool, u64)]) -> bool {
+    links.len() == due.len()
+        && links.iter().zip(due).all(|(link, (whole, stalls))| outside::took(link, *whole)
+            && link.stalls() == *stalls)
+}
+
+/// Serves a seat of which no link was finished yet.
+fn serve_first<P: Ready<MemoryLink>, R: Wait>(
+    rt: &R,
+    alloc: Global,
+    desk: &Mutex<Desk<Free>>,
+    seat: &mut MemorySeat<P>,
+) -> Result<SeatEnd, Stop>
+    requires { IsSome seat.old.pass }
+{
+    if seat.listener.finished().is_empty() {
+        Ok(serve_seat(rt, alloc, desk, seat, &OpenGate))
+    } else {
+        Err(Stop::Served)
+    }
+}
+
+/// Serves a seat on a desk of its own of three seats: its end, and how many seats the desk has then.
+fn serve<P: Ready<MemoryLink>, R: Wait>(
+    rt: &R,
+    alloc: Global,
+    seat: &mut MemorySeat<P>,
+) -> Result<(SeatEnd, u32), Stop> {
+    let (desk, pass) = open(rt, alloc, 3)?;
+    seat.pass = Some(pass);
+    let end = serve_first(rt, alloc, &desk, seat);
+    let left = desk.lock(rt).seats();
+    desk.into_inner().end(rt);
+    Ok((end?, left))
+}
+
+/// The seat of a case.
+fn seat_of(alloc: Global, case: &Case) -> Result<MemorySeat<MemoryReady>, Stop> {
+    let ready = MemoryReady::start(alloc, numbers(alloc, case.unwatched)?);
+    seat(alloc, case.room, case.links, case.idle, case.failing, ready)
+}
+
+/// Whether a seat ends as is due, and the desk has one seat fewer then.
+fn is_due<R: Wait>(rt: &R, alloc: Global, case: &Case) -> Result<bool, Stop> {
+    let mut seat = seat_of(alloc, case)?;
+    let (end, left) = serve(rt, alloc, &mut seat)?;
+    Ok(end == case.end && left == 2 && are_due(seat.listener.finished(), case.finished))
+}
+
+/// The name of the first case that comes to something else than what is due.
+fn wrong_case<R: Wait>(rt: &R, alloc: Global) -> Result<Option<&'static str>, Stop> {
+    for case in &CASES {
+        if !is_due(rt, alloc, case)? {
+            return Ok(Some(case.name));
+        }
+    }
+    Ok(None)
+}
+
+#[test]
+fn seats_end_as_is_due(rt: HostRuntime) -> Result<(), Fail> {
+    assert_eq!(rt; wrong_case(&rt, rt.alloc())?, None);
+    Ok(())
+}
