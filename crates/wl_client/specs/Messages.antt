@@ -15,11 +15,11 @@ use Rattle.pb_wire.specs.Strings.{fault_of}
 use Rattle.workload_proto.specs.declared.field_number.TheConstants as field_number
 use Rattle.wl_client.specs.declared.items.TheConstants.{X509_RESPONSE_CRL}
 use Rattle.wl_client.specs.declared.decode.TheConstants.{HEALTH_RESPONSE_STATUS}
-use Rattle.workload_proto.specs.declared.message.X509Response.{X509Response}
-use Rattle.workload_proto.specs.declared.message.X509Item.{X509Item}
-use Rattle.workload_proto.specs.declared.message.MapItem.{MapItem}
-use Rattle.workload_proto.specs.declared.message.JwtResponse.{JwtResponse}
-use Rattle.workload_proto.specs.declared.message.JwtItem.{JwtItem}
+use Rattle.wl_client.specs.declared.response.X509Response.{X509Response}
+use Rattle.wl_client.specs.declared.response.X509Item.{X509Item}
+use Rattle.wl_client.specs.declared.response.MapItem.{MapItem}
+use Rattle.wl_client.specs.declared.response.JwtResponse.{JwtResponse}
+use Rattle.wl_client.specs.declared.response.JwtItem.{JwtItem}
 
 -- ---- a message by its fields
 

@@ -2,33 +2,35 @@
 
 ghost use Rattle.std.specs.Prelude.{◌≡◌, ℕ, Ok, Err, IfOk, MatchResult, None};
 ghost use Rattle.pb_wire.specs.Strings.{Gives};
-ghost use Rattle.workload_proto.specs.declared.message.X509Response.{X509Response};
-ghost use Rattle.workload_proto.specs.declared.message.JwtResponse.{JwtResponse};
+ghost use Rattle.wl_client.specs.declared.response.X509Response.{X509Response};
+ghost use Rattle.wl_client.specs.declared.response.JwtResponse.{JwtResponse};
 ghost use Rattle.wl_client.specs.Messages.{x509_of, SpellsX509, jwt_of, SpellsJwt, state_of, state_wrong, state_more, SpellsState};
 
 use crate::items::read_fields;
+use crate::response::{JwtResponse, X509Response};
 use pb_wire::{Field, Value, read_field};
 use std::alloc::Global;
 use wl_octets::Row;
-use workload_proto::{JwtResponse, ProtoFault, X509Response};
+use workload_proto::ProtoFault;
 
 /// The number of `status` in a `HealthCheckResponse` (grpc.health.v1).
 const HEALTH_RESPONSE_STATUS: u32 = 1;
 
 #[tactic(auto, unfolding(crate::specs::Messages::x509_of))]
-fn read_x509(alloc: Global, bytes: &[u8]) -> Result<X509Response, ProtoFault>
+fn read_x509(alloc: Global, bytes: &[u8]) -> Result<X509Response<'_>, ProtoFault>
     ensures { Gives result (x509_of bytes.now) }
 {
     let nothing = X509Response {
         svids: Row::empty(alloc),
         federated: Row::empty(alloc),
     };
-    read_fields(alloc, bytes, nothing)
+    read_fields(bytes, nothing)
 }
 
 /// What an `X509SVIDResponse` says, or the first fault in its bytes; the places of a fault in an SVID or in an item of
-/// the map count from the start of that. Values of `crl` are dropped, and so are fields of other numbers.
-pub fn decode_x509(alloc: Global, bytes: &[u8]) -> Result<X509Response, ProtoFault>
+/// the map count from the start of that. Values of `crl` are dropped, and so are fields of other numbers. Its parts are
+/// lent from the bytes; memory is taken for the lists alone.
+pub fn decode_x509(alloc: Global, bytes: &[u8]) -> Result<X509Response<'_>, ProtoFault>
     // Which message, or which fault, it is.
     ensures value { Gives result (x509_of bytes.now) }
     // What is read is in the grammar, and what is in it is read, unless memory runs out.
@@ -39,18 +41,18 @@ pub fn decode_x509(alloc: Global, bytes: &[u8]) -> Result<X509Response, ProtoFau
 }
 
 #[tactic(auto, unfolding(crate::specs::Messages::jwt_of))]
-fn read_jwt(alloc: Global, bytes: &[u8]) -> Result<JwtResponse, ProtoFault>
+fn read_jwt(alloc: Global, bytes: &[u8]) -> Result<JwtResponse<'_>, ProtoFault>
     ensures { Gives result (jwt_of bytes.now) }
 {
     let nothing = JwtResponse {
         svids: Row::empty(alloc),
     };
-    read_fields(alloc, bytes, nothing)
+    read_fields(bytes, nothing)
 }
 
 /// What a `JWTSVIDResponse` says, or the first fault in its bytes; the places of a fault in an SVID count from its start.
-/// Fields of other numbers are dropped.
-pub fn decode_jwt(alloc: Global, bytes: &[u8]) -> Result<JwtResponse, ProtoFault>
+/// Fields of other numbers are dropped. Its parts are lent from the bytes; memory is taken for the list alone.
+pub fn decode_jwt(alloc: Global, bytes: &[u8]) -> Result<JwtResponse<'_>, ProtoFault>
     // Which message, or which fault, it is.
     ensures value { Gives result (jwt_of bytes.now) }
     // What is read is in the grammar, and what is in it is read, unless memory runs out.

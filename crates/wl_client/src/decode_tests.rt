@@ -2,10 +2,8 @@ use super::*;
 use pb_wire::{FieldFault, WireFault};
 use std::test::*;
 use wl_octets::{Octets, Row};
-use workload_proto::{
-    JwtItem, JwtResponse, MapItem, X509Item, X509Response, encode_jwt, encode_x509, size_jwt,
-    size_x509,
-};
+use workload_proto as proto;
+use workload_proto::{encode_jwt, encode_x509, size_jwt, size_x509};
 
 #[test]
 fn responses_are_read(rt: HostRuntime) -> Result<(), Fail> {
@@ -35,11 +33,12 @@ fn text(alloc: std::alloc::Global, bytes: &[u8]) -> Result<Octets, wl_octets::Me
 #[test]
 fn what_is_encoded_is_read(rt: HostRuntime) -> Result<(), Fail> {
     let alloc = rt.alloc();
+    let names = [b"a".as_slice(), b"bc", b""];
     let mut svids = Row::empty(alloc);
     let mut federated = Row::empty(alloc);
-    for name in [b"a".as_slice(), b"bc", b""] {
+    for name in names {
         svids
-            .push(X509Item {
+            .push(proto::X509Item {
                 spiffe_id: text(alloc, name)?,
                 chain: text(alloc, b"\xff\x00")?,
                 key: text(alloc, b"")?,
@@ -49,30 +48,68 @@ fn what_is_encoded_is_read(rt: HostRuntime) -> Result<(), Fail> {
             .ok()
             .ok_or("there is memory")?;
         federated
-            .push(MapItem {
+            .push(proto::MapItem {
                 key: text(alloc, name)?,
                 value: text(alloc, b"\xfe")?,
             })
             .ok()
             .ok_or("there is memory")?;
     }
-    let message = X509Response { svids, federated };
+    let message = proto::X509Response { svids, federated };
     assert_eq!(rt; size_x509(&message), 65);
     let bytes = encode_x509(alloc, &message)?;
-    assert!(rt; decode_x509(alloc, bytes.as_slice()).ok() == Some(message));
+    let mut svids = Row::empty(alloc);
+    let mut federated = Row::empty(alloc);
+    for name in names {
+        svids
+            .push(X509Item {
+                spiffe_id: Lent::from_slice(name),
+                chain: Lent::from_slice(b"\xff\x00"),
+                key: Lent::empty(),
+                bundle: Lent::from_slice(name),
+                hint: Lent::from_slice(b"h"),
+            })
+            .ok()
+            .ok_or("there is memory")?;
+        federated
+            .push(MapItem {
+                key: Lent::from_slice(name),
+                value: Lent::from_slice(b"\xfe"),
+            })
+            .ok()
+            .ok_or("there is memory")?;
+    }
+    let read = decode_x509(alloc, bytes.as_slice());
+    assert!(rt; read.ok() == Some(X509Response { svids, federated }));
+    Ok(())
+}
+
+#[test]
+fn tokens_are_read(rt: HostRuntime) -> Result<(), Fail> {
+    let alloc = rt.alloc();
     let mut svids = Row::empty(alloc);
     svids
-        .push(JwtItem {
+        .push(proto::JwtItem {
             spiffe_id: text(alloc, b"a")?,
             svid: text(alloc, b"t.t.t")?,
             hint: text(alloc, b"")?,
         })
         .ok()
         .ok_or("there is memory")?;
-    let message = JwtResponse { svids };
+    let message = proto::JwtResponse { svids };
     assert_eq!(rt; size_jwt(&message), 12);
     let bytes = encode_jwt(alloc, &message)?;
-    assert!(rt; decode_jwt(alloc, bytes.as_slice()).ok() == Some(message));
+    let mut svids = Row::empty(alloc);
+    svids
+        .push(JwtItem {
+            spiffe_id: Lent::from_slice(b"a"),
+            svid: Lent::from_slice(b"t.t.t"),
+            hint: Lent::empty(),
+        })
+        .ok()
+        .ok_or("there is memory")?;
+    let read = decode_jwt(alloc, bytes.as_slice());
+    assert!(rt; read.ok() == Some(JwtResponse { svids }));
     Ok(())
 }
 

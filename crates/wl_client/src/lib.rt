@@ -14,11 +14,13 @@ mod fault;
 mod headers;
 mod items;
 mod laws;
+mod lent;
 mod listener;
 mod opening;
 #[cfg(test)]
 mod recorded_tests;
 mod reply;
+mod response;
 #[cfg(test)]
 mod tests;
 
@@ -26,4 +28,6 @@ pub use client::Client;
 pub use decode::{decode_jwt, decode_state, decode_x509};
 pub use fault::ClientFault;
 pub use laws::cut_anywhere;
+pub use lent::Lent;
 pub use reply::Heard;
+pub use response::{JwtItem, JwtResponse, MapItem, X509Item, X509Response};

@@ -3,10 +3,10 @@ use Rattle.std.specs.Prelude.{ℕ, ◌==◌, ◌+◌, ◌/◌, ◌%◌, nat_lt, 
 use Rattle.std.specs.Fmt.{decimal}
 use Rattle.std.specs.List.{flat_map}
 use Rattle.pb_wire.specs.declared.fault.FieldFault.{FieldFault}
-use Rattle.workload_proto.specs.declared.message.X509Response.{X509Response}
-use Rattle.workload_proto.specs.declared.message.X509Item.{X509Item}
-use Rattle.workload_proto.specs.declared.message.JwtResponse.{JwtResponse}
-use Rattle.workload_proto.specs.declared.message.JwtItem.{JwtItem}
+use Rattle.wl_client.specs.declared.response.X509Response.{X509Response}
+use Rattle.wl_client.specs.declared.response.X509Item.{X509Item}
+use Rattle.wl_client.specs.declared.response.JwtResponse.{JwtResponse}
+use Rattle.wl_client.specs.declared.response.JwtItem.{JwtItem}
 use Rattle.wl_client.specs.declared.fault.ClientFault.{ClientFault}
 use Rattle.wl_client.specs.Faults.{number_of}
 use Rattle.wl_client.specs.Messages.{x509_of, jwt_of, state_of}

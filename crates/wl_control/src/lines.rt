@@ -10,9 +10,9 @@ ghost use Rattle.wl_control.specs.Takings.{Writes};
 use crate::asked::Kind;
 use std::alloc::Global;
 use std::string::ToString;
-use wl_client::{ClientFault, decode_jwt, decode_state, decode_x509};
+use wl_client::{ClientFault, JwtItem, X509Item, decode_jwt, decode_state, decode_x509};
 use wl_octets::{Memory, Octets};
-use workload_proto::{JwtItem, ProtoFault, X509Item};
+use workload_proto::ProtoFault;
 
 /// A digit of lower-case hexadecimal.
 fn digit(value: u8) -> u8

@@ -34,17 +34,22 @@ const FINE: &[u8] = b"\x00\x00\x0f\x01\x05\x00\x00\x00\x01\x00\x0bgrpc-status\x0
 const REFUSED: &[u8] = b"\x00\x00\x44\x01\x05\x00\x00\x00\x01\x88\x0f\x10\x10application/grpc\
     \x00\x0bgrpc-status\x017\x00\x0cgrpc-message\x12no identity issued";
 
-/// A link that gives this in one piece, and then its end.
-fn link_of(alloc: Global, parts: &[&[u8]]) -> Result<MemoryLink, Memory> {
+/// A link that is idle so many times, then gives this in one piece, and then its end.
+fn slow_link(alloc: Global, idles: usize, parts: &[&[u8]]) -> Result<MemoryLink, Memory> {
+    let mut gives = Row::empty(alloc);
+    for _ in 0..idles {
+        gives.push(Heard::Idle)?;
+    }
     let mut bytes = Octets::empty(alloc);
     for part in parts {
         bytes.push_slice(part)?;
     }
-    let mut gives = Row::empty(alloc);
-    let Ok(()) = gives.push(Heard::Piece(bytes)) else {
-        return Err(Memory);
-    };
+    gives.push(Heard::Piece(bytes))?;
     MemoryLink::start(alloc, LinkPlan::smooth(alloc, gives, 10_000, 65_536))
+}
+
+fn link_of(alloc: Global, parts: &[&[u8]]) -> Result<MemoryLink, Memory> {
+    slow_link(alloc, 0, parts)
 }
 
 fn words_of(alloc: Global, text: &str) -> Result<Vec<String>, Memory> {
@@ -55,6 +60,23 @@ fn words_of(alloc: Global, text: &str) -> Result<Vec<String>, Memory> {
     Ok(words)
 }
 
+fn try_link<R: Abort>(
+    rt: &R,
+    alloc: Global,
+    words: &str,
+    link: MemoryLink,
+    status: u8,
+    text: &[u8],
+) -> Result<(), Fail> {
+    let words = words_of(alloc, words)?;
+    let mut link = link;
+    let mut sink = MemorySink::start(alloc, 100, 65_536, usize::MAX, Row::empty(alloc))?;
+    let got = control(rt, alloc, words.as_slice(), &mut link, &mut sink);
+    assert_eq!(rt; got, status, "of {words:?}");
+    assert_eq!(rt; sink.bytes(), text, "of {words:?}");
+    Ok(())
+}
+
 fn try_run<R: Abort>(
     rt: &R,
     alloc: Global,
@@ -63,13 +85,7 @@ fn try_run<R: Abort>(
     status: u8,
     text: &[u8],
 ) -> Result<(), Fail> {
-    let words = words_of(alloc, words)?;
-    let mut link = link_of(alloc, parts)?;
-    let mut sink = MemorySink::start(alloc, 100, 65_536, usize::MAX, Row::empty(alloc))?;
-    let got = control(rt, alloc, words.as_slice(), &mut link, &mut sink);
-    assert_eq!(rt; got, status, "of {words:?}");
-    assert_eq!(rt; sink.bytes(), text, "of {words:?}");
-    Ok(())
+    try_link(rt, alloc, words, link_of(alloc, parts)?, status, text)
 }
 
 #[test]
@@ -193,33 +209,79 @@ fn states_are_told(rt: HostRuntime) -> Result<(), Fail> {
 
 #[test]
 fn faults_are_told(rt: HostRuntime) -> Result<(), Fail> {
-    try_run(
-        &rt,
-        rt.alloc(),
-        "fetch x509",
-        &[SVID],
-        status::CLIENT_FAULT,
-        b"fault client 3\n",
-    )?;
-    try_run(
-        &rt,
-        rt.alloc(),
-        "fetch x509",
-        &[
-            BEGUN,
-            b"\x00\x00\x07\x00\x00\x00\x00\x00\x01\x00\x00\x00\x00\x02\x08\x01",
-        ],
-        status::CLIENT_FAULT,
-        b"fault client 7\n",
-    )?;
-    try_run(
-        &rt,
-        rt.alloc(),
-        "health",
-        &[],
-        status::CLIENT_FAULT,
-        b"fault client 8\n",
-    )
+    // A frame too long, an index of no table, DATA before the head, another `:status`, an end without a status, a flag that
+    // is not 0, a message that says nothing, an end too early, RST_STREAM, and GOAWAY with a code.
+    let table: [(&[&[u8]], &[u8]); 10] = [
+        (
+            &[BEGUN, b"\x00\x40\x01\x00\x00\x00\x00\x00\x01"],
+            b"fault client 1\n",
+        ),
+        (
+            &[b"\x00\x00\x01\x01\x04\x00\x00\x00\x01\x80"],
+            b"fault client 2\n",
+        ),
+        (&[SVID], b"fault client 3\n"),
+        (
+            &[b"\x00\x00\x05\x01\x04\x00\x00\x00\x01\x08\x03404"],
+            b"fault client 4\n",
+        ),
+        (
+            &[b"\x00\x00\x01\x01\x05\x00\x00\x00\x01\x88"],
+            b"fault client 5\n",
+        ),
+        (
+            &[
+                BEGUN,
+                b"\x00\x00\x05\x00\x00\x00\x00\x00\x01\x01\x00\x00\x00\x00",
+            ],
+            b"fault client 6\n",
+        ),
+        (&[BEGUN, SERVING], b"fault client 7\n"),
+        (&[], b"fault client 8\n"),
+        (
+            &[
+                BEGUN,
+                b"\x00\x00\x04\x03\x00\x00\x00\x00\x01\x00\x00\x00\x08",
+            ],
+            b"fault client 11\n",
+        ),
+        (
+            &[
+                BEGUN,
+                b"\x00\x00\x08\x07\x00\x00\x00\x00\x00\x00\x00\x00\x01\x00\x00\x00\x0b",
+            ],
+            b"fault client 12\n",
+        ),
+    ];
+    for (parts, text) in table {
+        try_run(
+            &rt,
+            rt.alloc(),
+            "fetch x509",
+            parts,
+            status::CLIENT_FAULT,
+            text,
+        )?;
+    }
+    Ok(())
+}
+
+#[test]
+fn silence_ends_a_call(rt: HostRuntime) -> Result<(), Fail> {
+    let alloc = rt.alloc();
+    let table: [(usize, u8, &[u8]); 2] = [
+        (
+            599,
+            status::DONE,
+            b"svid spiffe://a.b/w chain=01 key=02 bundle=03 hint=\n",
+        ),
+        (600, status::CLIENT_FAULT, b"fault client 10\n"),
+    ];
+    for (idles, status, text) in table {
+        let link = slow_link(alloc, idles, &[BEGUN, SVID])?;
+        try_link(&rt, alloc, "fetch x509", link, status, text)?;
+    }
+    Ok(())
 }
 
 #[test]

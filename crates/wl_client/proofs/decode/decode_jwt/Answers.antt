@@ -1,7 +1,7 @@
 use Rattle.std.proofs.Common.{subst, arith, Result}
 use Rattle.pb_wire.specs.declared.fault.FieldFault.{FieldFault}
 use Rattle.pb_wire.specs.Strings.{Gives}
-use Rattle.workload_proto.specs.declared.message.JwtResponse.{JwtResponse}
+use Rattle.wl_client.specs.declared.response.JwtResponse.{JwtResponse}
 use Rattle.wl_client.specs.Messages.{jwt_wrong, jwt_more, no_jwt, jwt_of}
 use Rattle.wl_client.proofs.Fields.{message_is_found, message_again}
 use Rattle.wl_client.proofs.decode.decode_jwt.Goals as goal

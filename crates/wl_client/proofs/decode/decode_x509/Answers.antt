@@ -1,7 +1,7 @@
 use Rattle.std.proofs.Common.{subst, arith, Result}
 use Rattle.pb_wire.specs.declared.fault.FieldFault.{FieldFault}
 use Rattle.pb_wire.specs.Strings.{Gives}
-use Rattle.workload_proto.specs.declared.message.X509Response.{X509Response}
+use Rattle.wl_client.specs.declared.response.X509Response.{X509Response}
 use Rattle.wl_client.specs.Messages.{x509_wrong, x509_more, no_x509, x509_of}
 use Rattle.wl_client.proofs.Fields.{message_is_found, message_again}
 use Rattle.wl_client.proofs.decode.decode_x509.Goals as goal
