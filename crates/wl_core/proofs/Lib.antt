@@ -4,6 +4,7 @@ pub mod Keeping
 pub mod Telling
 pub mod Rooms
 pub mod Readiness
+pub mod Marking
 pub mod Holding
 pub mod Standing
 pub mod Transcribing

@@ -5,4 +5,5 @@ pub mod Moments
 pub mod Lines
 pub mod Counts
 pub mod Worlds
+pub mod Marks
 pub mod Traces

@@ -9,6 +9,7 @@ mod documents;
 mod events;
 mod laws;
 mod lines;
+mod marks;
 mod naming;
 mod seats;
 mod step;

@@ -1,12 +1,13 @@
 //! Sessions by their connections.
 
-ghost use Rattle.std.specs.Prelude.{◌≡◌, ℕ, ◌+◌, ◌<◌, ◌++◌, Option, None, Some, IfOk, OnOk, IsSome, map, sum, replicate, slice_set, length};
-ghost use Rattle.wl_session.specs.Sessions.{unnamed_in, asks_in};
-ghost use Rattle.wl_session.specs.Settled.{MayTurn};
+ghost use Rattle.std.specs.Prelude.{◌≡◌, ℕ, ◌+◌, ◌<◌, ◌++◌, false, Option, None, Some, is_some, IfOk, OnOk, IsSome, map, sum, replicate, slice_set, length};
+ghost use Rattle.wl_session.specs.Sessions.{unnamed_in, asks_in, Turns};
+ghost use Rattle.wl_session.specs.Settled.{MayTurn, IsShown};
 ghost use Rattle.wl_core.specs.declared.events.TheConstants.{CONNS};
 ghost use Rattle.wl_session.specs.Steps.{IsTold, outcome_told, begun_in, HasMemory};
 ghost use Rattle.wl_core.specs.Seats.{seat_at, joined_seat, named_seat, feed_seat, turn_seat, begun_at, HasMemoryAt, IsReady};
 ghost use Rattle.wl_core.specs.Counts.{counted};
+ghost use Rattle.wl_core.specs.Marks.{IsShownAt};
 ghost use Rattle.wl_core.specs.Moments.{with_told};
 ghost use Rattle.wl_core.specs.Lines.{join_lines, name_lines, told_lines, close_lines};
 
@@ -27,6 +28,27 @@ use wl_snapshot::Snapshot;
 pub struct Seat {
     pub caller: Option<Selectors>,
     pub session: Session,
+}
+
+/// A turn on a publication. A session that is not marked was shown what it shows, and makes no view unless a call is new.
+fn take_turn(
+    session: &mut Session,
+    snapshot: &Snapshot,
+    index: &Index,
+    is_marked: bool,
+    out: &mut Octets,
+) -> Result<(), SessionFault>
+    requires follows { MayTurn snapshot.now session.old }
+    requires named { unnamed_in session.old ≡ None }
+    requires index { index.now ≡ snapshot.now.entries }
+    requires shown { is_marked ≡ false → IsShown snapshot.now session.old }
+    ensures { Turns snapshot.now session.old result out.old out.new session.new }
+{
+    if is_marked {
+        session.turn_by(snapshot, index, out)
+    } else {
+        session.turn_unchanged(snapshot, index, out)
+    }
 }
 
 impl Seat {
@@ -52,15 +74,17 @@ impl Seat {
         &mut self,
         snapshot: &Snapshot,
         index: &Index,
+        is_marked: bool,
         out: &mut Octets,
     ) -> Result<(), Memory>
         requires follows { MayTurn snapshot.now self.old.session }
         requires named { unnamed_in self.old.session ≡ None }
         requires index { index.now ≡ snapshot.now.entries }
+        requires shown { is_marked ≡ false → IsShown snapshot.now self.old.session }
         ensures told { OnOk result (IsTold (turn_seat snapshot.now self.old) self.new.session out.old out.new) }
         ensures caller { self.new.caller ≡ self.old.caller }
     {
-        match self.session.turn_by(snapshot, index, out) {
+        match take_turn(&mut self.session, snapshot, index, is_marked, out) {
             Ok(()) => Ok(()),
             Err(SessionFault::Protocol(_)) => Ok(()),
             Err(SessionFault::Memory) => Err(Memory),
@@ -111,6 +135,14 @@ impl Seats {
             seats,
             begun_before: 0,
         })
+    }
+
+    /// Whether there is a session on a connection. It takes no memory.
+    pub fn is_taken(&self, conn: u32) -> bool
+        requires { conn < length self.now.seats.items }
+        ensures { result ≡ is_some (seat_at self.now.seats.items conn) }
+    {
+        self.seats[conn as usize].is_some()
     }
 
     /// Takes the session off a connection.
@@ -227,10 +259,12 @@ impl Seats {
         conn: u32,
         snapshot: &Snapshot,
         index: &Index,
+        is_marked: bool,
     ) -> Result<Row<Line>, Memory>
         requires room { conn < length self.old.seats.items }
         requires ready { IsReady snapshot.now (seat_at self.old.seats.items conn) }
         requires index { index.now ≡ snapshot.now.entries }
+        requires shown { is_marked ≡ false → IsShownAt snapshot.now (seat_at self.old.seats.items conn) }
         ensures seats { OnOk result (self.new.seats.items ≡ with_told conn (turn_seat snapshot.now) self.old.seats.items) }
         ensures lines { IfOk result (λ l. l ≡ told_lines conn (turn_seat snapshot.now) (seat_at self.old.seats.items conn)) }
         ensures begun { self.new.begun_before ≡ self.old.begun_before }
@@ -243,7 +277,7 @@ impl Seats {
             Some(seat) => {
                 let mut seat = seat;
                 let mut out = Octets::empty(alloc);
-                seat.turn(snapshot, index, &mut out)?;
+                seat.turn(snapshot, index, is_marked, &mut out)?;
                 let failure = seat.session.failure();
                 self.put(conn, seat);
                 let lines = session_lines(alloc, conn, out, failure)?;

@@ -1,10 +1,11 @@
 //! One event.
 
-ghost use Rattle.std.specs.Prelude.{◌≡◌, ◌<◌, IfOk, OnOk, length};
+ghost use Rattle.std.specs.Prelude.{◌≡◌, ◌<◌, false, IfOk, OnOk, length};
 ghost use Rattle.wl_core.specs.Events.{IsWithin};
 ghost use Rattle.wl_core.specs.Moments.{Moment, with_told};
 ghost use Rattle.wl_core.specs.Seats.{seat_at, turn_seat, IsReady};
 ghost use Rattle.wl_core.specs.Lines.{told_lines};
+ghost use Rattle.wl_core.specs.Marks.{IsShownAt, IsTurnShown};
 ghost use Rattle.wl_core.specs.Worlds.{Holds, Steps, WorksOn};
 
 use crate::events::Event;
@@ -22,9 +23,11 @@ fn turn(
     manager: &Manager<Free>,
     seats: &mut Seats,
     conn: u32,
+    is_marked: bool,
 ) -> Result<Row<Line>, Memory>
     requires room { conn < length seats.old.seats.items }
     requires ready { IsReady manager.now.stored.published (seat_at seats.old.seats.items conn) }
+    requires shown { is_marked ≡ false → IsShownAt manager.now.stored.published (seat_at seats.old.seats.items conn) }
     ensures seats { OnOk result (seats.new.seats.items ≡ with_told conn (turn_seat manager.now.stored.published) seats.old.seats.items) }
     ensures lines { IfOk result (λ l. l ≡ told_lines conn (turn_seat manager.now.stored.published) (seat_at seats.old.seats.items conn)) }
     ensures begun { seats.new.begun_before ≡ seats.old.begun_before }
@@ -34,20 +37,24 @@ fn turn(
         conn,
         manager.snapshot().part(),
         manager.index().part(),
+        is_marked,
     )?;
     Ok(lines)
 }
 
-/// Takes an event, and tells what is to be said of it.
+/// Takes an event, and tells what is to be said of it. A turn of a session that is not marked makes no view, unless a call of it
+/// is new.
 #[tactic(auto, using(crate::proofs::Holding::sync_steps, crate::proofs::Holding::claim_steps, crate::proofs::Holding::signed_steps, crate::proofs::Holding::failed_steps, crate::proofs::Holding::join_steps, crate::proofs::Holding::name_steps, crate::proofs::Holding::feed_steps, crate::proofs::Holding::turn_steps, crate::proofs::Holding::token_steps, crate::proofs::Holding::close_steps))]
 pub fn step(
     alloc: Global,
     manager: &mut Manager<Free>,
     seats: &mut Seats,
+    is_marked: bool,
     event: Event,
 ) -> Result<Row<Line>, Memory>
     requires within { IsWithin event }
     requires works { WorksOn manager.old seats.old.seats.items }
+    requires shown { is_marked ≡ false → IsTurnShown manager.old.stored.published event seats.old.seats.items }
     ensures { (m : Moment) → Holds manager.old seats.old.seats.items seats.old.begun_before m
         → IfOk result (λ l. Steps event manager.new seats.new.seats.items seats.new.begun_before l m) }
 {
@@ -85,7 +92,7 @@ pub fn step(
             Ok(lines)
         }
         Event::Turn { conn } => {
-            let lines = turn(alloc, manager, seats, conn)?;
+            let lines = turn(alloc, manager, seats, conn, is_marked)?;
             Ok(lines)
         }
         Event::Token { conn, now, signed } => {

@@ -13,11 +13,13 @@ ghost use Rattle.wl_core.specs.declared.lines.Line.{Line};
 ghost use Rattle.wl_core.specs.Moments.{Beginning, Moment, moment_after};
 ghost use Rattle.wl_core.specs.Lines.{lines_at, says, says_all, transcript, onto};
 ghost use Rattle.wl_core.specs.Counts.{counted, octets_of, counts_of};
+ghost use Rattle.wl_core.specs.Marks.{Follows, marked_after};
 ghost use Rattle.wl_core.specs.Worlds.{Holds, WorksOn, StandsFor, memory};
 
 use crate::counts::{Counts, octets_of};
 use crate::events::Event;
 use crate::lines::{Line, say_all};
+use crate::marks::Marks;
 use crate::seats::Seats;
 use crate::step::step;
 use std::alloc::Global;
@@ -25,7 +27,8 @@ use std::marker::Model;
 use wl_document::DocFault;
 use wl_entry::Free;
 use wl_manager::Manager;
-use wl_octets::{Memory, Row};
+use wl_octets::{Memory, Row, Shared};
+use wl_snapshot::Snapshot;
 
 /// The agent, over events. A contract sees what it goes on from; with its first document and a list of events it is one
 /// value. Once memory ran out it has failed, and each later event is refused so.
@@ -34,18 +37,21 @@ pub struct World {
     alloc: Global,
     manager: Manager<Free>,
     seats: Seats,
+    marks: Marks,
     octets: u64,
     has_failed: bool,
 }
 
 impl Model for World {
+    ghost use Rattle.std.specs.Prelude.{◌≡◌, false};
+    ghost use Rattle.wl_core.specs.Marks.{Follows};
     ghost use Rattle.wl_core.specs.Worlds.{WorldState, IsSound};
 
     ghost Value = { WorldState };
 
     ghost view = { λ w. record { managed = w.manager; seats = w.seats.seats.items; begun_before = w.seats.begun_before; octets = w.octets; has_failed = w.has_failed } };
 
-    ghost invariant = { λ w. IsSound (record { managed = w.manager; seats = w.seats.seats.items; begun_before = w.seats.begun_before; octets = w.octets; has_failed = w.has_failed }) };
+    ghost invariant = { λ w. IsSound (record { managed = w.manager; seats = w.seats.seats.items; begun_before = w.seats.begun_before; octets = w.octets; has_failed = w.has_failed }) × (w.has_failed ≡ false → Follows w.manager.stored.published w.marks w.seats.seats.items) };
 }
 
 /// A count of 64 bits fits its type. It does nothing: what takes a step over sessions proves by it.
@@ -53,18 +59,36 @@ fn fits(count: u64)
     ensures { count ≤ 18446744073709551615 }
 {}
 
+/// The last publication, with one owner more.
+fn share_publication(manager: &Manager<Free>) -> Result<Shared<Snapshot>, Memory>
+    ensures { IfOk result (λ s. s ≡ manager.now.stored.published) }
+{
+    let snapshot = manager.snapshot().share()?;
+    Ok(snapshot)
+}
+
+/// The sessions are marked to whose callers the last publication shows something else than the one before.
+fn mark(marks: &mut Marks, before: &Snapshot, manager: &Manager<Free>) -> Result<(), Memory>
+    ensures { OnOk result (marks.new ≡ marked_after before.now manager.now.stored.published marks.old) }
+{
+    marks.note_publication(before, manager.snapshot().part())
+}
+
 /// Takes an event and says what came of it; tells how many bytes were written.
 #[tactic(auto, using(crate::proofs::Readiness::works_after, list_laws::proofs::Fronts::gains_nothing, list_laws::proofs::Fronts::gains_all))]
 fn take(
     alloc: Global,
     manager: &mut Manager<Free>,
     seats: &mut Seats,
+    marks: &mut Marks,
     event: Event,
     said: &mut Row<Line>,
 ) -> Result<u64, Memory>
     requires within { IsWithin event }
     requires works { WorksOn manager.old seats.old.seats.items }
+    requires follows { Follows manager.old.stored.published marks.old seats.old.seats.items }
     ensures works { OnOk result (WorksOn manager.new seats.new.seats.items) }
+    ensures follows { OnOk result (Follows manager.new.stored.published marks.new seats.new.seats.items) }
     ensures holds { (m : Moment) → Holds manager.old seats.old.seats.items seats.old.begun_before m
         → OnOk result (Holds manager.new seats.new.seats.items seats.new.begun_before (moment_after event m)) }
     ensures octets { (m : Moment) → Holds manager.old seats.old.seats.items seats.old.begun_before m
@@ -75,7 +99,10 @@ fn take(
         → GainsFront (lines_at event m) said.old said.new }
 {
     fits(seats.begun_before);
-    let lines = step(alloc, manager, seats, event)?;
+    let before = share_publication(manager)?;
+    let is_marked = marks.note(seats, &event)?;
+    let lines = step(alloc, manager, seats, is_marked, event)?;
+    mark(marks, before.part(), manager)?;
     let octets = octets_of(lines.as_slice());
     say_all(said, lines)?;
     Ok(octets)
@@ -93,6 +120,7 @@ impl World {
             alloc,
             manager,
             seats: Seats::start(alloc)?,
+            marks: Marks::start(alloc)?,
             octets: 0,
             has_failed: false,
         })
@@ -143,7 +171,14 @@ impl World {
         if self.has_failed {
             return Err(Memory);
         }
-        match take(self.alloc, &mut self.manager, &mut self.seats, event, said) {
+        match take(
+            self.alloc,
+            &mut self.manager,
+            &mut self.seats,
+            &mut self.marks,
+            event,
+            said,
+        ) {
             Ok(octets) => {
                 self.octets = self.octets.saturating_add(octets);
                 Ok(())

@@ -3,6 +3,7 @@ pub mod Agreements
 pub mod Serving
 mod Turning
 pub mod Settling
+pub mod Attested
 mod Views
 mod Sizes
 mod Framing

@@ -39,6 +39,22 @@ abbrev pub WereSeen : Publication → List ServedCall → Type 0
 WereSeen x [] = Unit {0}
 WereSeen x (c ∷ cs) = WasSeen x c.stage × WereSeen x cs
 
+-- what is so of the selectors of a ready call that was attested, and of the view that answered it last
+abbrev pub StageIs : (List (List ℕ) → Option Sight → Type 0) → Stage → Type 0
+StageIs rule (Unnamed kind) = Unit {0}
+StageIs rule (Ready kind sel seen headed) = rule sel seen
+StageIs rule (Asking first rest got) = Unit {0}
+
+-- it is so of each
+abbrev pub EachIs : (List (List ℕ) → Option Sight → Type 0) → List ServedCall → Type 0
+EachIs rule [] = Unit {0}
+EachIs rule (c ∷ cs) = StageIs rule c.stage × EachIs rule cs
+
+abbrev pub EachIsIn : (List (List ℕ) → Option Sight → Type 0) → SessionState → Type 0
+EachIsIn rule (Running e t x) = EachIs rule t.served
+EachIsIn rule (Fallen f begun) = Unit {0}
+EachIsIn rule OutOfMemory = Unit {0}
+
 -- nothing more may be written; and, once a turn was taken, this side's SETTINGS were, and what was answered was answered on
 -- the last turn's publication
 abbrev pub SettledOn : Option Publication → Option ℕ → Talking → Type 0
@@ -63,6 +79,16 @@ abbrev pub MayTurn : Publication → SessionState → Type 0
 MayTurn x (Running e t last) = MayFollow x last
 MayTurn x (Fallen f begun) = Unit {0}
 MayTurn x OutOfMemory = Unit {0}
+
+-- a turn was taken, and each call that was answered has in this publication the view that answered it last
+abbrev pub IsShownBy : Publication → Option Publication → List ServedCall → Type 0
+IsShownBy x None cs = ⊥
+IsShownBy x (Some last) cs = EachIs (λ sel seen. WasSeenOn (view_in x sel) seen) cs
+
+abbrev pub IsShown : Publication → SessionState → Type 0
+IsShown x (Running e t last) = IsShownBy x last t.served
+IsShown x (Fallen f begun) = Unit {0}
+IsShown x OutOfMemory = Unit {0}
 
 -- ---- a turn may be taken (laws)
 

@@ -5,7 +5,7 @@ ghost use Rattle.list_laws.specs.Lists.{GainsFront};
 ghost use Rattle.h2_frame.specs.declared.fault.FrameFault.TheVariants as frame_faults;
 ghost use Rattle.h2_frame.specs.Reading.{reading_from};
 ghost use Rattle.wl_session.specs.Sessions.{fresh_session, Feeds, Turns, Names, GivesOutcome, unnamed_in, asks_in, is_done_in, failure_in, Began, fault_in, feed_said};
-ghost use Rattle.wl_session.specs.Settled.{MayTurn, is_number};
+ghost use Rattle.wl_session.specs.Settled.{MayTurn, IsShown, is_number};
 
 use crate::asks::{JwtAsk, JwtOutcome, SessionFault};
 use crate::talk::{Talk, first_of};
@@ -138,6 +138,32 @@ impl Session {
         ensures { Turns snapshot.now self.old result out.old out.new self.new }
     {
         self.turn_over(snapshot, Some(index), out)
+    }
+
+    /// The same on a publication that shows no call that was answered another view than answered it last: where no call is
+    /// new it makes no view, and takes no memory.
+    #[tactic(auto, using(crate::proofs::Attested::unchanged_settles, crate::proofs::Attested::unchanged_turns))]
+    pub fn turn_unchanged(
+        &mut self,
+        snapshot: &Snapshot,
+        index: &Index,
+        out: &mut Octets,
+    ) -> Result<(), SessionFault>
+        requires follows { MayTurn snapshot.now self.old }
+        requires named { unnamed_in self.old ≡ None }
+        requires index { index.now ≡ snapshot.now.entries }
+        requires shown { IsShown snapshot.now self.old }
+        ensures { Turns snapshot.now self.old result out.old out.new self.new }
+    {
+        if let Some(fault) = self.failed {
+            return Err(fault);
+        }
+        if self.talk.has_new() {
+            return self.turn_over(snapshot, Some(index), out);
+        }
+        self.number = Some(snapshot.number);
+        self.shown = Some(snapshot::Snapshot::of(snapshot));
+        Ok(())
     }
 
     #[tactic(auto, using(crate::proofs::Settling::settled_turn, crate::proofs::Settling::stays_on))]

@@ -140,7 +140,8 @@ fn answers(
     Ok(are_parts(first.as_slice(), due) && second.len() == 0)
 }
 
-/// Whether a turn by the index of the entries writes what is due.
+/// Whether a turn by the index of the entries writes what is due, and one on the same views nothing.
+#[tactic(auto, using(crate::proofs::Following::turns_again, crate::proofs::Attested::turns_shown))]
 fn answers_by_index(
     alloc: Global,
     mut session: Session,
@@ -151,9 +152,14 @@ fn answers_by_index(
     requires named { unnamed_in session ≡ None }
 {
     let index = Index::build(alloc, snapshot.entries.part().as_slice())?;
-    let mut out = Octets::empty(alloc);
-    session.turn_by(snapshot, &index, &mut out)?;
-    Ok(are_parts(out.as_slice(), due))
+    let mut first = Octets::empty(alloc);
+    session.turn_by(snapshot, &index, &mut first)?;
+    if session.unnamed().is_some() {
+        return Ok(false);
+    }
+    let mut second = Octets::empty(alloc);
+    session.turn_unchanged(snapshot, &index, &mut second)?;
+    Ok(are_parts(first.as_slice(), due) && second.len() == 0)
 }
 
 /// Whether a case writes what is due before its turn.
