@@ -62,7 +62,7 @@ fn put_strange(out: &mut Octets, more: u8) -> Result<(), Memory> {
     out.push_slice(&[0; 255][..more as usize])
 }
 
-/// A link that gives 4,095 frames of 16,384 bytes, then one of 16,137 bytes and so many more, and then an SVID.
+/// A link that gives 4,095 frames of 16,384 bytes, one of 16,137 bytes and so many more, and then an SVID.
 fn chatty_link(alloc: Global, more: u8) -> Result<RepeatingLink, Memory> {
     let mut piece = Octets::empty(alloc);
     put_strange(&mut piece, 247)?;

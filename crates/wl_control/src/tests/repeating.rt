@@ -5,8 +5,8 @@ ghost use Rattle.std.specs.Prelude.{◌≤◌, length, None};
 use wl_edge::{Link, Received, Sent, TrySent};
 use wl_octets::Octets;
 
-/// A link that gives one piece so many times and then always another. It takes all that is sent, never fails, and tells
-/// nothing. Of a piece that is longer than what is lent only the front comes, and an empty one is idle.
+/// A link that gives one piece so many times and then always another. It takes all that is sent, never fails,
+/// and tells nothing. Of a piece that is longer than what is lent only the front comes, and an empty one is idle.
 #[derive(Drop)]
 pub struct RepeatingLink {
     pub piece: Octets,
