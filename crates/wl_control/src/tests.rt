@@ -1,9 +1,12 @@
+mod repeating;
+
+use self::repeating::RepeatingLink;
 use super::*;
 use std::alloc::Global;
 use std::process::Abort;
 use std::string::String;
 use std::test::*;
-use wl_edge::{Heard, LinkPlan, MemoryLink, MemorySink};
+use wl_edge::{Heard, Link, LinkPlan, MemoryLink, MemorySink};
 use wl_octets::{Memory, Octets, Row};
 
 /// The server's SETTINGS, its acknowledgement of the client's, and the head of an answer.
@@ -52,6 +55,28 @@ fn link_of(alloc: Global, parts: &[&[u8]]) -> Result<MemoryLink, Memory> {
     slow_link(alloc, 0, parts)
 }
 
+/// Puts a frame of type 10, which is unknown, behind the others: 16,137 bytes and so many more.
+fn put_strange(out: &mut Octets, more: u8) -> Result<(), Memory> {
+    out.push_slice(&[0, 63, more, 10, 0, 0, 0, 0, 0])?;
+    out.push_slice(&[0; 16_128])?;
+    out.push_slice(&[0; 255][..more as usize])
+}
+
+/// A link that gives 4,095 frames of 16,384 bytes, one of 16,137 bytes and so many more, and then an SVID.
+fn chatty_link(alloc: Global, more: u8) -> Result<RepeatingLink, Memory> {
+    let mut piece = Octets::empty(alloc);
+    put_strange(&mut piece, 247)?;
+    let mut then = Octets::empty(alloc);
+    put_strange(&mut then, more)?;
+    then.push_slice(BEGUN)?;
+    then.push_slice(SVID)?;
+    Ok(RepeatingLink {
+        piece,
+        times: 4_095,
+        then,
+    })
+}
+
 fn words_of(alloc: Global, text: &str) -> Result<Vec<String>, Memory> {
     let mut words = Vec::new(alloc);
     for word in text.split(' ') {
@@ -60,11 +85,11 @@ fn words_of(alloc: Global, text: &str) -> Result<Vec<String>, Memory> {
     Ok(words)
 }
 
-fn try_link<R: Abort>(
+fn try_link<R: Abort, L: Link + Drop>(
     rt: &R,
     alloc: Global,
     words: &str,
-    link: MemoryLink,
+    link: L,
     status: u8,
     text: &[u8],
 ) -> Result<(), Fail> {
@@ -279,6 +304,25 @@ fn silence_ends_a_call(rt: HostRuntime) -> Result<(), Fail> {
     ];
     for (idles, status, text) in table {
         let link = slow_link(alloc, idles, &[BEGUN, SVID])?;
+        try_link(&rt, alloc, "fetch x509", link, status, text)?;
+    }
+    Ok(())
+}
+
+#[test]
+fn only_so_much_is_read(rt: HostRuntime) -> Result<(), Fail> {
+    let alloc = rt.alloc();
+    // The last byte of the SVID is byte 67,108,864, and then one behind that.
+    let table: [(u8, u8, &[u8]); 2] = [
+        (
+            147,
+            status::DONE,
+            b"svid spiffe://a.b/w chain=01 key=02 bundle=03 hint=\n",
+        ),
+        (148, status::CLIENT_FAULT, b"fault client 9\n"),
+    ];
+    for (more, status, text) in table {
+        let link = chatty_link(alloc, more)?;
         try_link(&rt, alloc, "fetch x509", link, status, text)?;
     }
     Ok(())
