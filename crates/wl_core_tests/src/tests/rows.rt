@@ -121,7 +121,7 @@ pub const FIRST_SAID: [Said; 6] = [
     Said::Out(0, &[RESPONSE_HEAD, RESPONSE]),
 ];
 
-pub const SEQUELS: [Transcript; 8] = [
+pub const SEQUELS: [Transcript; 11] = [
     Transcript {
         name: "first_transcript",
         is_strict: false,
@@ -227,6 +227,79 @@ pub const SEQUELS: [Transcript; 8] = [
             Said::Words("kept"),
             Said::Words("published 4"),
             Said::Out(1, &[OTHER_NEXT_RESPONSE]),
+        ],
+    },
+    Transcript {
+        name: "new_call_of_an_unmarked_session",
+        is_strict: false,
+        is_sequel: true,
+        document: DOC,
+        steps: &[
+            Step::Sync(TWO),
+            Step::Turn(0),
+            Step::Feed(0, &[HEAD_3, EMPTY_3]),
+            Step::Turn(0),
+            Step::Turn(0),
+        ],
+        said: &[
+            Said::Words("published 2"),
+            Said::Out(0, &[STEP_5]),
+            Said::Out(0, &[RESPONSE_HEAD_3, RESPONSE_3]),
+        ],
+    },
+    Transcript {
+        name: "mark_by_a_name",
+        is_strict: false,
+        is_sequel: true,
+        document: DOC,
+        steps: &[
+            Step::Sync(TWO),
+            Step::Name(0, b"unix:uid:2"),
+            Step::Feed(0, &[HEAD_3, EMPTY_3]),
+            Step::Turn(0),
+            Step::Claim(100),
+            Step::Signed(2, b"\x07", b"\x08", 100, 200, 100),
+            Step::Turn(0),
+            Step::Turn(0),
+        ],
+        said: &[
+            Said::Words("published 2"),
+            Said::Words("named 0"),
+            Said::Out(0, &[STEP_5]),
+            Said::Words("ticket 2 6532"),
+            Said::Words("kept"),
+            Said::Words("published 3"),
+            Said::Out(0, &[RESPONSE_HEAD_3, OTHER_RESPONSE_3]),
+        ],
+    },
+    Transcript {
+        name: "marks_of_those_who_stay",
+        is_strict: false,
+        is_sequel: true,
+        document: DOC,
+        steps: &[
+            Step::Join(1, b"unix:uid:1"),
+            Step::Close(1),
+            Step::Sync(HINTED),
+            Step::Turn(0),
+            Step::Join(1, b"unix:uid:1"),
+            Step::Close(0),
+            Step::Sync(NO_ENTRY),
+            Step::Feed(1, &[PREFACE, SETTINGS, HEAD, EMPTY]),
+            Step::Sync(HINTED),
+            Step::Close(1),
+        ],
+        said: &[
+            Said::Words("joined 1"),
+            Said::Words("closed 1"),
+            Said::Words("published 2"),
+            Said::Out(0, &[HINTED_RESPONSE]),
+            Said::Words("joined 1"),
+            Said::Words("closed 0"),
+            Said::Words("published 3"),
+            Said::Out(1, &[SERVER_SETTINGS, ACKNOWLEDGEMENT, STEP_5]),
+            Said::Words("published 4"),
+            Said::Words("closed 1"),
         ],
     },
     Transcript {
