@@ -86,8 +86,8 @@ impl<'a, R: Net + Files + Clock + Clone + Drop> SeatMaker for Seats<'a, R> {
         fact: &SocketFact,
     ) -> Result<(RealSeat<R>, RealBell), EdgeFault> {
         let (rt, config) = (self.rt, self.config);
-        let listener = listener_at(rt, alloc, &fact.path)?;
-        let Ok((ready, bell)) = RealReady::start(rt, alloc, &listener) else {
+        let mut listener = listener_at(rt, alloc, &fact.path)?;
+        let Ok((ready, bell)) = RealReady::start(rt, alloc, &mut listener) else {
             return Err(EdgeFault::Failed);
         };
         let seat = Seat {

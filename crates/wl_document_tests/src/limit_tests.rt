@@ -1,12 +1,12 @@
 //! Documents at the limits and just past them, and what a document says.
 
-use wl_document::*;
 use crate::tests::{Numbers, outcome};
 use spiffe_id::TrustDomain;
 use std::alloc::{AllocError, Global};
 use std::process::Abort;
 use std::string::ToString;
 use std::test::Fail;
+use wl_document::*;
 
 /// A document with a text that is repeated.
 struct Repeated {

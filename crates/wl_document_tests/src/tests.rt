@@ -1,10 +1,10 @@
 //! Documents with one fault each, at every field.
 
-use wl_document::*;
 use spiffe_id::{IdFault, TrustDomain};
 use std::alloc::{AllocError, Global};
 use std::process::Abort;
 use std::test::Fail;
+use wl_document::*;
 
 /// A fault by its numbers: its own, its place as part, index, field and item, and its count, or the number of the
 /// fault of an id with its own number; 0 where there is none.

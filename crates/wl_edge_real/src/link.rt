@@ -18,14 +18,35 @@ const CLOSING_ROOM: usize = 4_096;
 /// How many such reads there are at most.
 const CLOSING_READS: usize = 64;
 
+/// What a link and one who watches it tell each other.
+#[derive(Drop)]
+pub(crate) struct Watch {
+    /// Whether a receive may find something that the poll does not tell of.
+    pub(crate) more: AtomicBool,
+    /// Whether the last sending stalled.
+    pub(crate) stalled: AtomicBool,
+    /// Whether the poll told that the peer sends no more. Its last bytes and its end may come with one event.
+    pub(crate) closing: AtomicBool,
+}
+
+impl Watch {
+    /// Of a link of which nobody knows yet whether it is idle.
+    pub(crate) fn start() -> Watch {
+        Watch {
+            more: AtomicBool::new(true),
+            stalled: AtomicBool::new(false),
+            closing: AtomicBool::new(false),
+        }
+    }
+}
+
 /// A link over a Unix socket. It tells no content. A receive that finds nothing is idle at once, so that one who has
 /// nothing else to do waits with a `RealReady`.
 #[derive(Drop)]
 pub struct RealLink {
     stream: UnixStream,
-    /// Whether the last receive gave bytes and no sending stalled since, so that more may be there. One who watches the
-    /// link shares it.
-    more: Option<Arc<AtomicBool>>,
+    /// Shared with one who watches the link.
+    watch: Option<Arc<Watch>>,
     failed_receives: u64,
     failed_sends: u64,
     stalls: u64,
@@ -49,7 +70,7 @@ impl RealLink {
         stream.set_nonblocking(true)?;
         Ok(RealLink {
             stream,
-            more: None,
+            watch: None,
             failed_receives: 0,
             failed_sends: 0,
             stalls: 0,
@@ -76,20 +97,40 @@ impl RealLink {
         }
     }
 
-    /// Shares whether more may be there with one who watches the link, or with nobody.
-    pub(crate) fn share(&mut self, more: Option<Arc<AtomicBool>>)
+    /// Has it shared with one who watches the link, or with nobody.
+    pub(crate) fn share(&mut self, watch: Option<Arc<Watch>>)
         ensures told { ⟦<RealLink as Link>⟧.told self.new ≡ ⟦<RealLink as Link>⟧.told self.old }
         ensures receives { ⟦<RealLink as Link>⟧.failed_receives self.new ≡ ⟦<RealLink as Link>⟧.failed_receives self.old }
         ensures sends { ⟦<RealLink as Link>⟧.failed_sends self.new ≡ ⟦<RealLink as Link>⟧.failed_sends self.old }
         ensures stalls { ⟦<RealLink as Link>⟧.stalls self.new ≡ ⟦<RealLink as Link>⟧.stalls self.old }
     {
-        self.more = more;
+        self.watch = watch;
     }
 
-    /// Notes whether more may be there.
-    fn note(&self, more: bool) {
-        if let Some(shared) = &self.more {
-            shared.store(more, Ordering::SeqCst);
+    /// Notes that a receive gave so many bytes of those that it was lent. One that gave fewer has found all that was there,
+    /// and the poll tells of what comes later; but the end may have come already.
+    fn note_received(&self, count: usize, lent: usize) {
+        if let Some(watch) = &self.watch {
+            let more = count == lent || watch.closing.load(Ordering::SeqCst);
+            watch.more.store(more, Ordering::SeqCst);
+        }
+    }
+
+    /// Notes that a receive gave nothing.
+    fn note_nothing(&self) {
+        if let Some(watch) = &self.watch {
+            watch.more.store(false, Ordering::SeqCst);
+        }
+    }
+
+    /// Notes whether a sending stalled. What is unsent goes first, so then nothing is received until the poll tells that
+    /// the peer has read.
+    fn note_sent(&self, stalled: bool) {
+        if let Some(watch) = &self.watch {
+            watch.stalled.store(stalled, Ordering::SeqCst);
+            if stalled {
+                watch.more.store(false, Ordering::SeqCst);
+            }
         }
     }
 }
@@ -114,21 +155,22 @@ impl Link for RealLink {
     ghost stalls = { λ l. l.stalls };
 
     fn receive(&mut self, into: &mut [u8]) -> Received {
+        let lent = into.len();
         match self.stream.read(into) {
-            Ok(0) => {
-                self.note(false);
-                Received::End
-            }
-            Ok(count) => {
-                self.note(true);
+            Ok(count) if count > 0 => {
+                self.note_received(count, lent);
                 Received::Got(count)
             }
+            Ok(_) => {
+                self.note_nothing();
+                Received::End
+            }
             Err(error) if is_pause(&error) => {
-                self.note(false);
+                self.note_nothing();
                 Received::Idle
             }
             Err(_) => {
-                self.note(false);
+                self.note_nothing();
                 self.failed_receives = self.failed_receives.saturating_add(1);
                 Received::Failed
             }
@@ -147,10 +189,12 @@ impl Link for RealLink {
 
     fn try_send(&mut self, bytes: &[u8]) -> TrySent {
         match self.stream.write(bytes) {
-            Ok(count) if count > 0 => TrySent::Took(count),
+            Ok(count) if count > 0 => {
+                self.note_sent(false);
+                TrySent::Took(count)
+            }
             Err(error) if is_pause(&error) => {
-                // What is unsent goes first, so nothing is received until the poll tells that the peer has read.
-                self.note(false);
+                self.note_sent(true);
                 self.stalls = self.stalls.saturating_add(1);
                 TrySent::Later
             }

@@ -8,6 +8,8 @@ use std::io;
 use std::io::ErrorKind;
 use std::os::fd::{AsRawFd, RawFd};
 use std::os::unix::net::UnixListener;
+use std::sync::Arc;
+use std::sync::atomic::{AtomicBool, Ordering};
 use wl_edge::{Accepted, Link, Listener};
 
 /// There is no memory for one more connection (errors of `accept(2)`, by their numbers on Linux).
@@ -26,6 +28,8 @@ const ENOBUFS: i32 = 105;
 #[derive(Drop)]
 pub struct RealListener {
     listener: UnixListener,
+    /// Whether peers may have connected since an accept found none. One who watches the listener shares it.
+    arrivals: Option<Arc<AtomicBool>>,
     faults: u64,
 }
 
@@ -54,6 +58,7 @@ impl RealListener {
         listener.set_nonblocking(true)?;
         Ok(RealListener {
             listener,
+            arrivals: None,
             faults: 0,
         })
     }
@@ -61,6 +66,30 @@ impl RealListener {
     /// The socket.
     pub(crate) fn descriptor(&self) -> RawFd {
         self.listener.as_raw_fd()
+    }
+
+    /// Shares whether peers may have connected with one who watches the listener.
+    pub(crate) fn share(&mut self, arrivals: Arc<AtomicBool>)
+        ensures { ⟦<RealListener as Listener>⟧.faults self.new ≡ ⟦<RealListener as Listener>⟧.faults self.old }
+    {
+        self.arrivals = Some(arrivals);
+    }
+
+    /// Whether an accept may find a connection.
+    fn may_have_arrivals(&self) -> bool {
+        match &self.arrivals {
+            Some(arrivals) => arrivals.load(Ordering::SeqCst),
+            None => true,
+        }
+    }
+
+    /// Notes that an accept found no connection. One that was interrupted has not looked.
+    fn note_nothing(&self, error: &io::Error) {
+        if let Some(arrivals) = &self.arrivals
+            && error.kind() == ErrorKind::WouldBlock
+        {
+            arrivals.store(false, Ordering::SeqCst);
+        }
     }
 
     /// The next connection as a link.
@@ -81,9 +110,15 @@ impl Listener for RealListener {
     ghost faults = { λ l. l.faults };
 
     fn accept(&mut self) -> Accepted<RealLink> {
+        if !self.may_have_arrivals() {
+            return Accepted::Idle;
+        }
         match self.next_link() {
             Ok(link) => Accepted::Link(link),
-            Err(error) if is_nothing(&error) => Accepted::Idle,
+            Err(error) if is_nothing(&error) => {
+                self.note_nothing(&error);
+                Accepted::Idle
+            }
             Err(error) => {
                 self.faults = self.faults.saturating_add(1);
                 if is_full(&error) {

@@ -4,17 +4,18 @@ ghost use Rattle.std.specs.Prelude.{◌≡◌, IfOk, IfErr};
 ghost use Rattle.list_laws.specs.Lists.{BeginsWith};
 
 use crate::bell::RealBell;
-use crate::link::RealLink;
+use crate::link::{RealLink, Watch};
 use crate::listener::RealListener;
 use mio::unix::SourceFd;
 use mio::{Events, Interest, Poll, Token, Waker};
 use std::alloc::Global;
 use std::io;
 use std::net::Net;
+use std::os::fd::RawFd;
 use std::sync::Arc;
 use std::sync::atomic::{AtomicBool, Ordering};
 use std::time::Duration;
-use wl_edge::{EdgeFault, Ready};
+use wl_edge::{EdgeFault, Listener, Ready};
 use wl_octets::Row;
 
 /// The listener's token, which is no number of a link.
@@ -33,16 +34,26 @@ const EVENTS: usize = 64;
 #[derive(Drop)]
 struct Watched {
     number: u32,
-    /// Whether the link's last receive gave bytes. The poll tells of changes alone, so a link is taken to be ready
-    /// until a receive gave none, or a sending stalled.
-    more: Arc<AtomicBool>,
+    socket: RawFd,
+    watch: Arc<Watch>,
     /// Whether the poll told of it since it was appended last.
     changed: bool,
+    /// Whether the poll is to tell that its peer has read: while a sending is stalled.
+    tells_of_room: bool,
 }
 
 impl Watched {
     fn is_ready(&self) -> bool {
-        self.changed || self.more.load(Ordering::SeqCst)
+        self.changed || self.watch.more.load(Ordering::SeqCst)
+    }
+}
+
+/// What the poll is to tell of a link.
+fn interest(tells_of_room: bool) -> Interest {
+    if tells_of_room {
+        Interest::READABLE | Interest::WRITABLE
+    } else {
+        Interest::READABLE
     }
 }
 
@@ -53,6 +64,8 @@ pub struct RealReady {
     poll: Poll,
     events: Events<Global>,
     watched: Vec<Watched>,
+    /// Whether peers may have connected, which the listener shares.
+    arrivals: Arc<AtomicBool>,
     rung: bool,
     faults: u64,
 }
@@ -63,20 +76,24 @@ impl RealReady {
     pub fn start(
         rt: &impl Net,
         alloc: Global,
-        listener: &RealListener,
+        listener: &mut RealListener,
     ) -> io::Result<(RealReady, RealBell)>
         ensures fresh { IfOk result (λ pair. ⟦<RealReady as Ready<RealLink>>⟧.faults pair.0 ≡ 0) }
+        ensures listener { ⟦<RealListener as Listener>⟧.faults listener.new ≡ ⟦<RealListener as Listener>⟧.faults listener.old }
     {
         let poll = Poll::new(rt)?;
         let socket = listener.descriptor();
         poll.registry()
             .register(&mut SourceFd(&socket), LISTENER, Interest::READABLE)?;
         let bell = RealBell::start(Waker::new(poll.registry(), BELL)?);
+        let arrivals = Arc::new(alloc, AtomicBool::new(true))?;
+        listener.share(Arc::try_clone(&arrivals)?);
         let ready = RealReady {
             alloc,
             poll,
             events: Events::with_capacity(alloc, EVENTS)?,
             watched: Vec::new(alloc),
+            arrivals,
             rung: false,
             faults: 0,
         };
@@ -84,24 +101,44 @@ impl RealReady {
     }
 }
 
-/// Notes of which links the events tell, and says whether the bell rang.
-fn note_events(events: &Events<Global>, watched: &mut [Watched]) -> bool {
+/// Notes of which links the events tell, and whether of the listener, and says whether the bell rang.
+fn note_events(events: &Events<Global>, watched: &mut [Watched], arrivals: &AtomicBool) -> bool {
     let mut rung = false;
     for event in events.iter() {
-        let token = event.token();
-        rung = rung || token == BELL;
-        note_change(watched, token);
+        match event.token() {
+            BELL => rung = true,
+            LISTENER => arrivals.store(true, Ordering::SeqCst),
+            token => note_change(watched, token, event.is_read_closed()),
+        }
     }
     rung
 }
 
-/// Notes that the link of this token changed, if it is watched.
-fn note_change(watched: &mut [Watched], token: Token) {
+/// Notes that the link of this token changed, if it is watched, and whether its peer sends no more.
+fn note_change(watched: &mut [Watched], token: Token, is_closing: bool) {
     for link in watched.iter_mut() {
         if Token(link.number as usize) == token {
             link.changed = true;
+            if is_closing {
+                link.watch.closing.store(true, Ordering::SeqCst);
+            }
         }
     }
+}
+
+/// Has the poll tell what it is to tell now of each link.
+fn follow_stalls(poll: &Poll, watched: &mut [Watched]) -> io::Result<()> {
+    for link in watched.iter_mut() {
+        let stalled = link.watch.stalled.load(Ordering::SeqCst);
+        if stalled != link.tells_of_room {
+            let token = Token(link.number as usize);
+            let socket = link.socket;
+            poll.registry()
+                .reregister(&mut SourceFd(&socket), token, interest(stalled))?;
+            link.tells_of_room = stalled;
+        }
+    }
+    Ok(())
 }
 
 /// Appends the number of a link.
@@ -131,21 +168,22 @@ impl Ready<RealLink> for RealReady {
     ghost faults = { λ r. r.faults };
 
     fn add(&mut self, number: u32, link: &mut RealLink) -> Result<(), EdgeFault> {
-        let more = Arc::new(self.alloc, AtomicBool::new(true)).map_err(|_| EdgeFault::Memory)?;
-        let shared = Arc::try_clone(&more).map_err(|_| EdgeFault::Memory)?;
+        let watch = Arc::new(self.alloc, Watch::start()).map_err(|_| EdgeFault::Memory)?;
+        let shared = Arc::try_clone(&watch).map_err(|_| EdgeFault::Memory)?;
+        let socket = link.descriptor();
         let watched = Watched {
             number,
-            more,
+            socket,
+            watch,
             changed: false,
+            tells_of_room: false,
         };
         self.watched.push(watched).map_err(|_| EdgeFault::Memory)?;
-        let socket = link.descriptor();
         let token = Token(number as usize);
-        let both = Interest::READABLE | Interest::WRITABLE;
         if self
             .poll
             .registry()
-            .register(&mut SourceFd(&socket), token, both)
+            .register(&mut SourceFd(&socket), token, interest(false))
             .is_err()
         {
             self.watched.pop();
@@ -177,11 +215,13 @@ impl Ready<RealLink> for RealReady {
         } else {
             Duration::from_secs(SHORT_WHILE_SECONDS)
         };
-        if self.poll.poll(&mut self.events, Some(most)).is_err() {
+        if follow_stalls(&self.poll, self.watched.as_mut_slice()).is_err()
+            || self.poll.poll(&mut self.events, Some(most)).is_err()
+        {
             self.faults = self.faults.saturating_add(1);
             return Err(EdgeFault::Failed);
         }
-        let rung = note_events(&self.events, self.watched.as_mut_slice());
+        let rung = note_events(&self.events, self.watched.as_mut_slice(), &self.arrivals);
         self.rung = self.rung || rung;
         append(self.watched.as_mut_slice(), self.rung, into)?;
         self.rung = false;

@@ -173,7 +173,7 @@ fn a_watcher_tells_of_links_and_a_bell_of_all(rt: HostRuntime) -> Result<(), Fai
     let alloc = rt.alloc();
     let path = path_of(&rt, "ready")?;
     let mut listener = bind(&rt, path.as_str()).map_err(|_| "bind")?;
-    let (mut ready, bell) = RealReady::start(&rt, alloc, &listener)?;
+    let (mut ready, bell) = RealReady::start(&rt, alloc, &mut listener)?;
     let mut peers = Vec::new(alloc);
     let mut links = Vec::new(alloc);
     for number in 3..6 {
@@ -217,6 +217,54 @@ fn a_watcher_tells_of_links_and_a_bell_of_all(rt: HostRuntime) -> Result<(), Fai
     Ok(())
 }
 
+/// Whether waits tell of a link for each of these: bytes that come, which are read whole; the last bytes together with
+/// the end, and then the end; and of nothing else.
+fn tells_to_the_end(
+    alloc: Global,
+    ready: &mut RealReady,
+    link: &mut RealLink,
+    mut peer: UnixStream,
+) -> Result<bool, Fail> {
+    let mut room = [0; 4];
+    peer.write_all(b"ab")?;
+    let first = (told(alloc, ready)?.len(), link.receive(&mut room));
+    let between = told(alloc, ready)?.len();
+    peer.write_all(b"c")?;
+    drop(peer);
+    let last = (told(alloc, ready)?.len(), link.receive(&mut room));
+    let end = (told(alloc, ready)?.len(), link.receive(&mut room));
+    let came = (first, last) == ((1, Received::Got(2)), (1, Received::Got(1)));
+    Ok(came && (between, end) == (0, (1, Received::End)))
+}
+
+#[test]
+fn a_watcher_tells_of_what_comes_and_of_the_end(rt: HostRuntime) -> Result<(), Fail> {
+    let path = path_of(&rt, "end")?;
+    let mut listener = bound(&rt, path.as_str())?;
+    let (mut ready, _bell) = RealReady::start(&rt, rt.alloc(), &mut listener)?;
+    let peer = UnixStream::connect(&rt, path.as_str())?;
+    let mut link = accepted(&mut listener)?;
+    assert_eq!(rt; ready.add(7, &mut link), Ok(()));
+    assert!(rt; tells_to_the_end(rt.alloc(), &mut ready, &mut link, peer)?);
+    fs::remove_file(&rt, path.as_str())?;
+    Ok(())
+}
+
+/// A peer that connects after an accept found none is found once a wait was told of it.
+#[test]
+fn a_watched_listener_gives_links_after_a_wait(rt: HostRuntime) -> Result<(), Fail> {
+    let path = path_of(&rt, "arrival")?;
+    let mut listener = bound(&rt, path.as_str())?;
+    let (mut ready, _bell) = RealReady::start(&rt, rt.alloc(), &mut listener)?;
+    assert!(rt; matches!(listener.accept(), Accepted::Idle));
+    let _peer = UnixStream::connect(&rt, path.as_str())?;
+    assert!(rt; matches!(listener.accept(), Accepted::Idle));
+    assert_eq!(rt; told(rt.alloc(), &mut ready)?.len(), 0);
+    let _link = accepted(&mut listener)?;
+    fs::remove_file(&rt, path.as_str())?;
+    Ok(())
+}
+
 /// Reads all that a link sent.
 fn read_away(peer: &mut UnixStream) -> Result<(), Fail> {
     let mut room = [0; 65_536];
@@ -229,7 +277,8 @@ fn read_away(peer: &mut UnixStream) -> Result<(), Fail> {
     Ok(())
 }
 
-/// Whether no wait tells of a link with bytes that were not read while it is stalled, and one does once its peer reads.
+/// Whether no wait tells of a link with bytes that were not read while it is stalled, and one does once its peer reads;
+/// then it is stalled no more.
 fn waits_for_its_peer(
     alloc: Global,
     ready: &mut RealReady,
@@ -244,19 +293,23 @@ fn waits_for_its_peer(
     let stalled = told(alloc, ready)?;
     read_away(peer)?;
     let later = next_told(alloc, ready)?;
+    let sent = link.try_send(b"x");
+    let _ = told(alloc, ready)?;
     let held = (got, filled, stalled.len()) == (Received::Got(2), TrySent::Later, 0);
-    Ok(held && later.as_slice() == [7].as_slice())
+    Ok(held && later.as_slice() == [7].as_slice() && sent == TrySent::Took(1))
 }
 
 #[test]
 fn a_watcher_tells_of_a_stalled_link_once_its_peer_reads(rt: HostRuntime) -> Result<(), Fail> {
     let path = path_of(&rt, "stalled")?;
     let mut listener = bound(&rt, path.as_str())?;
-    let (mut ready, _bell) = RealReady::start(&rt, rt.alloc(), &listener)?;
+    let (mut ready, _bell) = RealReady::start(&rt, rt.alloc(), &mut listener)?;
     let mut peer = UnixStream::connect(&rt, path.as_str())?;
     let mut link = accepted(&mut listener)?;
     assert_eq!(rt; ready.add(7, &mut link), Ok(()));
-    assert!(rt; waits_for_its_peer(rt.alloc(), &mut ready, &mut link, &mut peer)?);
+    for _ in 0..2 {
+        assert!(rt; waits_for_its_peer(rt.alloc(), &mut ready, &mut link, &mut peer)?);
+    }
     fs::remove_file(&rt, path.as_str())?;
     Ok(())
 }

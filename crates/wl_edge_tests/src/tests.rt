@@ -2,14 +2,14 @@ mod memory;
 
 ghost use Rattle.std.specs.Prelude.{◌<◌, ◌^◌};
 
-use wl_edge::{
-    MemorySink, MemorySource, ReadFault, RealSink, RealSource, Sent, Sink, Source, Taken, read_all,
-    write_all,
-};
 use std::alloc::{AllocGlobal, Global};
 use std::io::{Read, Write};
 use std::test::Fail;
 use std::{fs, io};
+use wl_edge::{
+    MemorySink, MemorySource, ReadFault, RealSink, RealSource, Sent, Sink, Source, Taken, read_all,
+    write_all,
+};
 use wl_octets::{Memory, Octets, Row};
 
 /// The list of one number.

@@ -2,7 +2,6 @@ ghost use Rattle.std.specs.Prelude.{◌≡◌, IfOk};
 ghost use mathlib.Core.List.{IsPrefix};
 ghost use Rattle.wl_publish.specs.Lists.{IsVouched};
 
-use wl_publish::{Edition, Note, Pass, Publisher, start};
 use spiffe_id::TrustDomain;
 use std::alloc::{AllocGlobal, Global};
 use std::sync::Wait;
@@ -11,6 +10,7 @@ use std::thread::join;
 use wl_entry::Free;
 use wl_match::Index;
 use wl_octets::{Memory, Row, Shared};
+use wl_publish::{Edition, Note, Pass, Publisher, start};
 use wl_snapshot::Snapshot;
 
 fn shared<T: Drop>(alloc: Global, part: T) -> Result<Shared<T>, Memory>

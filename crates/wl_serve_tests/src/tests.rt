@@ -5,5 +5,6 @@ mod failing;
 mod gates;
 mod hosts;
 mod neighbours;
+mod ordinary;
 mod refusals;
 mod serving;

@@ -2,15 +2,15 @@
 
 ghost use Rattle.std.specs.Prelude.{◌≡◌, [], Some, IfOk};
 
+use spiffe_id::SpiffeId;
+use std::alloc::Global;
+use std::test::Fail;
 use wl_edge::{
     AcceptKind, Accepted, Attestor, AttestorCall, BEFORE_TURN, Bell, Clock, EdgeFault, Gate, Heard,
     Link, LinkPlan, Listener, ListenerPlan, MemoryAttestor, MemoryBell, MemoryClock, MemoryLink,
     MemoryListener, MemoryReady, MemorySigner, MemoryUpstream, OpenGate, PullCall, Ready, Received,
     Script, Sent, Signer, SignerCall, TrySent, Upstream,
 };
-use spiffe_id::SpiffeId;
-use std::alloc::Global;
-use std::test::Fail;
 use wl_entry::{Ask, JwtToken, Signed};
 use wl_octets::{Memory, Octets, Row};
 use wl_selector::{Selector, Selectors};

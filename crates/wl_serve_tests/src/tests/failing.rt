@@ -3,14 +3,14 @@
 use super::gates::Holding;
 use super::hosts::{CALLS, Stop, Trial, served};
 use super::serving::{LEAF_IN_MESSAGE, takers_at};
-use wl_serve::ServeEnd;
-use wl_serve::ServeEnd::{Done, HostFault, NoDocument};
 use std::alloc::Global;
 use std::rt::Clock;
 use std::sync::Wait;
 use std::test::Fail;
 use std::thread::Threads;
 use wl_edge::BEFORE_UPKEEP;
+use wl_serve::ServeEnd;
+use wl_serve::ServeEnd::{Done, HostFault, NoDocument};
 
 /// Whose call fails.
 #[derive(Clone, Copy, Debug)]

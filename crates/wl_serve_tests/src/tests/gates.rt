@@ -10,7 +10,7 @@ use wl_edge::{BEFORE_TURN, Gate};
 const LOOKS: u64 = 10_000;
 
 /// Whether a count comes to this.
-fn comes_to<R: Clock>(rt: &R, count: &AtomicU64, wanted: u64) -> bool {
+pub fn comes_to<R: Clock>(rt: &R, count: &AtomicU64, wanted: u64) -> bool {
     for _ in 0..LOOKS {
         if count.load(Ordering::SeqCst) >= wanted {
             return true;

@@ -1,7 +1,6 @@
 //! Hosts in memory, and what serving them comes to.
 
 use super::bytes::{DOC, HEAD, LEAF, MESSAGE, ONE, OPENING};
-use wl_serve::{HostPlan, MemoryHost, Parts, SeatPlan, ServeEnd, serve};
 use std::alloc::{AllocError, Global};
 use std::sync::Wait;
 use std::thread::Threads;
@@ -9,12 +8,15 @@ use wl_edge::{Gate, Heard, LinkPlan, ListenerPlan, Script};
 use wl_entry::Signed;
 use wl_octets::{Memory, Octets, Row};
 use wl_selector::{Selector, SelectorFault, Selectors, SelectorsFault};
+use wl_serve::{HostPlan, MemoryHost, Parts, SeatPlan, ServeEnd, serve};
 
 /// Why a host cannot be made.
 #[derive(Debug, Drop)]
 pub enum Stop {
     Memory,
     Selector,
+    /// What a link took is no frames.
+    Frames,
 }
 
 impl From<Memory> for Stop {
@@ -77,16 +79,21 @@ pub const CALLS: Trial = Trial {
 /// How many bytes a link has room for.
 const ROOM: usize = 4_096;
 
-fn numbers(alloc: Global, numbers: &[u64]) -> Result<Row<u64>, Memory> {
+pub fn numbers(alloc: Global, numbers: &[u64]) -> Result<Row<u64>, Memory> {
     Ok(Row::from_vec(Vec::from_slice(alloc, numbers)?))
 }
 
-fn link(alloc: Global, trial: &Trial) -> Result<LinkPlan, Memory> {
+/// A link that gives these pieces, with room for so many bytes.
+pub fn smooth_link(alloc: Global, pieces: &[&[u8]], room: usize) -> Result<LinkPlan, Memory> {
     let mut gives = Row::empty(alloc);
-    for piece in trial.pieces {
+    for piece in pieces {
         gives.push(Heard::Piece(Octets::from_slice(alloc, piece)?))?;
     }
-    let mut plan = LinkPlan::smooth(alloc, gives, 64, ROOM);
+    Ok(LinkPlan::smooth(alloc, gives, 64, room))
+}
+
+fn link(alloc: Global, trial: &Trial) -> Result<LinkPlan, Memory> {
+    let mut plan = smooth_link(alloc, trial.pieces, ROOM)?;
     plan.failing_receives = numbers(alloc, trial.receives)?;
     plan.failing_sends = numbers(alloc, trial.sends)?;
     Ok(plan)
@@ -106,23 +113,23 @@ fn listener(alloc: Global, trial: &Trial) -> Result<ListenerPlan, Memory> {
 }
 
 /// Puts an item behind others.
-fn push<T: Drop>(items: &mut Row<T>, item: T) -> Result<(), Memory> {
+pub fn push<T: Drop>(items: &mut Row<T>, item: T) -> Result<(), Memory> {
     items.push(item)?;
     Ok(())
 }
 
-fn selector(alloc: Global) -> Result<Selector, Stop> {
-    match Selector::parse(alloc, b"unix:uid:1") {
+fn selector(alloc: Global, text: &[u8]) -> Result<Selector, Stop> {
+    match Selector::parse(alloc, text) {
         Ok(selector) => Ok(selector),
         Err(SelectorFault::Memory) => Err(Stop::Memory),
         Err(_) => Err(Stop::Selector),
     }
 }
 
-/// The selectors of each caller.
-fn caller(alloc: Global) -> Result<Selectors, Stop> {
+/// The selectors of a caller who has this one.
+fn caller(alloc: Global, text: &[u8]) -> Result<Selectors, Stop> {
     let mut selectors = Row::empty(alloc);
-    push(&mut selectors, selector(alloc)?)?;
+    push(&mut selectors, selector(alloc, text)?)?;
     match Selectors::from_list(alloc, selectors.into_vec(), 1) {
         Ok(selectors) => Ok(selectors),
         Err(SelectorsFault::Memory) => Err(Stop::Memory),
@@ -130,21 +137,17 @@ fn caller(alloc: Global) -> Result<Selectors, Stop> {
     }
 }
 
-/// An attestor's answers: this one.
-fn attested(
-    alloc: Global,
-    caller: Selectors,
-    failing: &[u64],
-) -> Result<Script<Selectors>, Memory> {
+/// An attestor's answers: callers who have this selector.
+pub fn attested(alloc: Global, text: &[u8], failing: &[u64]) -> Result<Script<Selectors>, Stop> {
     let mut answers = Row::empty(alloc);
-    answers.push(caller)?;
+    push(&mut answers, caller(alloc, text)?)?;
     Ok(Script::start(answers, numbers(alloc, failing)?))
 }
 
 fn seat(alloc: Global, trial: &Trial) -> Result<SeatPlan, Stop> {
     Ok(SeatPlan {
         listener: listener(alloc, trial)?,
-        selectors: attested(alloc, caller(alloc)?, trial.attests)?,
+        selectors: attested(alloc, b"unix:uid:1", trial.attests)?,
         tokens: Script::start(Row::empty(alloc), Row::empty(alloc)),
         times: numbers(alloc, &[100])?,
         failing: numbers(alloc, trial.waits)?,

@@ -4,10 +4,10 @@ use super::bytes::{HEAD, MESSAGE, OPENING, TWO};
 use super::gates::HoldingFirst;
 use super::hosts::{LINKS, Trial, served};
 use super::serving::{LEAF_IN_MESSAGE, takers_at};
-use wl_serve::{MemoryHost, Parts};
 use std::rt::Clock;
 use std::sync::atomic::Ordering;
 use std::test::Fail;
+use wl_serve::{MemoryHost, Parts};
 
 /// Two sockets with a link each, which is idle once after its call.
 const TWO_LINKS: Trial = Trial {

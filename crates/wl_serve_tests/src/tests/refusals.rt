@@ -2,13 +2,13 @@
 
 use super::gates::Holding;
 use super::hosts::{CALLS, Stop, served};
-use wl_serve::{MemoryHost, Parts, ServeEnd};
 use std::alloc::Global;
 use std::rt::Clock;
 use std::sync::Wait;
 use std::test::Fail;
 use std::thread::Threads;
 use wl_edge::{BEFORE_UPKEEP, MemoryLink};
+use wl_serve::{MemoryHost, Parts, ServeEnd};
 
 /// What was prepared with a gate that holds turns.
 type Kept<'a, R> = Option<Parts<MemoryHost<Holding<'a, R>>>>;

@@ -3,7 +3,6 @@
 use super::bytes::{HEAD, LEAF, MESSAGE, NEXT_HEAD, NEXT_MESSAGE, OPENING, TWO};
 use super::gates::Holding;
 use super::hosts::{CALLS, LINKS, Stop, Trial, served};
-use wl_serve::{MemoryHost, Parts, ServeEnd};
 use std::alloc::Global;
 use std::rt::Clock;
 use std::sync::Wait;
@@ -12,6 +11,7 @@ use std::thread::Threads;
 use wl_config::ConfigFault;
 use wl_document::DocFault;
 use wl_edge::{BEFORE_UPKEEP, Gate, OpenGate};
+use wl_serve::{MemoryHost, Parts, ServeEnd};
 use wl_worker::SeatEnd;
 
 /// What is served, and its end.
