@@ -141,7 +141,7 @@ fn answers(
 }
 
 /// Whether a turn by the index of the entries writes what is due, and one on the same views nothing.
-#[tactic(auto, using(crate::proofs::Following::turns_again, crate::proofs::Attested::turns_shown))]
+#[tactic(auto, using(wl_session::proofs::Following::turns_again, wl_session::proofs::Attested::turns_shown))]
 fn answers_by_index(
     alloc: Global,
     mut session: Session,
