@@ -8,7 +8,7 @@ ghost use Rattle.jwt_cache.specs.declared.rings.CachedToken.{CachedToken};
 ghost use Rattle.wl_store.specs.Flights.{flights_of};
 ghost use Rattle.wl_store.specs.Steps.{stored_after, change_to, after_sync, news, after_failed, AllTrusted};
 ghost use Rattle.wl_store.specs.Stores.{asks_of, after_claim, asks_to_claim, flights_from, has_ticket, install, after_signed};
-ghost use Rattle.wl_store.specs.Touched.{SameBut};
+ghost use Rattle.wl_snapshot.specs.Untouched.{SameBut};
 ghost use Rattle.wl_manager.specs.Tokens.{changed_ids, without_all, history_after};
 
 use crate::dropping::{changed_ids, forget_all};

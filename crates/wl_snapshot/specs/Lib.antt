@@ -1,4 +1,5 @@
 pub mod Snapshots
+pub mod Untouched
 pub mod Views
 pub mod Same
 pub mod Answers

@@ -24,7 +24,8 @@ use Rattle.svid_cache.specs.declared.install.Installed.{Installed}
 use Rattle.svid_cache.specs.declared.install.Installed.TheVariants as installed
 use Rattle.wl_store.specs.Steps.{is_refused}
 use Rattle.wl_store.specs.Stores.{Store, svids_after, asks_of, publish, next_publication, shows}
-use Rattle.wl_store.specs.Touched.{SameBut, is_entry, ids_gone, ids_new, ids_ended}
+use Rattle.wl_snapshot.specs.Untouched.{SameBut}
+use Rattle.wl_store.specs.Touched.{is_entry, ids_gone, ids_new, ids_ended}
 use Rattle.wl_store.proofs.Asks.{asks_rise}
 use Rattle.wl_store.proofs.Publications.{ask_at}
 

@@ -1,18 +1,11 @@
 -- Which entries a step touched (own rule).
-use Rattle.std.specs.Prelude.{◌≡◌, ℕ, Bool, false, not, List, map, filter, Option, Some, None, is_some}
+use Rattle.std.specs.Prelude.{ℕ, Bool, false, not, List, map, filter, Option, Some, None, is_some}
 use Rattle.list_laws.specs.Keys.{item_at}
-use Rattle.wl_selector.specs.Selectors.{has_text}
 use Rattle.wl_entry.specs.Keys.{entry_key, svid_key}
 use Rattle.wl_entry.specs.Same.{same_entry}
 use Rattle.wl_entry.specs.declared.entries.Entry.{Entry}
 use Rattle.wl_entry.specs.declared.signing.Svid.{Svid}
-use Rattle.wl_snapshot.specs.Snapshots.{Publication}
 use Rattle.svid_cache.specs.Caches.{lasts}
-
--- two publications have the same entries and SVIDs, but for those of these entry ids
-pub record SameBut (ids : List (List ℕ)) (p q : Publication) : Type 0 where
-  pub entries : (id : List ℕ) → has_text ids id ≡ false → item_at entry_key q.entries id ≡ item_at entry_key p.entries id
-  pub svids : (id : List ℕ) → has_text ids id ≡ false → item_at svid_key q.svids id ≡ item_at svid_key p.svids id
 
 -- what there is is this entry
 abbrev pub is_entry : Option Entry → Entry → Bool

@@ -7,7 +7,8 @@ ghost use Rattle.svid_cache.specs.Caches.{without_ended};
 ghost use Rattle.wl_store.specs.Flights.{flights_of};
 ghost use Rattle.wl_store.specs.Steps.{stored_after, change_to, with_parts, AllTrusted};
 ghost use Rattle.wl_store.specs.Stores.{asks_of, cached_of, after_claim, asks_to_claim, flights_from};
-ghost use Rattle.wl_store.specs.Touched.{ids_ended, SameBut};
+ghost use Rattle.wl_snapshot.specs.Untouched.{SameBut};
+ghost use Rattle.wl_store.specs.Touched.{ids_ended};
 
 use crate::flights::{add_flights, issue, without_in_flight};
 use crate::in_flight::InFlight;

@@ -4,7 +4,7 @@ ghost use Rattle.std.specs.Prelude.{◌≡◌, true, false, if◌then◌else◌,
 ghost use Rattle.wl_x509.specs.Leaves.{NamesAsk};
 ghost use Rattle.wl_store.specs.Steps.{stored_after, change_to, after_failed, IsInstalled, is_refused};
 ghost use Rattle.wl_store.specs.Stores.{cached_of, has_ticket, after_signed, install, leaf_judged, refusal};
-ghost use Rattle.wl_store.specs.Touched.{SameBut};
+ghost use Rattle.wl_snapshot.specs.Untouched.{SameBut};
 ghost use Rattle.svid_cache.specs.Caches.{after_install};
 
 use crate::preparing::Prepared;

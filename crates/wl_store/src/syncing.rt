@@ -12,7 +12,7 @@ ghost use Rattle.wl_document.specs.Checks.{Faults};
 ghost use Rattle.wl_document.specs.Documents.{document_state};
 ghost use Rattle.wl_store.specs.Steps.{stored_after, change_to, after_sync, IsStock, AllTrusted};
 ghost use Rattle.wl_store.specs.Stores.{asks_of, cached_of, with_entries};
-ghost use Rattle.wl_store.specs.Touched.{SameBut};
+ghost use Rattle.wl_snapshot.specs.Untouched.{SameBut};
 
 use crate::lists::{asks_for, share_bundles, share_entries};
 use crate::preparing::Prepared;

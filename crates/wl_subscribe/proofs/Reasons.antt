@@ -29,7 +29,8 @@ use Rattle.wl_snapshot.proofs.Choices.{chosen_by}
 use Rattle.wl_snapshot.proofs.Sights.{sight_holds}
 use Rattle.wl_snapshot.proofs.Equalities.{sight_is, sight_self}
 use Rattle.wl_subscribe.specs.Subscribed.{Subscribed, views_differ, affected_numbers}
-use Rattle.wl_subscribe.specs.Differing.{SameBut, is_same_at, entries_differing, is_other_bundle, federates_anew, all_differ, reasons}
+use Rattle.wl_snapshot.specs.Untouched.{SameBut}
+use Rattle.wl_subscribe.specs.Differing.{is_same_at, entries_differing, is_other_bundle, federates_anew, all_differ, reasons}
 use Rattle.wl_subscribe.proofs.ByKey.{kept, item_filter, item_map, key_found, lists_same}
 
 -- ---- tests

@@ -10,7 +10,8 @@ use Rattle.wl_entry.specs.Keys.{entry_key, svid_key}
 use Rattle.wl_entry.specs.Same.{same_entry, same_svid}
 use Rattle.wl_entry.proofs.Sames.{entry_is, svid_is}
 use Rattle.wl_snapshot.specs.Snapshots.{Publication}
-use Rattle.wl_subscribe.specs.Differing.{SameBut, is_item, keys_gone, keys_new}
+use Rattle.wl_snapshot.specs.Untouched.{SameBut}
+use Rattle.wl_subscribe.specs.Differing.{is_item, keys_gone, keys_new}
 use Rattle.wl_subscribe.proofs.ByKey.{key_found}
 
 -- ---- texts that are not among others

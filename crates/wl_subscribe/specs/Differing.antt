@@ -1,20 +1,14 @@
 -- What differs between two publications (own rule): a subscriber's view does exactly where something differs for all, or
 -- where the subscriber is entitled to one of the entries because of which a view differs.
-use Rattle.std.specs.Prelude.{◌≡◌, ℕ, ◌&&◌, ◌||◌, Bool, false, not, if◌then◌else◌, List, [], ◌++◌, map, filter, option_to_list, is_some, Option, Some, None}
+use Rattle.std.specs.Prelude.{ℕ, ◌&&◌, ◌||◌, Bool, false, not, if◌then◌else◌, List, [], ◌++◌, map, filter, option_to_list, is_some, Option, Some, None}
 use Rattle.std.specs.Option.{option_eq}
 use Rattle.std.specs.Str.{bytes_eq}
 use Rattle.std.specs.List.{list_any, flat_map}
 use Rattle.list_laws.specs.Keys.{item_at}
-use Rattle.wl_selector.specs.Selectors.{has_text}
 use Rattle.wl_entry.specs.Keys.{entry_key, svid_key, bundle_key}
 use Rattle.wl_entry.specs.Same.{same_entry, same_svid, same_bundle}
 use Rattle.wl_entry.specs.declared.entries.Entry.{Entry}
 use Rattle.wl_snapshot.specs.Snapshots.{Publication}
-
--- two publications have the same entries and SVIDs, but for those of these entry ids
-pub record SameBut (ids : List (List ℕ)) (old new : Publication) : Type 0 where
-  pub entries : (id : List ℕ) → has_text ids id ≡ false → item_at entry_key new.entries id ≡ item_at entry_key old.entries id
-  pub svids : (id : List ℕ) → has_text ids id ≡ false → item_at svid_key new.svids id ≡ item_at svid_key old.svids id
 
 -- what there is is this item, by a test of equality
 abbrev pub is_item : {X : Type 0} → (X → X → Bool) → Option X → X → Bool

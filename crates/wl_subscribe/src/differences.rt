@@ -6,7 +6,8 @@ ghost use Rattle.std.specs.List.{list_any};
 ghost use Rattle.list_laws.specs.Lists.{Rises};
 ghost use Rattle.list_laws.specs.Keys.{item_at};
 ghost use Rattle.wl_snapshot.specs.Snapshots.{IsPublication};
-ghost use Rattle.wl_subscribe.specs.Differing.{SameBut, is_item, keys_gone, keys_new, is_same_at, is_other_bundle, federates_anew, all_differ};
+ghost use Rattle.wl_snapshot.specs.Untouched.{SameBut};
+ghost use Rattle.wl_subscribe.specs.Differing.{is_item, keys_gone, keys_new, is_same_at, is_other_bundle, federates_anew, all_differ};
 
 use sorted_lists::{Keyed, find_by_key};
 use spiffe_id::TrustDomain;

@@ -8,7 +8,8 @@ ghost use Rattle.std.specs.BTreeMap.{get};
 ghost use Rattle.std.specs.Ordering.{nat_cmp};
 ghost use Rattle.wl_entry.specs.Entitled.{is_entitled};
 ghost use Rattle.wl_snapshot.specs.Snapshots.{IsPublication};
-ghost use Rattle.wl_subscribe.specs.Differing.{SameBut, reasons, all_differ};
+ghost use Rattle.wl_snapshot.specs.Untouched.{SameBut};
+ghost use Rattle.wl_subscribe.specs.Differing.{reasons, all_differ};
 ghost use Rattle.wl_subscribe.specs.Filed.{is_hit, AreFiled, IsFiledUnder, IsKept};
 ghost use Rattle.wl_subscribe.specs.Subscribed.{members_without};
 

@@ -1,7 +1,7 @@
 use Rattle.std.proofs.Common.{◌≡◌, ◌+◌, ◌++◌, length, refl, sym, ◌∙◌, subst}
 use Rattle.wl_store.specs.Stores.{flights_from}
 use Rattle.wl_store.specs.Steps.{with_parts}
-use Rattle.wl_store.specs.Touched.{SameBut}
+use Rattle.wl_snapshot.specs.Untouched.{SameBut}
 use Rattle.wl_store.proofs.Touching.{claim_touches}
 use Rattle.wl_store.proofs.store.Store.prepare_claim.Goals as goal
 

@@ -2,7 +2,7 @@ use Rattle.std.proofs.Common.{◌≡◌, [], ◌∷◌, if◌then◌else◌, Som
 use Rattle.wl_store.specs.Stores.{Store, without_flight}
 use Rattle.wl_store.specs.Steps.{stored_after, change_to, with_parts}
 use Rattle.wl_store.proofs.Settling.{signed_parts}
-use Rattle.wl_store.specs.Touched.{SameBut}
+use Rattle.wl_snapshot.specs.Untouched.{SameBut}
 use Rattle.wl_store.proofs.Touching.{signed_touches}
 use Rattle.wl_store.proofs.store.Store.signed_step.Goals as goal
 
