@@ -11,6 +11,7 @@ use crate::flush::{Flushed, flush};
 use crate::stepping::hear_and_step;
 use std::alloc::Global;
 use std::marker::Model;
+use std::mem;
 use std::sync::{Mutex, Wait};
 use wl_desk::Desk;
 use wl_edge::{Attestor, Clock, Gate, Link, Signer};
@@ -20,6 +21,9 @@ use wl_session::{Session, SessionFault};
 
 /// How many bytes one receive may give.
 const PIECE_LIMIT: usize = 16_384;
+
+/// How many bytes may have been written at once for their room to be kept: a response of the greatest length.
+const KEPT_ROOM: usize = 4_194_304;
 
 /// A served connection. A contract sees its session, and what that wrote and the link did not take yet.
 #[derive(Drop)]
@@ -100,6 +104,23 @@ impl Served {
         }
     }
 
+    /// An output of no byte, in the room of the last one, all of which was sent: so that long responses round after
+    /// round take no fresh memory. The room of a longer one than `KEPT_ROOM` is given back.
+    fn take_output(&mut self) -> Octets
+        ensures empty { result ≡ [] }
+        ensures session { self.new.session ≡ self.old.session }
+        ensures unsent { self.new.unsent ≡ [] }
+    {
+        self.sent = 0;
+        let last = mem::replace(&mut self.written, Octets::empty(self.alloc));
+        if last.len() > KEPT_ROOM {
+            return Octets::empty(self.alloc);
+        }
+        let mut bytes = last.into_vec();
+        bytes.clear();
+        Octets::from_vec(bytes)
+    }
+
     /// One round. First it sends what is unsent, and answers `Later` where the link takes nothing for now,
     /// or the end that is due. Else it receives once; feeds what came; has each call attested that became
     /// ready; passes the point before turns; reads the pass; takes the turn; answers each ask that waits;
@@ -142,7 +163,7 @@ impl Served {
         if let Some(end) = self.settle(link) {
             return end;
         }
-        let mut out = Octets::empty(self.alloc);
+        let mut out = self.take_output();
         let buffer = self.buffer.as_mut_slice();
         let session = &mut self.session;
         if let Err(end) = hear_and_step(
