@@ -1,10 +1,10 @@
-use super::*;
 use grpc_wire::{MessageFault, Method};
 use h2_frame::FrameFault;
 use hpack::HpackFault;
 use std::alloc::Global;
 use std::process::Abort;
 use std::test::*;
+use wl_client::*;
 use wl_octets::{Memory, Octets, Row};
 
 /// The server's SETTINGS and its acknowledgement of the client's.

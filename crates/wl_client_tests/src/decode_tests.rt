@@ -1,6 +1,6 @@
-use super::*;
 use pb_wire::{FieldFault, WireFault};
 use std::test::*;
+use wl_client::*;
 use wl_octets::{Octets, Row};
 use workload_proto as proto;
 use workload_proto::{encode_jwt, encode_x509, size_jwt, size_x509};
@@ -28,6 +28,15 @@ fn responses_are_read(rt: HostRuntime) -> Result<(), Fail> {
 
 fn text(alloc: std::alloc::Global, bytes: &[u8]) -> Result<Octets, wl_octets::Memory> {
     Octets::from_slice(alloc, bytes)
+}
+
+/// Whether this SVID is the one of this name that was encoded.
+fn is_svid(svid: &X509Item, name: &[u8]) -> bool {
+    svid.spiffe_id.as_slice() == name
+        && svid.chain.as_slice() == b"\xff\x00".as_slice()
+        && svid.key.len() == 0
+        && svid.bundle.as_slice() == name
+        && svid.hint.as_slice() == b"h".as_slice()
 }
 
 #[test]
@@ -58,29 +67,20 @@ fn what_is_encoded_is_read(rt: HostRuntime) -> Result<(), Fail> {
     let message = proto::X509Response { svids, federated };
     assert_eq!(rt; size_x509(&message), 65);
     let bytes = encode_x509(alloc, &message)?;
-    let mut svids = Row::empty(alloc);
-    let mut federated = Row::empty(alloc);
-    for name in names {
-        svids
-            .push(X509Item {
-                spiffe_id: Lent::from_slice(name),
-                chain: Lent::from_slice(b"\xff\x00"),
-                key: Lent::empty(),
-                bundle: Lent::from_slice(name),
-                hint: Lent::from_slice(b"h"),
-            })
-            .ok()
-            .ok_or("there is memory")?;
-        federated
-            .push(MapItem {
-                key: Lent::from_slice(name),
-                value: Lent::from_slice(b"\xfe"),
-            })
-            .ok()
-            .ok_or("there is memory")?;
+    let Ok(read) = decode_x509(alloc, bytes.as_slice()) else {
+        return Err(Fail::from("it is a response"));
+    };
+    assert_eq!(rt;
+        (read.svids.len(), read.federated.len()),
+        (names.len(), names.len())
+    );
+    let svids = read.svids.as_slice().iter();
+    for ((svid, item), name) in svids.zip(read.federated.as_slice()).zip(names) {
+        assert!(rt; is_svid(svid, name), "{name:?}");
+        assert_eq!(rt; item.key.as_slice(), name);
+        assert_eq!(rt; item.value.as_slice(), b"\xfe".as_slice());
     }
-    let read = decode_x509(alloc, bytes.as_slice());
-    assert!(rt; read.ok() == Some(X509Response { svids, federated }));
+    assert!(rt; decode_x509(alloc, bytes.as_slice()).ok() == Some(read));
     Ok(())
 }
 
@@ -99,17 +99,16 @@ fn tokens_are_read(rt: HostRuntime) -> Result<(), Fail> {
     let message = proto::JwtResponse { svids };
     assert_eq!(rt; size_jwt(&message), 12);
     let bytes = encode_jwt(alloc, &message)?;
-    let mut svids = Row::empty(alloc);
-    svids
-        .push(JwtItem {
-            spiffe_id: Lent::from_slice(b"a"),
-            svid: Lent::from_slice(b"t.t.t"),
-            hint: Lent::empty(),
-        })
-        .ok()
-        .ok_or("there is memory")?;
-    let read = decode_jwt(alloc, bytes.as_slice());
-    assert!(rt; read.ok() == Some(JwtResponse { svids }));
+    let Ok(read) = decode_jwt(alloc, bytes.as_slice()) else {
+        return Err(Fail::from("it is a response"));
+    };
+    let [svid] = read.svids.as_slice() else {
+        return Err(Fail::from("it has one SVID"));
+    };
+    assert_eq!(rt; svid.spiffe_id.as_slice(), b"a".as_slice());
+    assert_eq!(rt; svid.svid.as_slice(), b"t.t.t".as_slice());
+    assert_eq!(rt; svid.hint.len(), 0);
+    assert!(rt; decode_jwt(alloc, bytes.as_slice()).ok() == Some(read));
     Ok(())
 }
 

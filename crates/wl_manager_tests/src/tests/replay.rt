@@ -6,11 +6,11 @@ mod prepared;
 use super::events::{Event, Identity};
 use super::tickets::{Slip, ask_of};
 use super::words::{installed_words, ticket_words};
-use crate::{Change, Manager, Ticket};
 use std::alloc::Global;
 use svid_cache::Installed;
 use wl_document::DocFault;
 use wl_entry::Free;
+use wl_manager::{Change, Manager, Ticket};
 use wl_octets::Memory;
 use wl_selector::Selectors;
 

@@ -8,13 +8,13 @@ mod tokens;
 mod transcripts;
 mod words;
 
-use crate::Manager;
 use documents::DOC;
 use replay::Replay;
 use std::alloc::Global;
 use std::test::Fail;
 use transcripts::{DOCUMENTS, STRICT, TICKETS, Transcript};
 use wl_entry::Free;
+use wl_manager::Manager;
 use wl_octets::Row;
 use wl_selector::{Selector, Selectors};
 

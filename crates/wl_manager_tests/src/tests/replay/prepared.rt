@@ -2,9 +2,9 @@
 
 use super::Replay;
 use crate::tests::tickets::noted;
-use crate::{Adopted, Change, Prepared, Ticket};
 use std::alloc::Global;
 use wl_entry::{Free, Signed};
+use wl_manager::{Adopted, Change, Prepared, Ticket};
 use wl_octets::Memory;
 
 /// The number of the publication that a step makes, if it makes one.

@@ -3,10 +3,10 @@
 use super::Replay;
 use crate::tests::tickets::noted;
 use crate::tests::words::message_words;
-use crate::{Change, Claim, Ticket};
 use std::alloc::Global;
 use wl_document::DocFault;
 use wl_entry::Signed;
+use wl_manager::{Change, Claim, Ticket};
 use wl_octets::Memory;
 use wl_snapshot::{Answer, Method3, answer, view_of};
 

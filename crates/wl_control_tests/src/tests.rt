@@ -1,11 +1,11 @@
 mod repeating;
 
 use self::repeating::RepeatingLink;
-use super::*;
 use std::alloc::Global;
 use std::process::Abort;
 use std::string::String;
 use std::test::*;
+use wl_control::*;
 use wl_edge::{Heard, Link, LinkPlan, MemoryLink, MemorySink};
 use wl_octets::{Memory, Octets, Row};
 

@@ -1,11 +1,11 @@
 //! Tokens that are kept and found.
 
 use super::documents::{DOC, HINTED, OTHER_ID};
-use crate::{Keeping, Manager};
 use spiffe_id::SpiffeId;
 use std::alloc::{AllocGlobal, Global};
 use std::test::Fail;
 use wl_entry::{Ask, Free, JwtToken, JwtUnfit};
+use wl_manager::{Keeping, Manager};
 use wl_octets::{Octets, Row};
 
 /// The ask of the worked document's entry.

@@ -4,7 +4,6 @@ mod cases;
 mod simulations;
 mod words;
 
-use crate::{MAX_CALLER_SELECTORS, SCRIPT_LIMIT, ScriptFault, put_line, read_script};
 use cases::{FIRST_LINES, FURTHER_LINES, SESSIONS, STORES};
 use std::alloc::Global;
 use std::test::Fail;
@@ -12,6 +11,7 @@ use wl_core::Line;
 use wl_document::{DocFault, Place};
 use wl_entry::{CertFault, Unfit};
 use wl_octets::{Memory, Octets};
+use wl_replay::{MAX_CALLER_SELECTORS, SCRIPT_LIMIT, ScriptFault, put_line, read_script};
 use words::{fault_words, script_words};
 
 /// What a script is read as, in words.

@@ -1,8 +1,8 @@
 //! Tickets are noted down and let go, which leaves them in flight, and are made again when they come back.
 
-use crate::{Ticket, abandon_all};
 use std::alloc::Global;
 use wl_entry::Ask;
+use wl_manager::{Ticket, abandon_all};
 use wl_octets::{Memory, Row};
 
 /// The number of a ticket and its ask.

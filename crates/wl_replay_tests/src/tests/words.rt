@@ -1,12 +1,10 @@
 //! Scripts in words: a canonical spelling of their lines, parted by semicolons.
 
-use crate::fault::ScriptFault;
-use crate::hex::put_hex;
-use crate::script::Script;
 use std::alloc::Global;
 use std::test::Fail;
 use wl_core::Event;
 use wl_entry::{JwtToken, Signed};
+use wl_replay::{Script, ScriptFault, put_hex};
 use wl_selector::Selectors;
 
 /// A fault, in words.
