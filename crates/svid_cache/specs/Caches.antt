@@ -1,5 +1,5 @@
 -- Asks and the SVIDs that are kept for them (own rules after the SPIRE agent).
-use Rattle.std.specs.Prelude.{◌≡◌, ℕ, ◌<◌, ◌^◌, ◌∷◌, ◌++◌, Bool, true, not, nat_lt, nat_le, if◌then◌else◌, List, map, filter, find, length, Option, Some, None, unwrap_or, option_map}
+use Rattle.std.specs.Prelude.{◌≡◌, ℕ, ◌<◌, ◌^◌, ◌∷◌, ◌++◌, Bool, true, false, not, nat_lt, nat_le, if◌then◌else◌, List, map, filter, find, length, Option, Some, None, unwrap_or, option_map}
 use Rattle.std.specs.List.{list_any, AllByRecursion}
 use Rattle.std.specs.Ordering.{nat_cmp, is_lt, is_gt}
 use Rattle.std.specs.Cmp.Lexicographic.{slice_cmp}
@@ -93,6 +93,11 @@ install now s c =
 abbrev pub after_install : Installed → Svid → Cached → Cached
 after_install installed.Kept s c = record { asks = c.asks; svids = with_svid s c.svids }
 after_install _ s c = c
+
+-- it was not kept
+abbrev pub is_refused : Installed → Bool
+is_refused installed.Kept = false
+is_refused _ = true
 
 -- ---- the facts that every cache has
 

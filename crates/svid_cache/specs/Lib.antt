@@ -1,3 +1,4 @@
 pub mod Caches
 pub mod Inside
 pub mod Queue
+pub mod Timetables

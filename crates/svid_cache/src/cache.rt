@@ -1,50 +1,35 @@
 //! The cache.
 
-ghost use Rattle.std.specs.Prelude.{◌≡◌, ◌+◌, ◌<◌, ◌^◌, true, false, [], length, map, min, unwrap_or, IfOk, OnOk, OnErr};
+ghost use Rattle.std.specs.Prelude.{◌≡◌, ◌+◌, ◌<◌, ◌^◌, false, [], is_none, length, map, unwrap_or, IfOk, OnOk, OnErr};
 ghost use Rattle.list_laws.specs.Lists.{Rises};
-ghost use Rattle.wl_entry.specs.Limits.{SignedWithin};
 ghost use Rattle.wl_entry.specs.Keys.{ask_key};
-ghost use Rattle.svid_cache.specs.Inside.{asks_in};
 ghost use Rattle.svid_cache.specs.Caches.{is_listed, due_asks, with_asks, has_ended, without_ended, install, after_install, IsCached};
+ghost use Rattle.svid_cache.specs.Timetables.{cached_by, IsAbout};
 
-use crate::asks::lists;
 use crate::install::Installed;
-use crate::kept::{ends_of, ends_with, find_gap, find_kept, judge_end, share_listed, share_with};
-use crate::queue::{clear_until, due_of, file_all, first_end, least, refile};
+use crate::timetable::Timetable;
 use std::alloc::Global;
 use std::marker::Model;
 use wl_entry::{Ask, Svid};
-use wl_octets::{Memory, Row, Shared, share_all};
-
-/// How many asks stand in a block of the queue.
-const BLOCK: usize = 64;
+use wl_octets::{Memory, Row, Shared};
 
 /// The asks of the entries, and at most one SVID for each. Times are Unix seconds. After any answer but `Ok` it is
 /// as it was.
 #[derive(Drop)]
 pub struct Cache {
-    /// None before the first are told.
-    asks: Option<Shared<Row<Ask>>>,
-    svids: Vec<Shared<Svid>>,
-    /// A second for each block of asks, before which none of them is due.
-    firsts: Vec<u64>,
-    /// None of the asks is due before this second.
-    next: u64,
-    /// The second at which each of the SVIDs ends, so that finding the first of them touches no SVID.
-    ends: Vec<u64>,
-    /// The first of them.
-    end: Option<u64>,
+    pub(crate) table: Timetable,
+    pub(crate) svids: Vec<Shared<Svid>>,
 }
 
 impl Model for Cache {
     ghost use Rattle.svid_cache.specs.Caches.{Cached};
-    ghost use Rattle.svid_cache.specs.Inside.{asks_in, IsKept};
+    ghost use Rattle.svid_cache.specs.Timetables.{cached_by, IsAbout};
 
     ghost Value = { Cached };
 
-    ghost view = { λ c. record { asks = asks_in c.asks; svids = c.svids.items } };
+    ghost view = { λ c. cached_by c.table c.svids.items };
 
-    ghost invariant = { λ c. IsKept (record { asks = asks_in c.asks; svids = c.svids.items }) c.firsts.items c.next c.ends.items c.end };
+    ghost invariant = { λ c. IsAbout c.table c.svids.items };
 }
 
 impl Cache {
@@ -53,12 +38,8 @@ impl Cache {
         ensures { result ≡ record { asks = []; svids = [] } }
     {
         Cache {
-            asks: None,
+            table: Timetable::start(alloc),
             svids: Vec::new(alloc),
-            firsts: Vec::new(alloc),
-            next: u64::MAX,
-            ends: Vec::new(alloc),
-            end: None,
         }
     }
 
@@ -66,24 +47,16 @@ impl Cache {
     pub fn copy(&self, alloc: Global) -> Result<Cache, Memory>
         ensures { IfOk result (λ c. c ≡ self.now) }
     {
-        Ok(Cache {
-            asks: self.share_asks()?,
-            svids: share_all(alloc, self.svids.as_slice())?.into_vec(),
-            firsts: Vec::from_slice(alloc, self.firsts.as_slice())?,
-            next: self.next,
-            ends: Vec::from_slice(alloc, self.ends.as_slice())?,
-            end: self.end,
-        })
+        self.table.with(alloc, self.svids.as_slice())
     }
 
-    /// The asks, shared.
-    fn share_asks(&self) -> Result<Option<Shared<Row<Ask>>>, Memory>
-        ensures { IfOk result (λ asks. asks_in asks ≡ self.now.asks) }
+    /// The timetable, and the SVIDs that it is about. It takes no memory.
+    pub fn into_parts(self) -> (Timetable, Row<Shared<Svid>>)
+        ensures value { cached_by result.0 result.1 ≡ self }
+        ensures about { IsAbout result.0 result.1 }
     {
-        match &self.asks {
-            Some(asks) => Ok(Some(asks.share()?)),
-            None => Ok(None),
-        }
+        let Cache { table, svids } = self;
+        (table, Row::from_vec(svids))
     }
 
     /// The asks by ascending entry id.
@@ -91,10 +64,7 @@ impl Cache {
         ensures asks { result.now ≡ self.now.asks }
         ensures facts { IsCached self.now }
     {
-        match &self.asks {
-            Some(asks) => asks.part().as_slice(),
-            None => &[],
-        }
+        self.table.asks()
     }
 
     /// The kept SVIDs by ascending entry id.
@@ -109,7 +79,7 @@ impl Cache {
     pub fn lists(&self, ask: &Ask) -> bool
         ensures { result ≡ is_listed self.now.asks ask.now }
     {
-        lists(self.asks(), ask)
+        self.table.lists(ask)
     }
 
     /// The cache with other asks. The SVIDs stay whose ask is among them.
@@ -118,17 +88,7 @@ impl Cache {
         requires few { length asks < 2 ^ 32 }
         ensures { IfOk result (λ c. c ≡ with_asks asks self.now) }
     {
-        let svids = share_listed(alloc, self.svids.as_slice(), asks.as_slice())?;
-        let firsts = file_all(alloc, BLOCK, asks.as_slice(), svids.as_slice())?;
-        let ends = ends_of(alloc, svids.as_slice())?;
-        Ok(Cache {
-            asks: Some(Shared::new(alloc, asks)?),
-            next: least(firsts.as_slice()),
-            end: first_end(ends.as_slice()),
-            svids,
-            firsts,
-            ends,
-        })
+        self.table.prepare_sync(alloc, self.svids.as_slice(), asks)
     }
 
     /// Takes other asks. The SVIDs stay whose ask is among them.
@@ -147,10 +107,7 @@ impl Cache {
         ensures ended { result ≡ has_ended now self.now }
         ensures kept { result ≡ false → without_ended now self.now ≡ self.now }
     {
-        match self.end {
-            Some(end) => end <= now,
-            None => false,
-        }
+        self.table.has_ended(now)
     }
 
     /// Lets go of the SVIDs that have expired, and answers how many these were. It takes no memory.
@@ -163,10 +120,7 @@ impl Cache {
         }
         let before = self.svids.len();
         self.svids.retain(|svid| now < svid.part().signed.not_after);
-        clear_until(self.firsts.as_mut_slice(), now);
-        self.next = least(self.firsts.as_slice());
-        self.ends.retain(|end| now < *end);
-        self.end = first_end(self.ends.as_slice());
+        self.table.sweep(now);
         (before - self.svids.len()) as u32
     }
 
@@ -174,17 +128,7 @@ impl Cache {
     pub fn due(&self, alloc: Global, now: u64) -> Result<Row<Ask>, Memory>
         ensures { IfOk result (λ r. r ≡ due_asks now self.now) }
     {
-        if now < self.next {
-            return Ok(Row::empty(alloc));
-        }
-        due_of(
-            alloc,
-            BLOCK,
-            self.firsts.as_slice(),
-            self.asks(),
-            self.svids(),
-            now,
-        )
+        self.table.due(alloc, self.svids.as_slice(), now)
     }
 
     /// What becomes of a new SVID, and the cache with it where it is kept.
@@ -197,13 +141,8 @@ impl Cache {
         ensures answer { IfOk result (λ r. r.1 ≡ install now svid self.now) }
         ensures next { IfOk result (λ r. unwrap_or r.0 self.now ≡ after_install r.1 svid self.now) }
     {
-        match self.judge(&svid, now) {
-            Installed::Kept => {
-                let next = self.with_svid(alloc, svid)?;
-                Ok((Some(next), Installed::Kept))
-            }
-            other => Ok((None, other)),
-        }
+        self.table
+            .prepare_install(alloc, self.svids.as_slice(), svid, now)
     }
 
     /// Takes a new SVID in, where nothing stands against it.
@@ -217,50 +156,5 @@ impl Cache {
             *self = next;
         }
         Ok(installed)
-    }
-
-    /// The cache with an SVID in the place of its entry's.
-    fn with_svid(&self, alloc: Global, svid: Svid) -> Result<Cache, Memory>
-        requires listed { is_listed self.now.asks svid.ask ≡ true }
-        requires within { SignedWithin svid.signed }
-        ensures { IfOk result (λ c. c ≡ after_install Installed.Kept svid self.now) }
-    {
-        let id = svid.ask.entry_id.copy(alloc)?;
-        let asks = self.share_asks()?;
-        let gap = find_gap(self.svids.as_slice(), &id);
-        let ends = ends_with(alloc, self.ends.as_slice(), gap, svid.signed.not_after)?;
-        let svids = share_with(alloc, self.svids.as_slice(), gap, svid)?;
-        let firsts = refile(
-            alloc,
-            BLOCK,
-            self.firsts.as_slice(),
-            self.asks(),
-            svids.as_slice(),
-            &id,
-        )?;
-        Ok(Cache {
-            asks,
-            next: least(firsts.as_slice()),
-            end: first_end(ends.as_slice()),
-            svids,
-            firsts,
-            ends,
-        })
-    }
-
-    /// What is to become of a new SVID.
-    #[tactic(auto, using(crate::proofs::Keeping::install_listed, crate::proofs::Keeping::install_within), unfolding(crate::specs::Caches::install))]
-    fn judge(&self, svid: &Svid, now: u64) -> Installed
-        ensures answer { result ≡ install now svid.now self.now }
-        ensures listed { result ≡ Installed.Kept → is_listed self.now.asks svid.now.ask ≡ true }
-        ensures within { result ≡ Installed.Kept → SignedWithin svid.now.signed }
-    {
-        if !self.lists(&svid.ask) {
-            return Installed::NoSuchAsk;
-        }
-        match svid.signed.unfit(now) {
-            Some(unfit) => Installed::Unfit(unfit),
-            None => judge_end(find_kept(self.svids(), &svid.ask), &svid.signed),
-        }
     }
 }

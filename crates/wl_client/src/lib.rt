@@ -8,8 +8,6 @@
 mod assembly;
 mod client;
 mod decode;
-#[cfg(test)]
-mod decode_tests;
 mod fault;
 mod headers;
 mod items;
@@ -17,12 +15,8 @@ mod laws;
 mod lent;
 mod listener;
 mod opening;
-#[cfg(test)]
-mod recorded_tests;
 mod reply;
 mod response;
-#[cfg(test)]
-mod tests;
 
 pub use client::Client;
 pub use decode::{decode_jwt, decode_state, decode_x509};

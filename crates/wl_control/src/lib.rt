@@ -12,8 +12,6 @@ mod program;
 mod request;
 mod sending;
 pub mod status;
-#[cfg(test)]
-mod tests;
 mod words;
 
 pub use program::control;

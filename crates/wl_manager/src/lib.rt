@@ -10,8 +10,6 @@ mod dropping;
 mod keeping;
 mod manager;
 mod stepping;
-#[cfg(test)]
-mod tests;
 
 pub use keeping::Keeping;
 pub use manager::Manager;

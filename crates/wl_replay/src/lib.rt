@@ -20,8 +20,6 @@ mod replays;
 mod script;
 mod simulation;
 mod telling;
-#[cfg(test)]
-mod tests;
 mod words;
 
 pub use doc_faults::put_fault;

@@ -1,7 +1,7 @@
 -- What a step leaves is the step of the definitions.
-use Rattle.std.specs.Prelude.{◌≡◌, ℕ, ◌+◌, ◌==◌, ◌<◌, ◌≤◌, ◌&&◌, Bool, true, false, nat_le, if◌then◌else◌, List, [], ◌∷◌, ◌++◌, filter, find, length, Option, Some, None, unwrap_or}
+use Rattle.std.specs.Prelude.{◌≡◌, ℕ, ◌+◌, ◌==◌, ◌<◌, ◌≤◌, ◌&&◌, ◌||◌, Bool, true, false, not, nat_le, if◌then◌else◌, List, [], ◌∷◌, ◌++◌, filter, find, length, Option, Some, None, unwrap_or}
 use Rattle.std.specs.Str.{bytes_eq}
-use Rattle.std.specs.List.{AllByRecursion}
+use Rattle.std.specs.List.{AllByRecursion, list_any}
 use Rattle.std.specs.Ordering.{nat_cmp, is_lt}
 use Rattle.std.specs.Cmp.Lexicographic.{slice_cmp}
 use Rattle.std.proofs.lemmas.Slice.Eq.{bytes_eq-Decides}
@@ -24,9 +24,9 @@ use Rattle.wl_entry.specs.declared.signing.Svid.{Svid}
 use Rattle.wl_snapshot.specs.Snapshots.{Publication}
 use Rattle.wl_store.specs.Stores.{Store, asks_of, cached_of, refusal, install, svids_after, as_unfit, leaf_judged, shows, shows_parts, publish, after_signed, with_entries, without_flight}
 use Rattle.wl_store.specs.declared.tickets.Flight.{Flight}
-use Rattle.svid_cache.specs.Caches.{Cached, is_listed, kept_for, with_svid, is_below, is_above, unless_older, unless_unfit}
+use Rattle.svid_cache.specs.Caches.{Cached, is_listed, kept_for, with_svid, is_below, is_above, unless_older, unless_unfit, has_ended, lasts, is_refused}
 use Rattle.wl_store.specs.declared.tickets.Change.TheVariants as change
-use Rattle.wl_store.specs.Steps.{Stored, stored_after, stored_of, change_to, cached_in, Trusted, AllTrusted, is_refused, with_parts, IsInstalled}
+use Rattle.wl_store.specs.Steps.{Stored, stored_after, stored_of, change_to, Trusted, AllTrusted, with_parts, IsInstalled}
 use Rattle.std.proofs.lemmas.Bool.{and_parts}
 use Rattle.wl_entry.proofs.Sames.{entries_are, svids_are, bundles_are, ask_self, svid_self, list_self}
 use Rattle.wl_store.proofs.Sames.{shows_itself}
@@ -54,7 +54,7 @@ unfolding shows
 change_new s m is = λ i. if sym is i then change.Same else change.New
 
 -- a cache of what the last publication shows
-pub shown_cached : (p : Publication) (entries : List Entry) (bundles : List Bundle) (c : Cached) → shows_parts p entries c.svids bundles ≡ true → c.asks ≡ asks_of entries → c ≡ cached_in p
+pub shown_cached : (p : Publication) (entries : List Entry) (bundles : List Bundle) (c : Cached) → shows_parts p entries c.svids bundles ≡ true → c.asks ≡ asks_of entries → c ≡ record { asks = asks_of p.entries; svids = p.svids }
 shown_cached p entries bundles c is are =
     let front = and_parts (pointwise same_entry p.entries entries) _ is in
     let parts = and_parts (pointwise same_svid p.svids c.svids) (pointwise same_bundle p.bundles bundles) front.1 in
@@ -72,17 +72,14 @@ kept_shown p svids same = subst (λ l. shows_parts p p.entries l p.bundles ≡ t
 
 -- ---- SVIDs that went
 
-long_go : {X : Type 0} (p : X → Bool) (x : X) (xs : List X) (b : Bool) → length (if b then x ∷ filter p xs else filter p xs) ≡ length (x ∷ xs) → (length (filter p xs) ≡ length xs → filter p xs ≡ xs) → (if b then x ∷ filter p xs else filter p xs) ≡ x ∷ xs
-long_go p x xs true long all = ap (λ l. x ∷ l) (all (omega (arith, long)))
-long_go p x xs false long all =
-    let short : length (filter p xs) ≤ length xs = length_filter p xs in
-    let never : 1 ≤ 0 = omega (arith, long, short) in
-    grind (arith, never)
+fewer_go : {X : Type 0} (p : X → Bool) (x : X) (xs : List X) (b : Bool) → (not b || list_any (λ y. not (p y)) xs) ≡ true → (list_any (λ y. not (p y)) xs ≡ true → length (filter p xs) < length xs) → length (if b then x ∷ filter p xs else filter p xs) < length (x ∷ xs)
+fewer_go p x xs true some less = let rest : length (filter p xs) < length xs = less some in omega (arith, rest)
+fewer_go p x xs false some less = let short : length (filter p xs) ≤ length xs = length_filter p xs in omega (arith, short)
 
--- where as many are left all are
-pub all_left : {X : Type 0} (p : X → Bool) (xs : List X) → length (filter p xs) ≡ length xs → filter p xs ≡ xs
-all_left p [] long = refl
-all_left p (x ∷ xs) long = long_go p x xs (p x) long (all_left p xs)
+-- where one does not pass there are fewer
+fewer : {X : Type 0} (p : X → Bool) (xs : List X) → list_any (λ y. not (p y)) xs ≡ true → length (filter p xs) < length xs
+fewer p [] some = grind (arith, some)
+fewer p (x ∷ xs) some = fewer_go p x xs (p x) some (fewer p xs)
 
 and_false : (a b : Bool) → b ≡ false → (a && b) ≡ false
 and_false true b is = is
@@ -170,7 +167,7 @@ refusal_go true (Some u) l r is = subst (λ o. is_refused (unwrap_or o installed
 refusal_go false u l r is = subst (λ o. is_refused (unwrap_or o installed.NoSuchAsk) ≡ true) is refl
 
 -- what is refused is not kept
-refusal_is : (now : ℕ) (a : Ask) (g : Signed) (s : Store) (r : Installed) → refusal now a g s ≡ Some r → is_refused r ≡ true
+pub refusal_is : (now : ℕ) (a : Ask) (g : Signed) (s : Store) (r : Installed) → refusal now a g s ≡ Some r → is_refused r ≡ true
 unfolding refusal
 refusal_is now a g s r is = refusal_go (is_listed (asks_of s.entries) a) (signed_unfit now g) (leaf_judged s.strict a g) r is
 
@@ -207,14 +204,14 @@ install_gives signed now s v i c trusted one none is same =
 
 -- ---- a sweep
 
-swept_go : (b : Bool) (svids left : List Svid) → (b ≡ true → left ≡ svids) → (b ≡ false → length left < length svids) → b ≡ pointwise same_svid svids left
-swept_go true svids left same less = sym (subst (λ l. pointwise same_svid svids l ≡ true) (sym (same refl)) (list_self same_svid svid_self svids))
-swept_go false svids left same less = sym (other_length same_svid svids left (less refl))
+-- where one has expired others are left
+pub ended_differs : (now : ℕ) (c : Cached) → has_ended now c ≡ true → pointwise same_svid c.svids (filter (lasts now) c.svids) ≡ false
+unfolding has_ended
+ended_differs now c some = other_length same_svid c.svids (filter (lasts now) c.svids) (fewer (lasts now) c.svids some)
 
--- whether as many SVIDs are left as there were
-pub sweep_same : (keep : Svid → Bool) (svids : List Svid) (count : ℕ) → count + length (filter keep svids) ≡ length svids → (count == 0) ≡ pointwise same_svid svids (filter keep svids)
-sweep_same keep svids count long =
-    swept_go (count == 0) svids (filter keep svids) (λ none. all_left keep svids (grind (arith, nat_tests, none, long))) (λ some. grind (arith, nat_tests, some, long))
+-- where none has all are
+pub all_same : (svids left : List Svid) → left ≡ svids → pointwise same_svid svids left ≡ true
+all_same svids left same = subst (λ l. pointwise same_svid svids l ≡ true) (sym same) (list_self same_svid svid_self svids)
 
 -- ---- the parts of a step are those of its definition
 

@@ -1,5 +1,5 @@
 -- A store: what is kept, and the last publication.
-use Rattle.std.specs.Prelude.{◌≡◌, ℕ, ◌≤◌, Bool, true, false, if◌then◌else◌, List, map, length, Option, Some, None}
+use Rattle.std.specs.Prelude.{◌≡◌, ℕ, ◌≤◌, Bool, true, false, if◌then◌else◌, List, map, length, Option, Some, None, unwrap_or}
 use Rattle.std.specs.List.{AllByRecursion}
 use Rattle.list_laws.specs.Lists.{Rises}
 use Rattle.wl_entry.specs.Keys.{entry_key, bundle_key}
@@ -15,12 +15,12 @@ use Rattle.wl_snapshot.specs.Snapshots.{Publication}
 use Rattle.std.specs.Cmp.Lexicographic.{pointwise}
 use Rattle.wl_entry.specs.Same.{same_svid}
 use Rattle.svid_cache.specs.declared.install.Installed.{Installed}
-use Rattle.svid_cache.specs.declared.install.Installed.TheVariants as installed
-use Rattle.svid_cache.specs.Caches.{Cached}
+use Rattle.svid_cache.specs.Caches.{Cached, is_refused}
+use Rattle.svid_cache.specs.Timetables.{Times, IsAbout}
 use Rattle.wl_store.specs.declared.tickets.Change.{Change}
 use Rattle.wl_store.specs.declared.tickets.Change.TheVariants as change
 use Rattle.wl_store.specs.declared.tickets.Flight.{Flight}
-use Rattle.wl_store.specs.Stores.{Store, svids_after, first_store, with_entries, asks_of, publish, next_publication, shows, without_ticket}
+use Rattle.wl_store.specs.Stores.{Store, svids_after, first_store, with_entries, asks_of, cached_of, publish, next_publication, shows, without_ticket}
 
 pub record Stored : Type 0 where
   pub store : Store
@@ -64,20 +64,17 @@ Trusted signed strict a g = signed a g × (strict ≡ true → NamesAsk a g)
 abbrev pub AllTrusted : (Ask → Signed → Type 0) → Bool → List Svid → Type 0
 AllTrusted signed strict svids = AllByRecursion (λ s. Trusted signed strict s.ask s.signed) svids
 
--- the cache has the asks of the published entries and the published SVIDs
-abbrev pub cached_in : Publication → Cached
-cached_in p = record { asks = asks_of p.entries; svids = p.svids }
-
--- what every store keeps beside its last publication; its index is of the published entries
-pub record IsKept (signed : Ask → Signed → Type 0) (strict : Bool) (p : Publication) (c : Cached) (index : List Entry) : Type 0 where
-  pub cached : c ≡ cached_in p
+-- what every store keeps beside its last publication: its timetable has the asks of the published entries and is about
+-- the published SVIDs, and its index is of the published entries
+pub record IsKept (signed : Ask → Signed → Type 0) (strict : Bool) (p : Publication) (t : Times) (index : List Entry) : Type 0 where
+  pub asks : t.asks ≡ asks_of p.entries
+  pub about : IsAbout t p.svids
   pub indexed : index ≡ p.entries
   pub trusted : AllTrusted signed strict p.svids
 
--- it was not kept
-abbrev pub is_refused : Installed → Bool
-is_refused installed.Kept = false
-is_refused _ = true
+-- the asks and SVIDs that a step gives, or else those that are kept now
+abbrev pub kept_after : Option Cached → Store → Cached
+kept_after c s = unwrap_or c (cached_of s)
 
 -- the cache after Install has answered: its asks stay, its SVIDs are those that Install leaves and are trusted; they
 -- are the same exactly where the SVID is not kept

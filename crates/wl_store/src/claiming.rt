@@ -1,11 +1,11 @@
 //! Claiming tickets.
 
-ghost use Rattle.std.specs.Prelude.{◌≡◌, ◌+◌, ◌<◌, ◌^◌, ◌++◌, length, None, IfOk, OnOk, OnErr};
+ghost use Rattle.std.specs.Prelude.{◌≡◌, ◌+◌, ◌<◌, ◌^◌, ◌++◌, is_none, length, None, IfOk, OnOk, OnErr};
 ghost use Rattle.std.specs.Cmp.Lexicographic.{pointwise};
 ghost use Rattle.wl_entry.specs.Same.{same_svid};
-ghost use Rattle.svid_cache.specs.Caches.{without_ended};
+ghost use Rattle.svid_cache.specs.Caches.{due_asks, without_ended};
 ghost use Rattle.wl_store.specs.Flights.{flights_of};
-ghost use Rattle.wl_store.specs.Steps.{stored_after, change_to, with_parts, AllTrusted};
+ghost use Rattle.wl_store.specs.Steps.{stored_after, change_to, with_parts, kept_after, AllTrusted};
 ghost use Rattle.wl_store.specs.Stores.{asks_of, cached_of, after_claim, asks_to_claim, flights_from};
 ghost use Rattle.wl_snapshot.specs.Untouched.{SameBut};
 ghost use Rattle.wl_store.specs.Touched.{ids_ended};
@@ -19,41 +19,44 @@ use crate::touched::ids_ended;
 use std::alloc::Global;
 use svid_cache::Cache;
 use wl_entry::{Ask, Voucher};
-use wl_octets::{Memory, Octets, Row, Shared};
+use wl_octets::{Memory, Octets, Row};
 
 impl<V: Voucher> Store<V> {
-    /// The cache with the SVIDs swept, and whether none had expired.
-    fn sweep_cache(&self, alloc: Global, now: u64) -> Result<(Cache, bool), Memory>
-        ensures value { IfOk result (λ r. r.0 ≡ without_ended now (cached_of self.now.store)) }
-        ensures trusted { IfOk result (λ r. AllTrusted V.signed self.now.store.strict r.0.svids) }
-        ensures same { IfOk result (λ r. r.1 ≡ pointwise same_svid self.now.store.svids r.0.svids) }
+    /// The asks and SVIDs without what has expired, where something has.
+    fn swept(&self, alloc: Global, now: u64) -> Result<Option<Cache>, Memory>
+        ensures value { IfOk result
+            (λ c. kept_after c self.now.store ≡ without_ended now (cached_of self.now.store)) }
+        ensures trusted { IfOk result
+            (λ c. AllTrusted V.signed self.now.store.strict (kept_after c self.now.store).svids) }
+        ensures same { IfOk result
+            (λ c. is_none c ≡ pointwise same_svid self.now.store.svids (kept_after c self.now.store).svids) }
     {
-        let mut cache = self.kept().copy(alloc)?;
-        let count = cache.sweep(now);
-        Ok((cache, count == 0))
-    }
-
-    /// The cache without what has expired, and whether nothing had. Where nothing had, it is shared.
-    fn swept_cache(&self, alloc: Global, now: u64) -> Result<(Shared<Cache>, bool), Memory>
-        ensures value { IfOk result (λ r. r.0 ≡ without_ended now (cached_of self.now.store)) }
-        ensures trusted { IfOk result (λ r. AllTrusted V.signed self.now.store.strict r.0.svids) }
-        ensures same { IfOk result (λ r. r.1 ≡ pointwise same_svid self.now.store.svids r.0.svids) }
-    {
-        if self.kept().has_ended(now) {
-            let (cache, is_same) = self.sweep_cache(alloc, now)?;
-            return Ok((Shared::new(alloc, cache)?, is_same));
+        let svids = self.svids();
+        if self.table().has_ended(now) {
+            let cache = self.table().prepare_sweep(alloc, svids, now)?;
+            return Ok(Some(cache));
         }
-        Ok((self.cache.share()?, true))
+        Ok(None)
     }
 
     /// The entry ids of the SVIDs that have expired. No SVID is looked at where none has.
     fn ids_swept(&self, alloc: Global, now: u64) -> Result<Row<Octets>, Memory>
         ensures { IfOk result (λ ids. ids ≡ ids_ended now self.now.store.svids) }
     {
-        if self.kept().has_ended(now) {
-            return ids_ended(alloc, self.kept().svids(), now);
+        if self.table().has_ended(now) {
+            return ids_ended(alloc, self.svids(), now);
         }
         Ok(Row::empty(alloc))
+    }
+
+    /// The asks that are due among these, or else among those that are kept now.
+    fn due(&self, alloc: Global, cache: &Option<Cache>, now: u64) -> Result<Row<Ask>, Memory>
+        ensures { IfOk result (λ r. r ≡ due_asks now (kept_after cache.now self.now.store)) }
+    {
+        match cache {
+            Some(cache) => cache.due(alloc, now),
+            None => self.table().due(alloc, self.svids(), now),
+        }
     }
 
     /// The asks that are due and have no ticket in flight. No ticket is looked at where none is due.
@@ -61,13 +64,13 @@ impl<V: Voucher> Store<V> {
     fn asks_to_claim(
         &self,
         alloc: Global,
-        cache: &Shared<Cache>,
+        cache: &Option<Cache>,
         now: u64,
     ) -> Result<Row<Ask>, Memory>
-        requires { cache.now ≡ without_ended now (cached_of self.now.store) }
+        requires { kept_after cache.now self.now.store ≡ without_ended now (cached_of self.now.store) }
         ensures { IfOk result (λ r. r ≡ asks_to_claim now self.now.store) }
     {
-        let due = cache.part().due(alloc, now)?;
+        let due = self.due(alloc, cache, now)?;
         if due.len() == 0 {
             return Ok(due);
         }
@@ -104,21 +107,20 @@ impl<V: Voucher> Store<V> {
     fn claim_asks(
         &self,
         alloc: Global,
-        cache: Shared<Cache>,
-        is_same: bool,
+        cache: Option<Cache>,
         asks: &[Ask],
         touched: Row<Octets>,
     ) -> Result<Prepared<V>, Memory>
-        requires cached { cache.asks ≡ asks_of self.now.store.entries }
-        requires trusted { AllTrusted V.signed self.now.store.strict cache.svids }
-        requires same { is_same ≡ pointwise same_svid self.now.store.svids cache.svids }
+        requires cached { (kept_after cache self.now.store).asks ≡ asks_of self.now.store.entries }
+        requires trusted { AllTrusted V.signed self.now.store.strict (kept_after cache self.now.store).svids }
+        requires same { is_none cache ≡ pointwise same_svid self.now.store.svids (kept_after cache self.now.store).svids }
         ensures next { IfOk result
-            (λ p. p.next ≡ stored_after (with_parts self.now.store.entries self.now.store.bundles cache.svids
+            (λ p. p.next ≡ stored_after (with_parts self.now.store.entries self.now.store.bundles (kept_after cache self.now.store).svids
             (self.now.store.in_flight ++ flights_from self.now.store.last_ticket asks.now)
             (self.now.store.last_ticket + length asks.now) self.now.store) self.now) }
         ensures change { IfOk result
             (λ p. p.answer.change
-            ≡ change_to (with_parts self.now.store.entries self.now.store.bundles cache.svids
+            ≡ change_to (with_parts self.now.store.entries self.now.store.bundles (kept_after cache self.now.store).svids
             (self.now.store.in_flight ++ flights_from self.now.store.last_ticket asks.now)
             (self.now.store.last_ticket + length asks.now) self.now.store) self.now) }
         ensures tickets { IfOk result
@@ -129,7 +131,7 @@ impl<V: Voucher> Store<V> {
         let last_ticket = self.last_after(asks)?;
         let in_flight = self.more_flights(alloc, asks)?;
         let stock = self.shared_stock()?;
-        let (next, change) = self.settle(alloc, stock, cache, is_same, in_flight, last_ticket)?;
+        let (next, change) = self.settle(alloc, stock, cache, in_flight, last_ticket)?;
         match issue(alloc, asks, self.last_number()) {
             Ok(tickets) => Ok(Prepared {
                 next,
@@ -158,10 +160,10 @@ impl<V: Voucher> Store<V> {
     {
         // a field that is read tells the proof what the type keeps
         let _ = &self.last_ticket;
-        let (cache, is_same) = self.swept_cache(alloc, now)?;
+        let cache = self.swept(alloc, now)?;
         let asks = self.asks_to_claim(alloc, &cache, now)?;
         let touched = self.ids_swept(alloc, now)?;
-        let prepared = self.claim_asks(alloc, cache, is_same, asks.as_slice(), touched)?;
+        let prepared = self.claim_asks(alloc, cache, asks.as_slice(), touched)?;
         Ok(prepared)
     }
 

@@ -4,11 +4,12 @@ ghost use Rattle.std.specs.Prelude.{◌≡◌, ◌≤◌, [], map, length, IfOk}
 ghost use Rattle.list_laws.specs.Lists.{Rises};
 ghost use Rattle.wl_entry.specs.Asks.{ask_of};
 ghost use Rattle.wl_entry.specs.Keys.{entry_key, bundle_key};
+ghost use Rattle.svid_cache.specs.Timetables.{IsAbout};
 ghost use Rattle.wl_store.specs.Stores.{asks_of};
 
 use sorted_lists::find_by_key;
 use std::alloc::Global;
-use svid_cache::Cache;
+use svid_cache::Timetable;
 use wl_entry::{Ask, Bundle, Entry, Svid};
 use wl_match::Index;
 use wl_octets::{Memory, Row, Shared};
@@ -102,14 +103,15 @@ pub(crate) fn index_of(alloc: Global, entries: &[Shared<Entry>]) -> Result<Share
     Ok(Shared::new(alloc, index)?)
 }
 
-/// A cache of the asks of these entries, without SVIDs.
-pub(crate) fn cache_of(alloc: Global, entries: &[Entry]) -> Result<Shared<Cache>, Memory>
+/// The timetable of the asks of these entries, without SVIDs.
+pub(crate) fn table_of(alloc: Global, entries: &[Entry]) -> Result<Shared<Timetable>, Memory>
     requires rises { Rises (map entry_key entries.now) }
     requires few { length entries.now ≤ 10000 }
-    ensures { IfOk result (λ c. c ≡ record { asks = asks_of entries.now; svids = [] }) }
+    ensures asks { IfOk result (λ t. t.asks ≡ asks_of entries.now) }
+    ensures about { IfOk result (λ t. IsAbout t []) }
 {
-    let mut cache = Cache::start(alloc);
     let asks = asks_for(alloc, entries)?;
-    cache.sync(alloc, asks)?;
-    Ok(Shared::new(alloc, cache)?)
+    let cache = Timetable::start(alloc).prepare_sync(alloc, &[], asks)?;
+    let (table, _) = cache.into_parts();
+    Ok(Shared::new(alloc, table)?)
 }

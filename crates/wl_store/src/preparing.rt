@@ -1,7 +1,7 @@
 //! Steps that are prepared, and adopted.
 
-ghost use Rattle.std.specs.Prelude.{◌≡◌, ◌+◌, option_map, IfOk};
-ghost use Rattle.wl_store.specs.Steps.{stored_after, change_to, news, IsStock, AllTrusted, cached_in, stored_of, with_parts};
+ghost use Rattle.std.specs.Prelude.{◌≡◌, ◌+◌, is_none, option_map, IfOk};
+ghost use Rattle.wl_store.specs.Steps.{stored_after, change_to, news, IsStock, AllTrusted, kept_after, stored_of, with_parts};
 ghost use Rattle.wl_store.specs.Stores.{asks_of, publish, shows_parts};
 
 use crate::in_flight::InFlight;
@@ -13,7 +13,7 @@ use std::alloc::Global;
 use std::marker::PhantomData;
 use svid_cache::Cache;
 use wl_entry::Voucher;
-use wl_octets::{Memory, Shared, share_all};
+use wl_octets::{Memory, Shared};
 use wl_snapshot::Snapshot;
 
 /// A step that can be adopted: the store after it, and what it answers.
@@ -46,11 +46,9 @@ impl<V: Voucher> Store<V> {
     /// The store with these parts, where the last publication stays.
     pub(crate) fn keep_published(
         &self,
-        cache: Shared<Cache>,
         in_flight: InFlight,
         last_ticket: u64,
     ) -> Result<Store<V>, Memory>
-        requires { cache ≡ cached_in self.now.published }
         ensures { IfOk result
             (λ m. m ≡ stored_of self.now.store.strict self.now.published in_flight last_ticket) }
     {
@@ -58,19 +56,19 @@ impl<V: Voucher> Store<V> {
             strict: self.strict,
             published: self.published.share()?,
             index: self.index.share()?,
-            cache,
+            table: self.table.share()?,
             in_flight,
             last_ticket,
             of: PhantomData,
         })
     }
 
-    /// The store with these parts and a new publication.
+    /// The store with these parts and a new publication, which takes the list of SVIDs as it lies.
     fn publish_parts(
         &self,
         alloc: Global,
         stock: Stock,
-        cache: Shared<Cache>,
+        cache: Cache,
         in_flight: InFlight,
         last_ticket: u64,
     ) -> Result<Store<V>, Memory>
@@ -82,7 +80,6 @@ impl<V: Voucher> Store<V> {
             (publish (self.now.published.number + 1) self.now.published.domain
             (with_parts stock.entries stock.bundles cache.svids in_flight last_ticket self.now.store)) in_flight last_ticket) }
     {
-        let svids = share_all(alloc, cache.part().svids())?;
         let old = self.published.part();
         if old.number == u64::MAX {
             return Err(Memory);
@@ -93,44 +90,49 @@ impl<V: Voucher> Store<V> {
             index,
             bundles,
         } = stock;
+        let (table, svids) = cache.into_parts();
         let published = publication(alloc, old.number + 1, domain, entries, svids, bundles)?;
         Ok(Store {
             strict: self.strict,
             published,
             index,
-            cache,
+            table: Shared::new(alloc, table)?,
             in_flight,
             last_ticket,
             of: PhantomData,
         })
     }
 
-    /// The store with these parts, and whether it has a new publication: it has none where the last one shows them.
+    /// The store with these parts, and whether it has a new publication: it has none where the last one shows them, and
+    /// no cache is given.
     pub(crate) fn settle(
         &self,
         alloc: Global,
         stock: Stock,
-        cache: Shared<Cache>,
-        is_same: bool,
+        cache: Option<Cache>,
         in_flight: InFlight,
         last_ticket: u64,
     ) -> Result<(Store<V>, Change), Memory>
         requires stock { IsStock stock.entries stock.bundles }
         requires indexed { stock.index ≡ stock.entries }
-        requires cached { cache.asks ≡ asks_of stock.entries }
-        requires trusted { AllTrusted V.signed self.now.store.strict cache.svids }
-        requires same { is_same ≡ shows_parts self.now.published stock.entries cache.svids stock.bundles }
+        requires cached { (kept_after cache self.now.store).asks ≡ asks_of stock.entries }
+        requires trusted { AllTrusted V.signed self.now.store.strict (kept_after cache self.now.store).svids }
+        requires same { is_none cache
+            ≡ shows_parts self.now.published stock.entries (kept_after cache self.now.store).svids stock.bundles }
         ensures next { IfOk result (λ r. r.0 ≡ stored_after
-            (with_parts stock.entries stock.bundles cache.svids in_flight last_ticket self.now.store) self.now) }
+            (with_parts stock.entries stock.bundles (kept_after cache self.now.store).svids in_flight last_ticket self.now.store) self.now) }
         ensures change { IfOk result (λ r. r.1 ≡ change_to
-            (with_parts stock.entries stock.bundles cache.svids in_flight last_ticket self.now.store) self.now) }
+            (with_parts stock.entries stock.bundles (kept_after cache self.now.store).svids in_flight last_ticket self.now.store) self.now) }
     {
-        if is_same {
-            let next = self.keep_published(cache, in_flight, last_ticket)?;
-            Ok((next, Change::Same))
-        } else {
-            let next = self.publish_parts(alloc, stock, cache, in_flight, last_ticket)?;
-            Ok((next, Change::New))
+        match cache {
+            None => {
+                let next = self.keep_published(in_flight, last_ticket)?;
+                Ok((next, Change::Same))
+            }
+            Some(cache) => {
+                let next = self.publish_parts(alloc, stock, cache, in_flight, last_ticket)?;
+                Ok((next, Change::New))
+            }
         }
     }
 

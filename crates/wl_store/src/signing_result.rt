@@ -1,11 +1,11 @@
 //! Tickets that come back with a signed identity.
 
-ghost use Rattle.std.specs.Prelude.{◌≡◌, true, false, if◌then◌else◌, [], ◌∷◌, unwrap_or, Ok, None, Some, IfOk, OnOk, OnErr};
+ghost use Rattle.std.specs.Prelude.{◌≡◌, true, false, if◌then◌else◌, [], ◌∷◌, is_none, unwrap_or, Ok, None, Some, IfOk, OnOk, OnErr};
 ghost use Rattle.wl_x509.specs.Leaves.{NamesAsk};
-ghost use Rattle.wl_store.specs.Steps.{stored_after, change_to, after_failed, IsInstalled, is_refused};
+ghost use Rattle.wl_store.specs.Steps.{stored_after, change_to, after_failed, IsInstalled, kept_after};
 ghost use Rattle.wl_store.specs.Stores.{cached_of, has_ticket, after_signed, install, leaf_judged, refusal};
 ghost use Rattle.wl_snapshot.specs.Untouched.{SameBut};
-ghost use Rattle.svid_cache.specs.Caches.{after_install};
+ghost use Rattle.svid_cache.specs.Caches.{after_install, is_refused};
 
 use crate::preparing::Prepared;
 use crate::store::Store;
@@ -13,7 +13,7 @@ use crate::tickets::{Adopted, Change, Ticket, abandon_all};
 use std::alloc::Global;
 use svid_cache::{Cache, Installed};
 use wl_entry::{Ask, Signed, Svid, Unfit, Voucher};
-use wl_octets::{Memory, Octets, Row, Shared};
+use wl_octets::{Memory, Octets, Row};
 use wl_x509::leaf_unfit;
 
 /// Whether it was not kept.
@@ -77,59 +77,41 @@ impl<V: Voucher> Store<V> {
         }
     }
 
-    /// This cache, or else the store's own.
-    fn cache_or_own(&self, alloc: Global, next: Option<Cache>) -> Result<Shared<Cache>, Memory>
-        ensures { IfOk result (λ c. c ≡ unwrap_or next (cached_of self.now.store)) }
-    {
-        match next {
-            Some(next) => Ok(Shared::new(alloc, next)?),
-            None => self.cache.share(),
-        }
-    }
-
-    /// The cache with an SVID against which nothing stands yet, and what became of it.
+    /// What becomes of an SVID against which nothing stands yet, and the asks and SVIDs with it where it is kept.
     fn install_cache(
         &self,
         alloc: Global,
         svid: Svid,
         now: u64,
-    ) -> Result<(Shared<Cache>, Installed), Memory>
+    ) -> Result<(Option<Cache>, Installed), Memory>
         requires { refusal now svid.ask svid.signed self.now.store ≡ None }
         ensures answer { IfOk result (λ r. r.1 ≡ install now svid.ask svid.signed self.now.store) }
-        ensures cache { IfOk result (λ r. r.0 ≡ after_install r.1 svid (cached_of self.now.store)) }
+        ensures cache { IfOk result
+            (λ r. kept_after r.0 self.now.store ≡ after_install r.1 svid (cached_of self.now.store)) }
+        ensures none { IfOk result (λ r. is_none r.0 ≡ is_refused r.1) }
     {
-        let (next, installed) = self.kept().prepare_install(alloc, svid, now)?;
-        let cache = self.cache_or_own(alloc, next)?;
-        Ok((cache, installed))
+        let svids = self.svids();
+        let both = self.table().prepare_install(alloc, svids, svid, now)?;
+        Ok(both)
     }
 
-    /// The cache as it is, where a signed identity is refused.
-    fn refused_cache(&self, refusal: Installed) -> Result<(Shared<Cache>, Installed), Memory>
-        ensures answer { IfOk result (λ r. r.1 ≡ refusal) }
-        ensures cache { IfOk result (λ r. r.0 ≡ cached_of self.now.store) }
-    {
-        let cache = self.cache.share()?;
-        Ok((cache, refusal))
-    }
-
-    /// The cache with the signed identity, where nothing stands against it, and what became of it.
+    /// What becomes of a signed identity, and the asks and SVIDs with it where it is kept.
     fn installed_cache(
         &self,
         alloc: Global,
         svid: Svid,
         now: u64,
-    ) -> Result<(Shared<Cache>, Installed), Memory>
+    ) -> Result<(Option<Cache>, Installed), Memory>
         requires { V.signed svid.ask svid.signed }
         ensures answer { IfOk result (λ r. r.1 ≡ install now svid.ask svid.signed self.now.store) }
-        ensures gives { IfOk result (λ r. IsInstalled V.signed self.now.store svid r.1 r.0) }
+        ensures gives { IfOk result
+            (λ r. IsInstalled V.signed self.now.store svid r.1 (kept_after r.0 self.now.store)) }
+        ensures none { IfOk result (λ r. is_none r.0 ≡ is_refused r.1) }
     {
         // a field that is read tells the proof what the type keeps
         let _ = &self.last_ticket;
         match self.refuse(alloc, &svid.ask, &svid.signed, now)? {
-            Some(refusal) => {
-                let both = self.refused_cache(refusal)?;
-                Ok(both)
-            }
+            Some(refusal) => Ok((None, refusal)),
             None => {
                 let both = self.install_cache(alloc, svid, now)?;
                 Ok(both)
@@ -167,14 +149,7 @@ impl<V: Voucher> Store<V> {
         let is_same = is_refused(&installed);
         let touched = id_touched(alloc, id, is_same)?;
         let stock = self.shared_stock()?;
-        let (next, change) = self.settle(
-            alloc,
-            stock,
-            cache,
-            is_same,
-            in_flight,
-            self.last_number(),
-        )?;
+        let (next, change) = self.settle(alloc, stock, cache, in_flight, self.last_number())?;
         Ok(Prepared {
             next,
             answer: Adopted {
@@ -194,9 +169,10 @@ impl<V: Voucher> Store<V> {
         ensures installed { IfOk result (λ p. p.answer.installed ≡ Some Installed.Spent) }
         ensures touched { IfOk result (λ p. p.answer.touched ≡ []) }
     {
-        let cache = self.cache.share()?;
+        // a field that is read tells the proof what the type keeps
+        let _ = &self.last_ticket;
         let in_flight = self.copy_flights(alloc)?;
-        let next = self.keep_published(cache, in_flight, self.last_number())?;
+        let next = self.keep_published(in_flight, self.last_number())?;
         Ok(Prepared {
             next,
             answer: Adopted {

@@ -9,19 +9,20 @@ ghost use Rattle.wl_match.specs.Indexes.{entitled_places, items_at};
 ghost use Rattle.wl_document.specs.Checks.{Faults};
 ghost use Rattle.wl_document.specs.Documents.{document_state};
 ghost use Rattle.svid_cache.specs.Caches.{is_listed};
+ghost use Rattle.svid_cache.specs.Timetables.{cached_by, IsAbout};
 ghost use Rattle.wl_store.specs.Stores.{asks_of, cached_of, has_ticket};
 ghost use Rattle.wl_store.specs.Steps.{first_stored, after_failed, AllTrusted, IsStock};
 
 use crate::in_flight::InFlight;
-use crate::lists::{cache_of, index_of, share_bundles, share_entries};
+use crate::lists::{index_of, share_bundles, share_entries, table_of};
 use crate::publishing::publication;
 use crate::tickets::{Flight, Ticket};
 use spiffe_id::TrustDomain;
 use std::alloc::Global;
 use std::marker::{Model, PhantomData};
-use svid_cache::Cache;
+use svid_cache::Timetable;
 use wl_document::{AuthorityState, DocFault, read_state};
-use wl_entry::{Ask, Bundle, Entry, Voucher};
+use wl_entry::{Ask, Bundle, Entry, Svid, Voucher};
 use wl_match::Index;
 use wl_octets::{Memory, Row, Shared};
 use wl_selector::Selectors;
@@ -33,7 +34,8 @@ pub struct Store<V: Voucher> {
     pub(crate) strict: bool,
     pub(crate) published: Shared<Snapshot>,
     pub(crate) index: Shared<Index>,
-    pub(crate) cache: Shared<Cache>,
+    /// It is about the SVIDs of the last publication.
+    pub(crate) table: Shared<Timetable>,
     pub(crate) in_flight: InFlight,
     pub(crate) last_ticket: u64,
     pub(crate) of: PhantomData<V>,
@@ -46,7 +48,7 @@ impl<V: Voucher> Model for Store<V> {
 
     ghost view = { λ m. stored_of m.strict m.published m.in_flight m.last_ticket };
 
-    ghost invariant = { λ m. IsKept V.signed m.strict m.published m.cache m.index };
+    ghost invariant = { λ m. IsKept V.signed m.strict m.published m.table m.index };
 }
 
 impl<V: Voucher> Store<V> {
@@ -106,7 +108,7 @@ impl<V: Voucher> Store<V> {
             ≡ first_stored strict
             (record { domain = domain; bundles = bundles; entries = entries; svids = [] })) }
     {
-        let cache = cache_of(alloc, entries.as_slice())?;
+        let table = table_of(alloc, entries.as_slice())?;
         let entries = share_entries(alloc, &[], entries)?;
         let bundles = share_bundles(alloc, &[], bundles)?;
         let index = index_of(alloc, entries.as_slice())?;
@@ -117,19 +119,27 @@ impl<V: Voucher> Store<V> {
             strict,
             published,
             index,
-            cache,
+            table,
             in_flight: InFlight::from_vec(alloc, Vec::new(alloc))?,
             last_ticket: 0,
             of: PhantomData,
         })
     }
 
-    /// What is kept for the asks.
-    pub(crate) fn kept(&self) -> &Cache
-        ensures value { result.now ≡ cached_of self.now.store }
+    /// The asks, and when they come due and the SVIDs end.
+    pub(crate) fn table(&self) -> &Timetable
+        ensures value { cached_by result.now self.now.store.svids ≡ cached_of self.now.store }
+        ensures about { IsAbout result.now self.now.store.svids }
+    {
+        self.table.part()
+    }
+
+    /// The SVIDs, which are those of the last publication.
+    pub(crate) fn svids(&self) -> &[Shared<Svid>]
+        ensures svids { result.now ≡ self.now.store.svids }
         ensures trusted { AllTrusted V.signed self.now.store.strict self.now.store.svids }
     {
-        self.cache.part()
+        self.published.part().svids.as_slice()
     }
 
     /// The number of the last ticket.
@@ -195,14 +205,14 @@ impl<V: Voucher> Store<V> {
     pub fn asks(&self) -> &[Ask]
         ensures { result.now ≡ asks_of self.now.store.entries }
     {
-        self.kept().asks()
+        self.table().asks()
     }
 
     /// Whether an entry has this ask. It takes no memory.
     pub fn lists(&self, ask: &Ask) -> bool
         ensures { result ≡ is_listed (asks_of self.now.store.entries) ask.now }
     {
-        self.kept().lists(ask)
+        self.table().lists(ask)
     }
 
     /// Takes back a ticket without an identity: it is in flight no more. Nothing changes where it was not in flight.

@@ -1,6 +1,6 @@
 //! Reading documents.
 
-ghost use Rattle.std.specs.Prelude.{◌≡◌, ◌≤◌, ℕ, List, false, [], map, filter, length, Some, None, IfOk, IfErr, IsOkAnd};
+ghost use Rattle.std.specs.Prelude.{◌≡◌, ◌≤◌, ℕ, List, false, [], is_none, map, filter, length, Some, None, IfOk, IfErr, IsOkAnd};
 ghost use Rattle.std.specs.Cmp.Lexicographic.{pointwise};
 ghost use Rattle.list_laws.specs.Keys.{item_at};
 ghost use Rattle.list_laws.specs.Lists.{Rises};
@@ -10,8 +10,8 @@ ghost use Rattle.wl_entry.specs.Same.{same_entry, same_svid, same_bundle};
 ghost use Rattle.svid_cache.specs.Caches.{with_asks, is_listed};
 ghost use Rattle.wl_document.specs.Checks.{Faults};
 ghost use Rattle.wl_document.specs.Documents.{document_state};
-ghost use Rattle.wl_store.specs.Steps.{stored_after, change_to, after_sync, IsStock, AllTrusted};
-ghost use Rattle.wl_store.specs.Stores.{asks_of, cached_of, with_entries};
+ghost use Rattle.wl_store.specs.Steps.{stored_after, change_to, after_sync, IsStock, AllTrusted, kept_after};
+ghost use Rattle.wl_store.specs.Stores.{asks_of, cached_of, shows_parts, with_entries};
 ghost use Rattle.wl_snapshot.specs.Untouched.{SameBut};
 
 use crate::lists::{asks_for, share_bundles, share_entries};
@@ -29,15 +29,16 @@ use wl_octets::{Memory, Octets, Row, Shared};
 
 impl<V: Voucher> Store<V> {
     /// The cache with the asks of these entries.
-    fn cache_for(&self, alloc: Global, entries: &Row<Entry>) -> Result<Shared<Cache>, Memory>
+    fn cache_for(&self, alloc: Global, entries: &Row<Entry>) -> Result<Cache, Memory>
         requires rises { Rises (map entry_key entries.now) }
         requires few { length entries.now ≤ 10000 }
         ensures value { IfOk result (λ c. c ≡ with_asks (asks_of entries.now) (cached_of self.now.store)) }
         ensures trusted { IfOk result (λ c. AllTrusted V.signed self.now.store.strict c.svids) }
     {
         let asks = asks_for(alloc, entries.as_slice())?;
-        let next = self.kept().prepare_sync(alloc, asks)?;
-        Ok(Shared::new(alloc, next)?)
+        let svids = self.svids();
+        let cache = self.table().prepare_sync(alloc, svids, asks)?;
+        Ok(cache)
     }
 
     /// The entries, and whether they are those of the last publication. What is known of them from there is shared, the
@@ -120,10 +121,23 @@ impl<V: Voucher> Store<V> {
     }
 
     /// Whether the last publication has the SVIDs of this cache.
-    fn has_svids(&self, cache: &Shared<Cache>) -> bool
+    fn has_svids(&self, cache: &Cache) -> bool
         ensures { result ≡ pointwise same_svid self.now.published.svids cache.now.svids }
     {
-        self.published.part().svids.as_slice() == cache.part().svids()
+        self.published.part().svids.as_slice() == cache.svids()
+    }
+
+    /// The cache, unless the last publication shows it with this stock.
+    fn unless_shown(&self, stock: &Stock, cache: Cache, is_same: bool) -> Option<Cache>
+        requires cached { cache.asks ≡ asks_of stock.now.entries }
+        requires same { is_same
+            ≡ shows_parts self.now.published stock.now.entries cache.svids stock.now.bundles }
+        ensures none { is_none result ≡ is_same }
+        ensures kept { kept_after result self.now.store ≡ cache }
+    {
+        // a field that is read tells the proof what the type keeps
+        let _ = &self.last_ticket;
+        if is_same { None } else { Some(cache) }
     }
 
     /// The step of a document's entries and bundles.
@@ -155,15 +169,9 @@ impl<V: Voucher> Store<V> {
             index,
             bundles,
         };
+        let cache = self.unless_shown(&stock, cache, is_same);
         let in_flight = self.copy_flights(alloc)?;
-        let (next, change) = self.settle(
-            alloc,
-            stock,
-            cache,
-            is_same,
-            in_flight,
-            self.last_number(),
-        )?;
+        let (next, change) = self.settle(alloc, stock, cache, in_flight, self.last_number())?;
         Ok(Prepared {
             next,
             answer: Adopted {

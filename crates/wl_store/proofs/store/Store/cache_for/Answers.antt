@@ -12,6 +12,6 @@ prepare_sync-requires-clause-rises g c = asks_rise c.args.entries.now c.in_ok-as
 pub returns-clause-trusted : goal.returns-clause-trusted
 returns-clause-trusted g c =
     let s = c.args.self.now.store in
-    let svids : c.in_ok-new.field-0.svids ≡ filter (λ v. is_listed c.in_ok-asks.asks v.ask) s.svids =
-    (λ i. (c.in_ok-new.ensures.ok i).svids) ∙ ((λ i. (c.in_ok-next.ensures i).svids) ∙ (λ i. filter (λ v. is_listed c.in_ok-asks.asks v.ask) (c.kept.ensures.value i).svids)) in
-    subst (λ l. AllTrusted g.V.Voucher.signed s.strict l) (sym svids) (still_trusted g.V.Voucher.signed s.strict (λ v. is_listed c.in_ok-asks.asks v.ask) s.svids c.kept.ensures.trusted)
+    let svids : c.in_ok-cache.cache.svids ≡ filter (λ v. is_listed c.in_ok-asks.asks v.ask) s.svids =
+    (λ i. (c.in_ok-cache.ensures i).svids) ∙ (λ i. filter (λ v. is_listed c.in_ok-asks.asks v.ask) (c.svids-svids.ensures.svids i)) in
+    subst (λ l. AllTrusted g.V.Voucher.signed s.strict l) (sym svids) (still_trusted g.V.Voucher.signed s.strict (λ v. is_listed c.in_ok-asks.asks v.ask) s.svids c.svids-svids.ensures.trusted)

@@ -1,6 +1,6 @@
 use Rattle.std.proofs.Common.{◌≡◌, [], ◌∷◌, if◌then◌else◌, Some, refl, sym, ◌∙◌, ap, subst}
 use Rattle.wl_store.specs.Stores.{Store, without_flight}
-use Rattle.wl_store.specs.Steps.{stored_after, change_to, with_parts}
+use Rattle.wl_store.specs.Steps.{stored_after, change_to, with_parts, kept_after}
 use Rattle.wl_store.proofs.Settling.{signed_parts}
 use Rattle.wl_snapshot.specs.Untouched.{SameBut}
 use Rattle.wl_store.proofs.Touching.{signed_touches}
@@ -9,14 +9,14 @@ use Rattle.wl_store.proofs.store.Store.signed_step.Goals as goal
 pub returns-clause-next : goal.returns-clause-next
 returns-clause-next g c =
     let m = c.args.self.now in
-    let is = signed_parts c.args.now c.args.number m.store c.args.svid c.in_ok-cache.installed c.in_ok-stock.stock.entries c.in_ok-stock.stock.bundles c.in_ok-cache.cache.svids c.remove.new.self c.last_number.result
+    let is = signed_parts c.args.now c.args.number m.store c.args.svid c.in_ok-cache.installed c.in_ok-stock.stock.entries c.in_ok-stock.stock.bundles (kept_after c.in_ok-cache.cache c.args.self.now.store).svids c.remove.new.self c.last_number.result
     c.in_ok-stock.ensures.entries c.in_ok-stock.ensures.bundles c.in_ok-cache.ensures.gives.svids c.in_ok-cache.ensures.answer (c.remove.ensures ∙ ap (without_flight c.args.number) c.in_ok-in_flight.ensures) c.last_number.ensures in
     c.in_ok-next.ensures.next ∙ ap (λ (t : Store). stored_after t m) is
 
 pub returns-clause-change : goal.returns-clause-change
 returns-clause-change g c =
     let m = c.args.self.now in
-    let is = signed_parts c.args.now c.args.number m.store c.args.svid c.in_ok-cache.installed c.in_ok-stock.stock.entries c.in_ok-stock.stock.bundles c.in_ok-cache.cache.svids c.remove.new.self c.last_number.result
+    let is = signed_parts c.args.now c.args.number m.store c.args.svid c.in_ok-cache.installed c.in_ok-stock.stock.entries c.in_ok-stock.stock.bundles (kept_after c.in_ok-cache.cache c.args.self.now.store).svids c.remove.new.self c.last_number.result
     c.in_ok-stock.ensures.entries c.in_ok-stock.ensures.bundles c.in_ok-cache.ensures.gives.svids c.in_ok-cache.ensures.answer (c.remove.ensures ∙ ap (without_flight c.args.number) c.in_ok-in_flight.ensures) c.last_number.ensures in
     c.in_ok-next.ensures.change ∙ ap (λ (t : Store). change_to t m) is
 
@@ -26,7 +26,7 @@ returns-clause-installed g c = ap Some c.in_ok-cache.ensures.answer
 pub returns-clause-touched : goal.returns-clause-touched
 returns-clause-touched g c =
     let m = c.args.self.now in
-    let s = with_parts c.in_ok-stock.stock.entries c.in_ok-stock.stock.bundles c.in_ok-cache.cache.svids c.remove.new.self c.last_number.result m.store in
+    let s = with_parts c.in_ok-stock.stock.entries c.in_ok-stock.stock.bundles (kept_after c.in_ok-cache.cache c.args.self.now.store).svids c.remove.new.self c.last_number.result m.store in
     let entries : s.entries ≡ m.published.entries = c.in_ok-stock.ensures.entries ∙ subst (λ n. n.store.entries ≡ n.published.entries) c.self.view_is refl in
     let own : m.store.svids ≡ m.published.svids = subst (λ n. n.store.svids ≡ n.published.svids) c.self.view_is refl in
     subst (λ n. SameBut c.in_ok-touched.touched m.published n.published) (sym c.in_ok-next.ensures.next)
