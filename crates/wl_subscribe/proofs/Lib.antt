@@ -1,3 +1,4 @@
+mod Bundles
 mod ByKey
 mod Untouched
 mod Filings

@@ -1,6 +1,6 @@
 //! What differs between two snapshots.
 
-ghost use Rattle.std.specs.Prelude.{◌≡◌, ◌++◌, map, is_some, option_map, slice_get, IfOk, OnOk};
+ghost use Rattle.std.specs.Prelude.{◌≡◌, ◌++◌, true, [], map, filter, is_some, option_map, slice_get, IfOk, OnOk};
 ghost use Rattle.std.specs.Option.{option_eq};
 ghost use Rattle.std.specs.List.{list_any};
 ghost use Rattle.list_laws.specs.Lists.{Rises};
@@ -159,6 +159,13 @@ pub fn federates_anew(old: &Snapshot, new: &Snapshot, entry: &Entry) -> bool
     ensures { result ≡ federates_anew old.now new.now entry.now }
 {
     has_other_bundle(old, new, entry.federates_with.as_slice())
+}
+
+/// Whether the bundles of both are the same, so that no entry federates anew.
+pub fn has_same_bundles(old: &Snapshot, new: &Snapshot) -> bool
+    ensures { result ≡ true → filter (federates_anew old.now new.now) new.now.entries ≡ [] }
+{
+    old.bundles.part().as_slice() == new.bundles.part().as_slice()
 }
 
 /// Whether every view differs.

@@ -9,7 +9,7 @@ ghost use Rattle.wl_entry.specs.Entitled.{is_entitled};
 ghost use Rattle.wl_subscribe.specs.Filed.{has_number, is_filed, is_hit, AreFiled, IsFiledUnder, AddsHits};
 ghost use Rattle.wl_subscribe.specs.Differing.{entries_differing, federates_anew};
 
-use crate::differences::{federates_anew, is_same_at};
+use crate::differences::{federates_anew, has_same_bundles, is_same_at};
 use crate::filing::{Filed, numbers_at};
 use sorted_lists::find_by_key;
 use std::alloc::Global;
@@ -193,7 +193,7 @@ impl Hits {
     }
 
     /// Adds the members that are entitled to an entry that federates with a domain whose bundle differs.
-    pub fn add_all_federated(
+    fn add_all_federated(
         &mut self,
         members: &Members,
         filed: &Filed,
@@ -209,6 +209,26 @@ impl Hits {
             self.add_federated(members, filed, old, new, entry.part())?;
         }
         Ok(())
+    }
+
+    /// The same. Where no bundle differs no entry is looked at.
+    #[tactic(auto, using(crate::proofs::Bundles::none_hit))]
+    pub fn add_federated_anew(
+        &mut self,
+        members: &Members,
+        filed: &Filed,
+        old: &Snapshot,
+        new: &Snapshot,
+    ) -> Result<(), Memory>
+        requires { AreFiled members.now filed.now }
+        ensures { OnOk result (AddsHits members.now self.old self.new
+            (λ n selectors. list_any (is_entitled selectors)
+            (filter (federates_anew old.now new.now) new.now.entries))) }
+    {
+        if has_same_bundles(old, new) {
+            return Ok(());
+        }
+        self.add_all_federated(members, filed, old, new)
     }
 
     /// Whether a subscriber is hit.

@@ -80,7 +80,7 @@ fn hits_of(
         numbers: BTreeSet::new(alloc),
     };
     hits.add_all_differing(members, filed, old, new, ids)?;
-    hits.add_all_federated(members, filed, old, new)?;
+    hits.add_federated_anew(members, filed, old, new)?;
     Ok(hits)
 }
 

@@ -14,5 +14,5 @@ returns-clause-hit c = λ n sel at.
     let one = flat_map (entries_differing p q) c.args.ids.now in
     let other = filter (federates_anew p q) q.entries in
     let first = rw (c.all_differ.ensures.value, c.new.ensures.empty) at (c.in_ok-add_all_differing.ensures n sel at) in
-    hit_all (is_hit c.add_all_federated.new.self n) (is_hit c.add_all_differing.new.self n) (all_differ p q) (list_any (is_entitled sel) one) (list_any (is_entitled sel) other) (list_any (is_entitled sel) (reasons c.args.ids.now p q))
-    (c.in_ok-add_all_federated.ensures n sel at) first (any_append (is_entitled sel) one other)
+    hit_all (is_hit c.add_federated_anew.new.self n) (is_hit c.add_all_differing.new.self n) (all_differ p q) (list_any (is_entitled sel) one) (list_any (is_entitled sel) other) (list_any (is_entitled sel) (reasons c.args.ids.now p q))
+    (c.in_ok-add_federated_anew.ensures n sel at) first (any_append (is_entitled sel) one other)
