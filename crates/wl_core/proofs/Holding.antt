@@ -156,11 +156,12 @@ close_steps conn old seats others begun later lines m h set ended said =
       lines = said ∙ ap (λ (s : List (Option Seat)). close_lines conn (seat_at s conn)) h.seats;
     }
 
--- the same of an event and a count that are equal to these
-pub steps_of : (e other : Event) (managed : Managed) (seats : List (Option Seat)) (begun later : ℕ) (lines : List Line) (m : Moment) → e ≡ other → later ≡ begun
-    → Steps e managed seats begun lines m → Steps other managed seats later lines m
-steps_of e other managed seats begun later lines m is same steps =
-    subst (λ (x : Event). Steps x managed seats later lines m) is (subst (λ (n : ℕ). Steps e managed seats n lines m) (sym same) steps)
+-- the same of an event, a count and lines that are equal to these
+pub steps_of : (e other : Event) (managed : Managed) (seats : List (Option Seat)) (begun later : ℕ) (lines told : List Line) (m : Moment) → e ≡ other → later ≡ begun → told ≡ lines
+    → Steps e managed seats begun lines m → Steps other managed seats later told m
+steps_of e other managed seats begun later lines told m is same says steps =
+    subst (λ (x : Event). Steps x managed seats later told m) is
+    (subst (λ (l : List Line). Steps e managed seats later l m) (sym says) (subst (λ (n : ℕ). Steps e managed seats n lines m) (sym same) steps))
 
 -- ---- the beginning
 

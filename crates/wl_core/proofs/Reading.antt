@@ -1,6 +1,8 @@
 -- What a document, and a ticket that comes back, make of the store.
 use Rattle.std.proofs.Common.{◌≡◌, ℕ, ◌==◌, Bool, true, false, if◌then◌else◌, ◌&&◌, ◌||◌, List, [], ◌∷◌, find, option_map, Option, Some, None, Result, Ok, Err, refl, sym, ap, subst, ◌∙◌}
 use Rattle.std.specs.Prelude.{IsOkAnd}
+use Rattle.sorted_lists.specs.Keys.{item_at}
+use Rattle.wl_entry.specs.Keys.{entry_key, svid_key}
 use Rattle.wl_entry.specs.Same.{same_ask}
 use Rattle.wl_entry.specs.declared.asks.Ask.{Ask}
 use Rattle.wl_entry.specs.declared.signing.Signed.{Signed}
@@ -12,6 +14,8 @@ use Rattle.wl_document.specs.States.{State}
 use Rattle.jwt_cache.specs.declared.rings.CachedToken.{CachedToken}
 use Rattle.jwt_cache.specs.Rings as rings
 use Rattle.svid_cache.specs.declared.install.Installed.{Installed}
+use Rattle.wl_snapshot.specs.Snapshots.{Publication}
+use Rattle.wl_snapshot.specs.Untouched.{SameBut}
 use Rattle.wl_store.specs.declared.tickets.Flight.{Flight}
 use Rattle.wl_store.specs.declared.tickets.Ticket.{Ticket}
 use Rattle.wl_store.specs.Flights.{flight_of}
@@ -22,6 +26,14 @@ use Rattle.wl_core.specs.declared.lines.Line.{Line}
 use Rattle.wl_core.specs.declared.lines.Line.TheVariants as lines
 use Rattle.wl_core.specs.Moments.{after_reading, history_read, flight_in, flight_as, signed_with, after_identity, failed_with, after_no_identity}
 use Rattle.wl_core.specs.Lines.{published_lines, reading_lines, installed_line, identity_lines_by, identity_lines, no_identity_lines}
+
+-- where the publication stays, none of its entries and SVIDs is another
+pub untouched : (ids : List (List ℕ)) (p q : Publication) → q ≡ p → SameBut ids p q
+untouched ids p q is =
+    record {
+      entries = λ id out. ap (λ (x : Publication). item_at entry_key x.entries id) is;
+      svids = λ id out. ap (λ (x : Publication). item_at svid_key x.svids id) is;
+    }
 
 -- ---- a document
 
@@ -159,3 +171,10 @@ none_stored n m is = sym (ap (λ (o : Option Flight). failed_with o n m) (none_b
 
 pub none_said : (n : ℕ) (m : Stored) (said : List Line) → None ≡ option_map (flight_as n) (flight_in n m) → said ≡ lines.Spent ∷ [] → said ≡ no_identity_lines (flight_in n m)
 none_said n m said is says = says ∙ sym (ap (λ (o : Option Flight). no_identity_lines o) (none_by n (flight_in n m) is))
+
+failed_published : (o : Option Flight) (n : ℕ) (m : Stored) → (failed_with o n m).published ≡ m.published
+failed_published None n m = refl
+failed_published (Some f) n m = refl
+
+pub failed_untouched : (ids : List (List ℕ)) (n : ℕ) (m new : Stored) → new ≡ after_no_identity n m → SameBut ids m.published new.published
+failed_untouched ids n m new is = untouched ids m.published new.published (ap (λ (s : Stored). s.published) is ∙ failed_published (flight_in n m) n m)

@@ -1,12 +1,16 @@
 //! What happens to the store.
 
-ghost use Rattle.std.specs.Prelude.{◌≡◌, ◌≢◌, ◌==◌, if◌then◌else◌, ◌∷◌, [], ◌++◌, List, map, option_map, IfOk, OnOk};
+ghost use Rattle.std.specs.Prelude.{◌≡◌, ◌≢◌, ◌==◌, true, if◌then◌else◌, ◌∷◌, [], ◌++◌, List, map, option_map, Some, IfOk, IfErr, IsOkAnd, OnOk, OnErr};
+ghost use Rattle.wl_document.specs.Checks.{Faults};
+ghost use Rattle.wl_document.specs.Documents.{document_state};
+ghost use Rattle.wl_snapshot.specs.Untouched.{SameBut};
 ghost use Rattle.jwt_cache.specs.Rings.{StandsFor};
 ghost use Rattle.jwt_cache.specs.declared.rings.CachedToken.{CachedToken};
 ghost use Rattle.wl_store.specs.Flights.{flight_of, flights_of};
 ghost use Rattle.wl_store.specs.declared.tickets.Flight.{Flight};
-ghost use Rattle.wl_store.specs.Stores.{after_claim};
-ghost use Rattle.wl_store.specs.Steps.{stored_after};
+ghost use Rattle.wl_store.specs.Stores.{after_claim, after_signed, has_ticket, install};
+ghost use Rattle.wl_store.specs.Steps.{stored_after, after_sync};
+ghost use Rattle.wl_manager.specs.Tokens.{history_after};
 ghost use Rattle.wl_core.specs.Moments.{after_document, history_after_document, after_identity, after_no_identity, flight_in, flight_as};
 ghost use Rattle.wl_core.specs.Lines.{document_lines, claim_lines, identity_lines, no_identity_lines, installed_line, ticket_line};
 
@@ -15,11 +19,32 @@ use std::alloc::Global;
 use svid_cache::Installed;
 use wl_document::DocFault;
 use wl_entry::{Free, Signed};
-use wl_manager::{Claim, Manager, Ticket, abandon_all};
-use wl_octets::{Memory, Row};
+use wl_manager::{Adopted, Manager, Ticket, abandon_all};
+use wl_octets::{Memory, Octets, Row};
 
 /// The manager of a world, in which everything is vouched for.
 type Keeper = Manager<Free>;
+
+/// What came of an event.
+#[derive(Drop)]
+pub struct Stepped {
+    pub lines: Row<Line>,
+    /// The ids of the entries of which the entry or the SVID may be another than in the publication before.
+    pub touched: Row<Octets>,
+}
+
+impl Stepped {
+    /// Of an event that makes no publication.
+    pub fn quiet(alloc: Global, lines: Row<Line>) -> Stepped
+        ensures lines { result.lines ≡ lines }
+        ensures touched { result.touched ≡ [] }
+    {
+        Stepped {
+            lines,
+            touched: Row::empty(alloc),
+        }
+    }
+}
 
 /// The number of the last publication.
 fn number_of(manager: &Keeper) -> u64
@@ -28,23 +53,54 @@ fn number_of(manager: &Keeper) -> u64
     manager.snapshot().part().number
 }
 
+/// Takes the entries and bundles of a document, and tells the ids of the entries that this touched. Where it has a fault
+/// nothing changes.
+fn read(alloc: Global, manager: &mut Keeper, document: &[u8]) -> Result<Row<Octets>, DocFault>
+    ensures ok { OnOk result
+        (IsOkAnd (document_state (Some manager.old.stored.published.domain) document.now)
+        (λ d. manager.new.stored ≡ stored_after (after_sync d manager.old.stored) manager.old.stored)) }
+    ensures history { (history : List CachedToken) → StandsFor manager.old.tokens history
+        → OnOk result
+        (StandsFor manager.new.tokens
+        (history_after manager.old.stored.store.entries manager.new.stored.store.entries history)) }
+    ensures touched { IfOk result (λ ids. SameBut ids manager.old.stored.published manager.new.stored.published) }
+    ensures fault { IfErr result
+        (λ e. Faults e (document_state (Some manager.old.stored.published.domain) document.now)) }
+    ensures err { OnErr result (manager.new ≡ manager.old) }
+{
+    match manager.prepare_sync(alloc, document) {
+        Ok(prepared) => {
+            let Adopted {
+                change: _,
+                tickets,
+                installed: _,
+                touched,
+            } = manager.adopt(prepared);
+            abandon_all(tickets);
+            Ok(touched)
+        }
+        Err(fault) => Err(fault),
+    }
+}
+
 /// The upstream authority gives a document.
-#[tactic(auto, using(crate::proofs::Reading::read_stored, crate::proofs::Reading::read_history, crate::proofs::Reading::read_said, crate::proofs::Reading::fault_is, crate::proofs::Reading::refused_stored, crate::proofs::Reading::refused_history, crate::proofs::Reading::refused_said))]
-pub fn sync(alloc: Global, manager: &mut Keeper, document: &[u8]) -> Result<Row<Line>, Memory>
+#[tactic(auto, using(crate::proofs::Reading::read_stored, crate::proofs::Reading::read_history, crate::proofs::Reading::read_said, crate::proofs::Reading::fault_is, crate::proofs::Reading::refused_stored, crate::proofs::Reading::refused_history, crate::proofs::Reading::refused_said, crate::proofs::Reading::untouched))]
+pub fn sync(alloc: Global, manager: &mut Keeper, document: &[u8]) -> Result<Stepped, Memory>
     ensures stored { OnOk result (manager.new.stored ≡ after_document document.now manager.old.stored) }
     ensures history { (history : List CachedToken) → StandsFor manager.old.tokens history
         → OnOk result (StandsFor manager.new.tokens (history_after_document document.now manager.old.stored history)) }
-    ensures lines { IfOk result (λ l. l ≡ document_lines document.now manager.old.stored) }
+    ensures lines { IfOk result (λ s. s.lines ≡ document_lines document.now manager.old.stored) }
+    ensures touched { IfOk result (λ s. SameBut s.touched manager.old.stored.published manager.new.stored.published) }
 {
     let before = number_of(manager);
-    match manager.sync(alloc, document) {
-        Ok(_) => {
+    match read(alloc, manager, document) {
+        Ok(touched) => {
             let lines = reading_lines(alloc, before, number_of(manager))?;
-            Ok(lines)
+            Ok(Stepped { lines, touched })
         }
         Err(fault) => {
             let lines = refused_lines(alloc, fault)?;
-            Ok(lines)
+            Ok(Stepped::quiet(alloc, lines))
         }
     }
 }
@@ -97,18 +153,25 @@ fn say_tickets(alloc: Global, lines: &mut Row<Line>, tickets: &[Ticket]) -> Resu
 }
 
 /// What has expired is let go, and tickets are given for what is due.
-pub fn claim(alloc: Global, manager: &mut Keeper, now: u64) -> Result<Row<Line>, Memory>
+pub fn claim(alloc: Global, manager: &mut Keeper, now: u64) -> Result<Stepped, Memory>
     ensures stored { OnOk result
         (manager.new.stored ≡ stored_after (after_claim now manager.old.stored.store) manager.old.stored) }
     ensures tokens { OnOk result (manager.new.tokens ≡ manager.old.tokens) }
-    ensures lines { IfOk result (λ l. l ≡ claim_lines now manager.old.stored) }
+    ensures lines { IfOk result (λ s. s.lines ≡ claim_lines now manager.old.stored) }
+    ensures touched { IfOk result (λ s. SameBut s.touched manager.old.stored.published manager.new.stored.published) }
 {
     let before = number_of(manager);
-    let Claim { swept: _, tickets } = manager.claim(alloc, now)?;
+    let prepared = manager.prepare_claim(alloc, now)?;
+    let Adopted {
+        change: _,
+        tickets,
+        installed: _,
+        touched,
+    } = manager.adopt(prepared);
     let lines = claim_lines(alloc, before, number_of(manager), tickets.as_slice());
     abandon_all(tickets);
     let lines = lines?;
-    Ok(lines)
+    Ok(Stepped { lines, touched })
 }
 
 /// The publication and the tickets of a claim.
@@ -153,30 +216,61 @@ fn ticket_of(alloc: Global, manager: &Keeper, number: u64) -> Result<Option<Tick
     }
 }
 
+/// A ticket that is in flight comes back with a signed identity: what became of it, and the ids of the entries that this
+/// touched.
+fn install(
+    alloc: Global,
+    manager: &mut Keeper,
+    ticket: Ticket,
+    signed: &Signed,
+    now: u64,
+) -> Result<(Installed, Row<Octets>), Memory>
+    requires { has_ticket ticket.number ticket.ask manager.old.stored.store.in_flight ≡ true }
+    ensures stored { OnOk result
+        (manager.new.stored ≡ stored_after (after_signed now ticket.number ticket.ask signed.now manager.old.stored.store) manager.old.stored) }
+    ensures tokens { OnOk result (manager.new.tokens ≡ manager.old.tokens) }
+    ensures installed { IfOk result (λ r. r.0 ≡ install now ticket.ask signed.now manager.old.stored.store) }
+    ensures touched { IfOk result (λ r. SameBut r.1 manager.old.stored.published manager.new.stored.published) }
+{
+    let prepared = manager.prepare_signed(alloc, &ticket, signed, now);
+    // out of memory the world has failed for good, and nothing looks at what is in flight
+    ticket.abandon();
+    let prepared = prepared?;
+    let Adopted {
+        change: _,
+        tickets,
+        installed,
+        touched,
+    } = manager.adopt(prepared);
+    abandon_all(tickets);
+    Ok((installed.unwrap_or(Installed::Spent), touched))
+}
+
 /// A ticket comes back with a signed identity.
-#[tactic(auto, using(crate::proofs::Reading::flies, crate::proofs::Reading::identity_stored, crate::proofs::Reading::identity_said, crate::proofs::Reading::spent_stored, crate::proofs::Reading::spent_said))]
+#[tactic(auto, using(crate::proofs::Reading::flies, crate::proofs::Reading::identity_stored, crate::proofs::Reading::identity_said, crate::proofs::Reading::spent_stored, crate::proofs::Reading::spent_said, crate::proofs::Reading::untouched))]
 pub fn signed(
     alloc: Global,
     manager: &mut Keeper,
     number: u64,
     signed: Signed,
     now: u64,
-) -> Result<Row<Line>, Memory>
+) -> Result<Stepped, Memory>
     ensures stored { OnOk result (manager.new.stored ≡ after_identity number signed now manager.old.stored) }
     ensures tokens { OnOk result (manager.new.tokens ≡ manager.old.tokens) }
-    ensures lines { IfOk result (λ l. l ≡ identity_lines number signed now manager.old.stored) }
+    ensures lines { IfOk result (λ s. s.lines ≡ identity_lines number signed now manager.old.stored) }
+    ensures touched { IfOk result (λ s. SameBut s.touched manager.old.stored.published manager.new.stored.published) }
 {
     let before = number_of(manager);
     match ticket_of(alloc, manager, number)? {
         None => {
             let lines = one_line(alloc, Line::Spent)?;
-            Ok(lines)
+            Ok(Stepped::quiet(alloc, lines))
         }
         Some(ticket) => {
-            let installed = manager.signed(alloc, ticket, signed, now)?;
+            let (installed, touched) = install(alloc, manager, ticket, &signed, now)?;
             let mut lines = one_line(alloc, installed_line(installed))?;
             say_published(&mut lines, before, number_of(manager))?;
-            Ok(lines)
+            Ok(Stepped { lines, touched })
         }
     }
 }

@@ -2,6 +2,7 @@
 
 ghost use Rattle.std.specs.Prelude.{◌≡◌, ◌<◌, map, length, IfOk, OnOk};
 ghost use Rattle.std.specs.List.{list_any};
+ghost use Rattle.wl_snapshot.specs.Untouched.{SameBut};
 ghost use Rattle.wl_subscribe.specs.Filed.{has_number};
 ghost use Rattle.wl_subscribe.specs.Subscribed.{without_member};
 ghost use Rattle.wl_core.specs.declared.events.TheConstants.{CONNS};
@@ -14,7 +15,7 @@ use crate::seats::Seats;
 use std::alloc::Global;
 use std::marker::Model;
 use std::mem;
-use wl_octets::{Memory, Row};
+use wl_octets::{Memory, Octets, Row};
 use wl_selector::Selectors;
 use wl_snapshot::Snapshot;
 use wl_subscribe::{SubId, Subscribers};
@@ -192,12 +193,19 @@ impl Marks {
         Ok(true)
     }
 
-    /// After a publication the sessions are marked of whose callers one sees something else.
-    pub fn note_publication(&mut self, old: &Snapshot, new: &Snapshot) -> Result<(), Memory>
+    /// After a publication the sessions are marked of whose callers one sees something else. It differs from the one
+    /// before at no other entry ids than those touched.
+    pub fn note_publication(
+        &mut self,
+        old: &Snapshot,
+        new: &Snapshot,
+        touched: &[Octets],
+    ) -> Result<(), Memory>
+        requires { SameBut touched.now old.now new.now }
         ensures { OnOk result (self.new ≡ marked_after old.now new.now self.old) }
     {
         if old.number != new.number {
-            let affected = self.subscribers.affected(self.alloc, old, new)?;
+            let affected = self.subscribers.affected_at(self.alloc, old, new, touched)?;
             mark_all(&mut self.marks, affected.as_slice());
         }
         Ok(())

@@ -1,6 +1,7 @@
 //! One event.
 
 ghost use Rattle.std.specs.Prelude.{◌≡◌, ◌<◌, false, IfOk, OnOk, length};
+ghost use Rattle.wl_snapshot.specs.Untouched.{SameBut};
 ghost use Rattle.wl_core.specs.Events.{IsWithin};
 ghost use Rattle.wl_core.specs.Moments.{Moment, with_told};
 ghost use Rattle.wl_core.specs.Seats.{seat_at, turn_seat, IsReady};
@@ -8,6 +9,7 @@ ghost use Rattle.wl_core.specs.Lines.{told_lines};
 ghost use Rattle.wl_core.specs.Marks.{IsShownAt, IsTurnShown};
 ghost use Rattle.wl_core.specs.Worlds.{Holds, Steps, WorksOn};
 
+use crate::documents::Stepped;
 use crate::events::Event;
 use crate::lines::Line;
 use crate::seats::Seats;
@@ -42,66 +44,67 @@ fn turn(
     Ok(lines)
 }
 
-/// Takes an event, and tells what is to be said of it. A turn of a session that is not marked makes no view, unless a call of it
+/// Takes an event, and tells what came of it. A turn of a session that is not marked makes no view, unless a call of it
 /// is new.
-#[tactic(auto, using(crate::proofs::Holding::sync_steps, crate::proofs::Holding::claim_steps, crate::proofs::Holding::signed_steps, crate::proofs::Holding::failed_steps, crate::proofs::Holding::join_steps, crate::proofs::Holding::name_steps, crate::proofs::Holding::feed_steps, crate::proofs::Holding::turn_steps, crate::proofs::Holding::token_steps, crate::proofs::Holding::close_steps))]
+#[tactic(auto, using(crate::proofs::Holding::sync_steps, crate::proofs::Holding::claim_steps, crate::proofs::Holding::signed_steps, crate::proofs::Holding::failed_steps, crate::proofs::Holding::join_steps, crate::proofs::Holding::name_steps, crate::proofs::Holding::feed_steps, crate::proofs::Holding::turn_steps, crate::proofs::Holding::token_steps, crate::proofs::Holding::close_steps, crate::proofs::Reading::untouched, crate::proofs::Reading::failed_untouched))]
 pub fn step(
     alloc: Global,
     manager: &mut Manager<Free>,
     seats: &mut Seats,
     is_marked: bool,
     event: Event,
-) -> Result<Row<Line>, Memory>
+) -> Result<Stepped, Memory>
     requires within { IsWithin event }
     requires works { WorksOn manager.old seats.old.seats.items }
     requires shown { is_marked ≡ false → IsTurnShown manager.old.stored.published event seats.old.seats.items }
-    ensures { (m : Moment) → Holds manager.old seats.old.seats.items seats.old.begun_before m
-        → IfOk result (λ l. Steps event manager.new seats.new.seats.items seats.new.begun_before l m) }
+    ensures steps { (m : Moment) → Holds manager.old seats.old.seats.items seats.old.begun_before m
+        → IfOk result (λ s. Steps event manager.new seats.new.seats.items seats.new.begun_before s.lines m) }
+    ensures touched { IfOk result (λ s. SameBut s.touched manager.old.stored.published manager.new.stored.published) }
 {
     match event {
         Event::Sync { document } => {
-            let lines = documents::sync(alloc, manager, document.as_slice())?;
-            Ok(lines)
+            let stepped = documents::sync(alloc, manager, document.as_slice())?;
+            Ok(stepped)
         }
         Event::Claim { now } => {
-            let lines = documents::claim(alloc, manager, now)?;
-            Ok(lines)
+            let stepped = documents::claim(alloc, manager, now)?;
+            Ok(stepped)
         }
         Event::Signed {
             ticket,
             signed,
             now,
         } => {
-            let lines = documents::signed(alloc, manager, ticket, signed, now)?;
-            Ok(lines)
+            let stepped = documents::signed(alloc, manager, ticket, signed, now)?;
+            Ok(stepped)
         }
         Event::Failed { ticket } => {
             let lines = documents::failed(alloc, manager, ticket)?;
-            Ok(lines)
+            Ok(Stepped::quiet(alloc, lines))
         }
         Event::Join { conn, selectors } => {
             let lines = seats.join(alloc, conn, selectors)?;
-            Ok(lines)
+            Ok(Stepped::quiet(alloc, lines))
         }
         Event::Name { conn, selectors } => {
             let lines = seats.name(alloc, conn, selectors)?;
-            Ok(lines)
+            Ok(Stepped::quiet(alloc, lines))
         }
         Event::Feed { conn, piece } => {
             let lines = seats.feed(alloc, conn, piece.as_slice())?;
-            Ok(lines)
+            Ok(Stepped::quiet(alloc, lines))
         }
         Event::Turn { conn } => {
             let lines = turn(alloc, manager, seats, conn, is_marked)?;
-            Ok(lines)
+            Ok(Stepped::quiet(alloc, lines))
         }
         Event::Token { conn, now, signed } => {
             let lines = tokens::token(alloc, manager, seats, conn, now, signed)?;
-            Ok(lines)
+            Ok(Stepped::quiet(alloc, lines))
         }
         Event::Close { conn } => {
             let lines = seats.close(alloc, conn)?;
-            Ok(lines)
+            Ok(Stepped::quiet(alloc, lines))
         }
     }
 }

@@ -6,6 +6,7 @@ ghost use Rattle.list_laws.specs.Lists.{GainsFront};
 ghost use Rattle.wl_document.specs.Checks.{Faults};
 ghost use Rattle.wl_document.specs.Documents.{document_state};
 ghost use Rattle.jwt_cache.specs.Rings as rings;
+ghost use Rattle.wl_snapshot.specs.Untouched.{SameBut};
 ghost use Rattle.wl_core.specs.declared.events.TheConstants.{CONNS};
 ghost use Rattle.wl_core.specs.Events.{IsWithin};
 ghost use Rattle.wl_core.specs.declared.events.Event.{Event};
@@ -17,6 +18,7 @@ ghost use Rattle.wl_core.specs.Marks.{Follows, marked_after};
 ghost use Rattle.wl_core.specs.Worlds.{Holds, WorksOn, StandsFor, memory};
 
 use crate::counts::{Counts, octets_of};
+use crate::documents::Stepped;
 use crate::events::Event;
 use crate::lines::{Line, say_all};
 use crate::marks::Marks;
@@ -27,7 +29,7 @@ use std::marker::Model;
 use wl_document::DocFault;
 use wl_entry::Free;
 use wl_manager::Manager;
-use wl_octets::{Memory, Row, Shared};
+use wl_octets::{Memory, Octets, Row, Shared};
 use wl_snapshot::Snapshot;
 
 /// The agent, over events. A contract sees what it goes on from; with its first document and a list of events it is one
@@ -68,10 +70,16 @@ fn share_publication(manager: &Manager<Free>) -> Result<Shared<Snapshot>, Memory
 }
 
 /// The sessions are marked to whose callers the last publication shows something else than the one before.
-fn mark(marks: &mut Marks, before: &Snapshot, manager: &Manager<Free>) -> Result<(), Memory>
+fn mark(
+    marks: &mut Marks,
+    before: &Snapshot,
+    manager: &Manager<Free>,
+    touched: &[Octets],
+) -> Result<(), Memory>
+    requires { SameBut touched.now before.now manager.now.stored.published }
     ensures { OnOk result (marks.new ≡ marked_after before.now manager.now.stored.published marks.old) }
 {
-    marks.note_publication(before, manager.snapshot().part())
+    marks.note_publication(before, manager.snapshot().part(), touched)
 }
 
 /// Takes an event and says what came of it; tells how many bytes were written.
@@ -101,8 +109,8 @@ fn take(
     fits(seats.begun_before);
     let before = share_publication(manager)?;
     let is_marked = marks.note(seats, &event)?;
-    let lines = step(alloc, manager, seats, is_marked, event)?;
-    mark(marks, before.part(), manager)?;
+    let Stepped { lines, touched } = step(alloc, manager, seats, is_marked, event)?;
+    mark(marks, before.part(), manager, touched.as_slice())?;
     let octets = octets_of(lines.as_slice());
     say_all(said, lines)?;
     Ok(octets)
