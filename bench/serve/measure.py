@@ -1,8 +1,9 @@
 #!/usr/bin/python3
 """Measures the built agentd beside a server by grpc-go that sends ready bytes, or that makes each message anew, in one run: all
-on Unix sockets, on one processor, under the same load from the others. Usage: bench/serve/measure.py [SECONDS_OF_IDLE]
+on Unix sockets, on one processor, under the same load from the others: by grpc-go's client, and by frames that are ready made, which
+cost the client next to nothing. Usage: bench/serve/measure.py [SECONDS_OF_IDLE]
 
-It needs Debian's golang-go, golang-google-grpc-dev, python3-grpcio and openssl, and at least two processors."""
+It needs Debian's gcc, golang-go, golang-google-grpc-dev, python3-grpcio and openssl, and at least two processors."""
 import os
 import pathlib
 import signal
@@ -23,6 +24,8 @@ GO = {**os.environ, "GOPATH": "/usr/share/gocode", "GO111MODULE": "off"}
 SERVED = "0"
 LOADING = f"1-{os.cpu_count() - 1}"
 NEW, CALLS, WORKERS = 2_000, 10_000, 8
+# how many times as many for the client of ready frames
+FRAMES = 10
 BROADCAST = 2_000
 agent.AGENTD_WORDS = ["taskset", "-c", SERVED]
 # 1.5 MB and 2.5 MB
@@ -38,6 +41,11 @@ def built(folder, name):
     return f"{folder}/{name}"
 
 
+def built_frames(folder):
+    subprocess.run(["gcc", "-O2", "-pthread", str(HERE / "frames.c"), "-o", f"{folder}/frames"], check=True)
+    return f"{folder}/frames"
+
+
 def processor_seconds(process):
     fields = pathlib.Path(f"/proc/{process.pid}/stat").read_text().rsplit(")", 1)[1].split()
     return (int(fields[11]) + int(fields[12])) / os.sysconf("SC_CLK_TCK")
@@ -48,16 +56,21 @@ def resident(process):
 
 
 class Measured:
-    """A server's process, and its load."""
+    """A server's process, and its loads."""
 
-    def __init__(self, name, process, load):
-        self.name, self.process, self.load = name, process, load
+    def __init__(self, name, process, load, frames=None):
+        self.name, self.process, self.load, self.frames = name, process, load, frames
 
-    def run(self, what, socket, *words):
+    def run(self, what, socket, *words, load=None):
         before = processor_seconds(self.process)
-        ran = subprocess.run(["taskset", "-c", LOADING, self.load, str(socket), *map(str, words)], check=True, capture_output=True, text=True)
+        ran = subprocess.run(["taskset", "-c", LOADING, load or self.load, str(socket), *map(str, words)],
+                             check=True, capture_output=True, text=True)
         used = processor_seconds(self.process) - before
         print(f"{self.name:8} {what:28} {ran.stdout.strip():>20}   processor {used:.2f} s   resident {resident(self.process) >> 20} MiB", flush=True)
+
+    def run_frames(self, socket):
+        for what, word, count in ("new connections", "new", NEW), ("calls", "calls", CALLS):
+            self.run(f"{what}, by frames", socket, word, count * FRAMES, WORKERS, load=self.frames)
 
     def idle(self, socket, seconds):
         held = subprocess.Popen([self.load, str(socket), "hold", "10", "10"], stdin=subprocess.PIPE, stdout=subprocess.PIPE, text=True)
@@ -90,18 +103,18 @@ def served_by(folder, sockets):
     return agent.Agent(folder)
 
 
-def messages(folder, load, seconds):
+def messages(folder, load, frames, seconds):
     served = served_by(f"{folder}/messages", SOCKETS)
     others = []
     try:
-        ours = Measured("agentd", served.agentd, load)
+        ours = Measured("agentd", served.agentd, load, frames)
         for name in SOCKETS:
             message = message_of(served.socket(name))
             made = [(ours, served.socket(name))]
             for kind, words in (("ready", []), ("copied", ["copied"])):
                 process, socket = go_server(folder, f"{name}-{kind}", message, *words)
                 others.append(process)
-                made.append((Measured(kind, process, load), socket))
+                made.append((Measured(kind, process, load, frames), socket))
             for it, at in made:
                 if name == "huge":
                     it.run(f"16 streams, {len(message)} B", at, "burst", 10, 16)
@@ -110,6 +123,7 @@ def messages(folder, load, seconds):
                 it.run(f"new connections, {len(message)} B", at, "new", NEW // scale, workers)
                 it.run(f"calls, {len(message)} B", at, "calls", CALLS // scale, workers)
                 if name == "web":
+                    it.run_frames(at)
                     it.idle(at, seconds)
     finally:
         for it in others:
@@ -135,9 +149,9 @@ def spread(folder, load):
 def main():
     seconds = int(sys.argv[1]) if len(sys.argv) > 1 else 10
     with tempfile.TemporaryDirectory(prefix="serve-") as folder:
-        load = built(folder, "load")
+        load, frames = built(folder, "load"), built_frames(folder)
         built(folder, "server")
-        messages(folder, load, seconds)
+        messages(folder, load, frames, seconds)
         spread(folder, load)
 
 
