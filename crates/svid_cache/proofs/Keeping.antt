@@ -16,7 +16,8 @@ use Rattle.wl_entry.specs.Same.{same_ask}
 use Rattle.wl_entry.specs.declared.asks.Ask.{Ask}
 use Rattle.wl_entry.specs.declared.signing.Svid.{Svid}
 use Rattle.list_laws.proofs.Elements.{all_append, all_filter}
-use Rattle.list_laws.proofs.Rising.{keys_append, rises_filter}
+use Rattle.list_laws.proofs.Rising.{rises_filter}
+use Rattle.sorted_blocks.proofs.Rising.{all_past, rises_with}
 use Rattle.list_laws.proofs.Order.{level_self}
 use Rattle.wl_entry.specs.declared.signing.Signed.{Signed}
 use Rattle.wl_entry.specs.declared.unfit.Unfit.{Unfit}
@@ -72,36 +73,6 @@ swept_cached now asks svids is =
 
 -- ---- a new SVID
 
-is_less : (o : Ordering) → is_lt o ≡ true → o ≡ Less
-is_less Less is = refl
-is_less Equal is = grind (arith, is)
-is_less Greater is = grind (arith, is)
-
-is_more : (o : Ordering) → is_gt o ≡ true → ordering_reverse o ≡ Less
-is_more Less is = grind (arith, is)
-is_more Equal is = grind (arith, is)
-is_more Greater is = refl
-
-all_under : (id : List ℕ) (xs : List Svid) → AllByRecursion (λ s. is_below id s ≡ true) xs → AllByRecursion (λ k. order k id ≡ Less) (map svid_key xs)
-all_under id [] all = tt
-all_under id (x ∷ xs) all = (is_less (order x.ask.entry_id id) all.0, all_under id xs all.1)
-
-all_over : (id : List ℕ) (xs : List Svid) → AllByRecursion (λ s. is_above id s ≡ true) xs → AllByRecursion (λ k. order id k ≡ Less) (map svid_key xs)
-all_over id [] all = tt
-all_over id (x ∷ xs) all = (nat_list_cmp_total.antisymm id x.ask.entry_id ∙ is_more (order x.ask.entry_id id) all.0, all_over id xs all.1)
-
-all_past : (a b : List ℕ) (ks : List (List ℕ)) → order a b ≡ Less → AllByRecursion (λ k. order b k ≡ Less) ks → AllByRecursion (λ k. order a k ≡ Less) ks
-all_past a b [] less all = tt
-all_past a b (k ∷ ks) less all = (nat_list_cmp_total.trans a b k less all.0, all_past a b ks less all.1)
-
-rises_join : (xs : List Svid) (s : Svid) (ys : List Svid) → Rises (map svid_key xs) → Rises (map svid_key ys) → AllByRecursion (λ k. order k s.ask.entry_id ≡ Less) (map svid_key xs) → AllByRecursion (λ k. order s.ask.entry_id k ≡ Less) (map svid_key ys) → Rises (map svid_key (xs ++ s ∷ ys))
-unfolding IsStrictlySortedBy
-rises_join [] s ys front back under over = (over, back)
-rises_join (x ∷ xs) s ys front back under over = (
-  keys_append (λ k. order x.ask.entry_id k ≡ Less) svid_key xs (s ∷ ys) front.0 (under.0, all_past x.ask.entry_id s.ask.entry_id (map svid_key ys) under.0 over),
-  rises_join xs s ys front.1 back under.1 over,
-)
-
 pub put_cached : (s : Svid) (asks : List Ask) (svids : List Svid) → IsCached (record { asks = asks; svids = svids }) → is_listed asks s.ask ≡ true → SignedWithin s.signed → IsCached (record { asks = asks; svids = with_svid s svids })
 unfolding with_svid
 put_cached s asks svids is listed within =
@@ -110,9 +81,7 @@ put_cached s asks svids is listed within =
     let W : Svid → Type 0 = λ k. SignedWithin k.signed in
     record {
       asks = is.asks;
-      svids = rises_join (filter (is_below id) svids) s (filter (is_above id) svids)
-          (rises_filter svid_key (is_below id) svids is.svids) (rises_filter svid_key (is_above id) svids is.svids)
-          (all_under id (filter (is_below id) svids) (all_pass (is_below id) svids)) (all_over id (filter (is_above id) svids) (all_pass (is_above id) svids));
+      svids = rises_with svid_key s svids is.svids;
       listed = all_append L (filter (is_below id) svids) (s ∷ filter (is_above id) svids) (all_filter L (is_below id) svids is.listed) (listed, all_filter L (is_above id) svids is.listed);
       within = all_append W (filter (is_below id) svids) (s ∷ filter (is_above id) svids) (all_filter W (is_below id) svids is.within) (within, all_filter W (is_above id) svids is.within);
       few = is.few;

@@ -1,6 +1,5 @@
 pub mod Blocks
 pub mod Filing
 pub mod Finding
-pub mod Gaps
 pub mod Keeping
 pub mod Ending

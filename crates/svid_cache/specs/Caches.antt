@@ -1,9 +1,8 @@
 -- Asks and the SVIDs that are kept for them (own rules after the SPIRE agent).
-use Rattle.std.specs.Prelude.{◌≡◌, ℕ, ◌<◌, ◌^◌, ◌∷◌, ◌++◌, Bool, true, false, not, nat_lt, nat_le, if◌then◌else◌, List, map, filter, find, length, Option, Some, None, unwrap_or, option_map}
+use Rattle.std.specs.Prelude.{◌≡◌, ℕ, ◌<◌, ◌^◌, Bool, true, false, not, nat_lt, nat_le, if◌then◌else◌, List, map, filter, find, length, Option, Some, None, unwrap_or, option_map}
 use Rattle.std.specs.List.{list_any, AllByRecursion}
-use Rattle.std.specs.Ordering.{nat_cmp, is_lt, is_gt}
-use Rattle.std.specs.Cmp.Lexicographic.{slice_cmp}
 use Rattle.list_laws.specs.Lists.{Rises}
+use Rattle.sorted_blocks.specs.Blocks as blocks
 use Rattle.wl_entry.specs.Fitness.{signed_unfit, is_half_over}
 use Rattle.wl_entry.specs.Keys.{ask_key, svid_key}
 use Rattle.wl_entry.specs.Limits.{SignedWithin}
@@ -63,14 +62,14 @@ without_ended now c = record { asks = c.asks; svids = filter (lasts now) c.svids
 
 -- the SVID is that of an entry below this one, or above it
 abbrev pub is_below : List ℕ → Svid → Bool
-is_below id s = is_lt (slice_cmp nat_cmp s.ask.entry_id id)
+is_below id s = blocks.is_below svid_key id s
 
 abbrev pub is_above : List ℕ → Svid → Bool
-is_above id s = is_gt (slice_cmp nat_cmp s.ask.entry_id id)
+is_above id s = blocks.is_above svid_key id s
 
 -- the SVID takes the place of its entry's one
 unfoldable pub with_svid : Svid → List Svid → List Svid
-with_svid s svids = filter (is_below s.ask.entry_id) svids ++ s ∷ filter (is_above s.ask.entry_id) svids
+with_svid s svids = blocks.with_item svid_key s svids
 
 -- ---- Install: the first reason against a new SVID, or else it is kept
 

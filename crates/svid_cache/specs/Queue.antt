@@ -1,7 +1,7 @@
 -- When asks come due, a block of asks at a time (own rule).
 use Rattle.std.specs.Prelude.{◌≡◌, ℕ, ◌+◌, ◌/◌, ◌≤◌, min, false, List, [], ◌∷◌, map, take, drop, if◌then◌else◌, nat_le, Option, unwrap_or, option_map}
 use Rattle.std.specs.Str.{bytes_eq}
-use Rattle.std.specs.List.{AllByRecursion, reduce}
+use Rattle.std.specs.List.{AllByRecursion}
 use Rattle.wl_entry.specs.declared.asks.Ask.{Ask}
 use Rattle.wl_entry.specs.declared.signing.Signed.{Signed}
 use Rattle.wl_entry.specs.declared.signing.Svid.{Svid}
@@ -41,6 +41,6 @@ NoneBelow least firsts = AllByRecursion (λ f. least ≤ f) firsts
 abbrev pub svid_end : Svid → ℕ
 svid_end s = s.signed.not_after
 
--- the first second at which one of the SVIDs has expired
-abbrev pub first_end : List Svid → Option ℕ
-first_end svids = reduce min (map svid_end svids)
+-- none of the SVIDs has expired before this second
+abbrev pub NoneEndsBefore : ℕ → List Svid → Type 0
+NoneEndsBefore end svids = AllByRecursion (λ s. end ≤ svid_end s) svids

@@ -7,11 +7,14 @@ ghost use Rattle.svid_cache.specs.Caches.{is_listed, due_asks, with_asks, has_en
 ghost use Rattle.svid_cache.specs.Timetables.{cached_by, IsAbout};
 
 use crate::install::Installed;
+use crate::kept::any_ended;
+use crate::kept_svids::KeptSvids;
 use crate::timetable::Timetable;
+use sorted_blocks::SortedBlocks;
 use std::alloc::Global;
 use std::marker::Model;
 use wl_entry::{Ask, Svid};
-use wl_octets::{Memory, Row, Shared};
+use wl_octets::{Memory, Row, Shared, share_all};
 
 /// The asks of the entries, and at most one SVID for each. Times are Unix seconds. After any answer but `Ok` it is
 /// as it was.
@@ -47,16 +50,25 @@ impl Cache {
     pub fn copy(&self, alloc: Global) -> Result<Cache, Memory>
         ensures { IfOk result (λ c. c ≡ self.now) }
     {
-        self.table.with(alloc, self.svids.as_slice())
+        let table = self.table.copy(alloc)?;
+        let svids = share_all(alloc, self.svids.as_slice())?.into_vec();
+        Ok(Cache { table, svids })
     }
 
-    /// The timetable, and the SVIDs that it is about. It takes no memory.
-    pub fn into_parts(self) -> (Timetable, Row<Shared<Svid>>)
-        ensures value { cached_by result.0 result.1 ≡ self }
-        ensures about { IsAbout result.0 result.1 }
+    /// The cache of these asks and SVIDs, which it shares one by one.
+    fn of(alloc: Global, kept: KeptSvids) -> Result<Cache, Memory>
+        ensures { IfOk result (λ c. c ≡ kept) }
     {
-        let Cache { table, svids } = self;
-        (table, Row::from_vec(svids))
+        let (table, svids) = kept.into_parts();
+        let svids = svids.to_row(alloc)?.into_vec();
+        Ok(Cache { table, svids })
+    }
+
+    /// The SVIDs in blocks, shared one by one.
+    fn blocks(&self, alloc: Global) -> Result<SortedBlocks<Svid>, Memory>
+        ensures svids { IfOk result (λ b. b ≡ self.now.svids) }
+    {
+        SortedBlocks::of(alloc, self.svids.as_slice())
     }
 
     /// The asks by ascending entry id.
@@ -88,7 +100,8 @@ impl Cache {
         requires few { length asks < 2 ^ 32 }
         ensures { IfOk result (λ c. c ≡ with_asks asks self.now) }
     {
-        self.table.prepare_sync(alloc, self.svids.as_slice(), asks)
+        let svids = self.blocks(alloc)?;
+        Cache::of(alloc, self.table.prepare_sync(alloc, &svids, asks)?)
     }
 
     /// Takes other asks. The SVIDs stay whose ask is among them.
@@ -107,7 +120,7 @@ impl Cache {
         ensures ended { result ≡ has_ended now self.now }
         ensures kept { result ≡ false → without_ended now self.now ≡ self.now }
     {
-        self.table.has_ended(now)
+        self.table.may_have_ended(now) && any_ended(self.svids.as_slice(), now)
     }
 
     /// Lets go of the SVIDs that have expired, and answers how many these were. It takes no memory.
@@ -128,7 +141,8 @@ impl Cache {
     pub fn due(&self, alloc: Global, now: u64) -> Result<Row<Ask>, Memory>
         ensures { IfOk result (λ r. r ≡ due_asks now self.now) }
     {
-        self.table.due(alloc, self.svids.as_slice(), now)
+        let svids = self.blocks(alloc)?;
+        self.table.due(alloc, &svids, now)
     }
 
     /// What becomes of a new SVID, and the cache with it where it is kept.
@@ -141,8 +155,12 @@ impl Cache {
         ensures answer { IfOk result (λ r. r.1 ≡ install now svid self.now) }
         ensures next { IfOk result (λ r. unwrap_or r.0 self.now ≡ after_install r.1 svid self.now) }
     {
-        self.table
-            .prepare_install(alloc, self.svids.as_slice(), svid, now)
+        let svids = self.blocks(alloc)?;
+        let (next, installed) = self.table.prepare_install(alloc, &svids, svid, now)?;
+        match next {
+            Some(next) => Ok((Some(Cache::of(alloc, next)?), installed)),
+            None => Ok((None, installed)),
+        }
     }
 
     /// Takes a new SVID in, where nothing stands against it.

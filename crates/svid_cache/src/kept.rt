@@ -1,18 +1,20 @@
-//! Lists of kept SVIDs.
+//! Kept SVIDs.
 
-ghost use Rattle.std.specs.Prelude.{◌≡◌, ◌≤◌, ◌++◌, ◌∷◌, Some, map, filter, take, drop, length, IfOk, OnOk, option_map, option_copied};
+ghost use Rattle.std.specs.Prelude.{◌≡◌, ◌≤◌, not, Some, map, filter, IfOk, option_map, option_copied};
+ghost use Rattle.std.specs.List.{list_any};
 ghost use Rattle.list_laws.specs.Lists.{Rises};
 ghost use Rattle.wl_entry.specs.Keys.{ask_key, svid_key};
 ghost use Rattle.wl_entry.specs.Same.{same_ask};
-ghost use Rattle.svid_cache.specs.Caches.{only, is_listed, kept_for, is_due, is_below, is_above, unless_older};
-ghost use Rattle.svid_cache.specs.Queue.{svid_end};
+ghost use Rattle.sorted_blocks.specs.Blocks.{join};
+ghost use Rattle.svid_cache.specs.Caches.{only, is_listed, kept_for, is_due, lasts, unless_older};
+ghost use Rattle.svid_cache.specs.Queue.{NoneEndsBefore};
 
 use crate::asks::lists;
 use crate::install::Installed;
-use sorted_lists::find_by_key;
+use sorted_blocks::SortedBlocks;
 use std::alloc::Global;
 use wl_entry::{Ask, Signed, Svid};
-use wl_octets::{Memory, Octets, Shared};
+use wl_octets::{Memory, Row, Shared};
 
 /// The SVID, where it was signed for this ask.
 fn signed_for<'a>(svid: &'a Shared<Svid>, ask: &Ask) -> Option<&'a Shared<Svid>>
@@ -27,11 +29,11 @@ fn signed_for<'a>(svid: &'a Shared<Svid>, ask: &Ask) -> Option<&'a Shared<Svid>>
 
 /// The SVID that is kept for an ask.
 #[tactic(auto, using(crate::proofs::Finding::kept_found))]
-pub(crate) fn find_kept<'a>(svids: &'a [Shared<Svid>], ask: &Ask) -> Option<&'a Shared<Svid>>
+pub(crate) fn find_kept<'a>(svids: &'a SortedBlocks<Svid>, ask: &Ask) -> Option<&'a Shared<Svid>>
     requires { Rises (map svid_key svids.now) }
     ensures { option_map (λ s. s.now) result ≡ kept_for svids.now ask.now }
 {
-    match find_by_key(svids, ask.entry_id.as_slice()) {
+    match svids.find(ask.entry_id.as_slice()) {
         Some(svid) => signed_for(svid, ask),
         None => None,
     }
@@ -39,7 +41,7 @@ pub(crate) fn find_kept<'a>(svids: &'a [Shared<Svid>], ask: &Ask) -> Option<&'a 
 
 /// Whether an ask is due.
 #[tactic(auto, unfolding(crate::specs::Caches::is_due))]
-pub(crate) fn due_at(svids: &[Shared<Svid>], ask: &Ask, now: u64) -> bool
+pub(crate) fn due_at(svids: &SortedBlocks<Svid>, ask: &Ask, now: u64) -> bool
     requires { Rises (map svid_key svids.now) }
     ensures { result ≡ is_due now svids.now ask.now }
 {
@@ -67,100 +69,60 @@ pub(crate) fn share_listed(
     Ok(shared)
 }
 
-/// Where an SVID stands among others by ascending entry id: how many are of entries below its own, and where those of
-/// entries above it begin.
-#[derive(Clone, Copy)]
-pub(crate) struct Gap {
-    pub below: usize,
-    pub above: usize,
-}
-
-/// How many of the SVIDs are of entries below this one, by binary search.
-fn count_below(svids: &[Shared<Svid>], id: &Octets) -> usize
-    requires { Rises (map svid_key svids.now) }
-    ensures bound { result ≤ length svids.now }
-    ensures below { take result svids.now ≡ filter (is_below id.now) svids.now }
-{
-    svids.partition_point(|svid| svid.part().ask.entry_id.cmp(id).is_lt())
-}
-
-/// How many of the SVIDs are of entries not above this one, by binary search.
-fn count_up_to(svids: &[Shared<Svid>], id: &Octets) -> usize
-    requires { Rises (map svid_key svids.now) }
-    ensures bound { result ≤ length svids.now }
-    ensures above { drop result svids.now ≡ filter (is_above id.now) svids.now }
-{
-    svids.partition_point(|svid| !svid.part().ask.entry_id.cmp(id).is_gt())
-}
-
-/// Where an SVID of this entry stands.
-pub(crate) fn find_gap(svids: &[Shared<Svid>], id: &Octets) -> Gap
-    requires { Rises (map svid_key svids.now) }
-    ensures below_bound { result.below ≤ length svids.now }
-    ensures above_bound { result.above ≤ length svids.now }
-    ensures below { take result.below svids.now ≡ filter (is_below id.now) svids.now }
-    ensures above { drop result.above svids.now ≡ filter (is_above id.now) svids.now }
-{
-    Gap {
-        below: count_below(svids, id),
-        above: count_up_to(svids, id),
-    }
-}
-
-/// Puts the SVIDs at the end, shared.
-fn push_shares(shares: &mut Vec<Shared<Svid>>, svids: &[Shared<Svid>]) -> Result<(), Memory>
-    ensures { OnOk result (shares.new.items ≡ shares.old.items ++ svids.now) }
-{
-    for svid in svids {
-        shares.push(svid.share()?)?;
-    }
-    Ok(())
-}
-
-/// The SVIDs with this one in the gap.
-pub(crate) fn share_with(
+/// The SVIDs that have not expired.
+pub(crate) fn share_lasting(
     alloc: Global,
     svids: &[Shared<Svid>],
-    gap: Gap,
-    svid: Svid,
+    now: u64,
 ) -> Result<Vec<Shared<Svid>>, Memory>
-    requires below { gap.below ≤ length svids.now }
-    requires above { gap.above ≤ length svids.now }
-    ensures { IfOk result (λ v. v.items ≡ take gap.below svids.now ++ svid ∷ drop gap.above svids.now) }
+    ensures { IfOk result (λ v. v.items ≡ filter (lasts now) svids.now) }
 {
-    let (front, _) = svids.split_at(gap.below);
-    let (_, back) = svids.split_at(gap.above);
-    let mut shares = Vec::with_capacity(alloc, svids.len().saturating_add(1))?;
-    push_shares(&mut shares, front)?;
-    shares.push(Shared::new(alloc, svid)?)?;
-    push_shares(&mut shares, back)?;
-    Ok(shares)
-}
-
-/// The seconds with this one in the gap.
-pub(crate) fn ends_with(alloc: Global, ends: &[u64], gap: Gap, end: u64) -> Result<Vec<u64>, Memory>
-    requires below { gap.below ≤ length ends.now }
-    requires above { gap.above ≤ length ends.now }
-    ensures { IfOk result (λ v. v.items ≡ take gap.below ends.now ++ end ∷ drop gap.above ends.now) }
-{
-    let (front, _) = ends.split_at(gap.below);
-    let (_, back) = ends.split_at(gap.above);
-    let mut all = Vec::with_capacity(alloc, ends.len().saturating_add(1))?;
-    all.extend_from_slice(front)?;
-    all.push(end)?;
-    all.extend_from_slice(back)?;
-    Ok(all)
-}
-
-/// The seconds at which the SVIDs end, in their order.
-pub(crate) fn ends_of(alloc: Global, svids: &[Shared<Svid>]) -> Result<Vec<u64>, Memory>
-    ensures { IfOk result (λ v. v.items ≡ map svid_end svids.now) }
-{
-    let mut ends = Vec::with_capacity(alloc, svids.len())?;
+    let mut shared = Vec::with_capacity(alloc, svids.len())?;
     for svid in svids {
-        ends.push(svid.part().signed.not_after)?;
+        if now < svid.part().signed.not_after {
+            shared.push(svid.share()?)?;
+        }
     }
-    Ok(ends)
+    Ok(shared)
+}
+
+/// Whether one of the SVIDs has expired.
+pub(crate) fn any_ended(svids: &[Shared<Svid>], now: u64) -> bool
+    ensures { result ≡ list_any (λ s. not (lasts now s)) svids.now }
+{
+    svids.iter().any(|svid| svid.part().signed.not_after <= now)
+}
+
+/// Whether one of the SVIDs in these blocks has expired.
+pub(crate) fn any_ended_in(blocks: &[Shared<Row<Shared<Svid>>>], now: u64) -> bool
+    ensures { result ≡ list_any (λ block. list_any (λ s. not (lasts now s)) block) blocks.now }
+{
+    blocks
+        .iter()
+        .any(|block| any_ended(block.part().as_slice(), now))
+}
+
+/// The first second at which one of the SVIDs has expired, or this one if it is earlier.
+fn first_end(svids: &[Shared<Svid>], other: u64) -> u64
+    ensures ends { NoneEndsBefore result svids.now }
+    ensures other { result ≤ other }
+{
+    let mut first = other;
+    for svid in svids {
+        first = first.min(svid.part().signed.not_after);
+    }
+    first
+}
+
+/// The first second at which one of the SVIDs in these blocks has expired.
+pub(crate) fn first_end_in(blocks: &[Shared<Row<Shared<Svid>>>]) -> u64
+    ensures { NoneEndsBefore result (join blocks.now) }
+{
+    let mut first = u64::MAX;
+    for block in blocks {
+        first = first_end(block.part().as_slice(), first);
+    }
+    first
 }
 
 /// Whether the kept one ends later, or at the same second.

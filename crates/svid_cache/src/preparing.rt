@@ -1,72 +1,70 @@
 //! What becomes of a timetable and the SVIDs that it is about.
 
-ghost use Rattle.std.specs.Prelude.{◌≡◌, ◌<◌, ◌^◌, true, is_none, length, map, unwrap_or, IfOk};
+ghost use Rattle.std.specs.Prelude.{◌≡◌, ◌<◌, ◌^◌, min, true, is_none, length, map, unwrap_or, IfOk};
 ghost use Rattle.list_laws.specs.Lists.{Rises};
 ghost use Rattle.wl_entry.specs.Limits.{SignedWithin};
 ghost use Rattle.wl_entry.specs.Keys.{ask_key};
 ghost use Rattle.svid_cache.specs.Caches.{is_listed, with_asks, without_ended, install, after_install, is_refused};
+ghost use Rattle.svid_cache.specs.Queue.{NoneEndsBefore};
 ghost use Rattle.svid_cache.specs.Timetables.{cached_by, IsAbout};
 
-use crate::cache::Cache;
 use crate::install::Installed;
-use crate::kept::{ends_with, find_gap, find_kept, judge_end, share_listed, share_with};
-use crate::queue::{first_end, least, refile};
+use crate::kept::{find_kept, first_end_in, judge_end, share_lasting, share_listed};
+use crate::kept_svids::KeptSvids;
+use crate::queue::{least, refile};
 use crate::timetable::{BLOCK, Timetable};
+use sorted_blocks::SortedBlocks;
 use std::alloc::Global;
 use wl_entry::{Ask, Svid};
-use wl_octets::{Memory, Row, Shared, share_all};
+use wl_octets::{Memory, Row};
 
 impl Timetable {
-    /// A copy of the timetable with these SVIDs. It shares the asks and SVIDs.
-    pub(crate) fn with(&self, alloc: Global, svids: &[Shared<Svid>]) -> Result<Cache, Memory>
-        requires { IsAbout self.now svids.now }
-        ensures { IfOk result (λ c. c ≡ cached_by self.now svids.now) }
-    {
-        let table = self.copy(alloc)?;
-        let svids = share_all(alloc, svids)?.into_vec();
-        Ok(Cache { table, svids })
-    }
-
     /// Other asks, and those of the SVIDs whose ask is among them.
     pub fn prepare_sync(
         &self,
         alloc: Global,
-        svids: &[Shared<Svid>],
+        svids: &SortedBlocks<Svid>,
         asks: Row<Ask>,
-    ) -> Result<Cache, Memory>
+    ) -> Result<KeptSvids, Memory>
         requires about { IsAbout self.now svids.now }
         requires rises { Rises (map ask_key asks) }
         requires few { length asks < 2 ^ 32 }
         ensures { IfOk result (λ c. c ≡ with_asks asks (cached_by self.now svids.now)) }
     {
-        let svids = share_listed(alloc, svids, asks.as_slice())?;
-        let table = Timetable::of(alloc, asks, svids.as_slice())?;
-        Ok(Cache { table, svids })
+        let all = svids.to_row(alloc)?;
+        let listed = share_listed(alloc, all.as_slice(), asks.as_slice())?;
+        let svids = SortedBlocks::of(alloc, listed.as_slice())?;
+        let table = Timetable::of(alloc, asks, &svids)?;
+        Ok(KeptSvids { table, svids })
     }
 
     /// The asks, and those of the SVIDs that have not expired.
     pub fn prepare_sweep(
         &self,
         alloc: Global,
-        svids: &[Shared<Svid>],
+        svids: &SortedBlocks<Svid>,
         now: u64,
-    ) -> Result<Cache, Memory>
+    ) -> Result<KeptSvids, Memory>
         requires { IsAbout self.now svids.now }
         ensures { IfOk result (λ c. c ≡ without_ended now (cached_by self.now svids.now)) }
     {
-        let mut cache = self.with(alloc, svids)?;
-        let _ = cache.sweep(now);
-        Ok(cache)
+        let all = svids.to_row(alloc)?;
+        let lasting = share_lasting(alloc, all.as_slice(), now)?;
+        let svids = SortedBlocks::of(alloc, lasting.as_slice())?;
+        let mut table = self.copy(alloc)?;
+        table.sweep(now);
+        table.end = first_end_in(svids.blocks());
+        Ok(KeptSvids { table, svids })
     }
 
     /// What becomes of a new SVID, and the asks and SVIDs with it where it is kept.
     pub fn prepare_install(
         &self,
         alloc: Global,
-        svids: &[Shared<Svid>],
+        svids: &SortedBlocks<Svid>,
         svid: Svid,
         now: u64,
-    ) -> Result<(Option<Cache>, Installed), Memory>
+    ) -> Result<(Option<KeptSvids>, Installed), Memory>
         requires { IsAbout self.now svids.now }
         ensures answer { IfOk result (λ r. r.1 ≡ install now svid (cached_by self.now svids.now)) }
         ensures next { IfOk result (λ r. unwrap_or r.0 (cached_by self.now svids.now)
@@ -75,46 +73,63 @@ impl Timetable {
     {
         match self.judge(svids, &svid, now) {
             Installed::Kept => {
-                let next = self.with_svid(alloc, svids, svid)?;
+                let next = self.with_svid(alloc, svids, svid, now)?;
                 Ok((Some(next), Installed::Kept))
             }
             other => Ok((None, other)),
         }
     }
 
+    /// A second before which none of these SVIDs has expired, where none of them has before this table's and the one at
+    /// which a new one ends. The SVIDs are looked at only where this table's has come.
+    fn end_with(&self, svids: &SortedBlocks<Svid>, not_after: u64, now: u64) -> u64
+        requires { NoneEndsBefore (min self.now.end not_after) svids.now }
+        ensures { NoneEndsBefore result svids.now }
+    {
+        if self.may_have_ended(now) {
+            first_end_in(svids.blocks())
+        } else {
+            self.end.min(not_after)
+        }
+    }
+
     /// The asks and SVIDs with an SVID in the place of its entry's.
-    fn with_svid(&self, alloc: Global, svids: &[Shared<Svid>], svid: Svid) -> Result<Cache, Memory>
+    fn with_svid(
+        &self,
+        alloc: Global,
+        svids: &SortedBlocks<Svid>,
+        svid: Svid,
+        now: u64,
+    ) -> Result<KeptSvids, Memory>
         requires about { IsAbout self.now svids.now }
         requires listed { is_listed self.now.asks svid.ask ≡ true }
         requires within { SignedWithin svid.signed }
         ensures { IfOk result (λ c. c ≡ after_install Installed.Kept svid (cached_by self.now svids.now)) }
     {
         let id = svid.ask.entry_id.copy(alloc)?;
+        let not_after = svid.signed.not_after;
         let asks = self.share_asks()?;
-        let gap = find_gap(svids, &id);
-        let ends = ends_with(alloc, self.ends.as_slice(), gap, svid.signed.not_after)?;
-        let svids = share_with(alloc, svids, gap, svid)?;
+        let svids = svids.with(alloc, svid)?;
         let firsts = refile(
             alloc,
             BLOCK,
             self.firsts.as_slice(),
             self.asks(),
-            svids.as_slice(),
+            &svids,
             &id,
         )?;
         let table = Timetable {
             asks,
             next: least(firsts.as_slice()),
-            end: first_end(ends.as_slice()),
             firsts,
-            ends,
+            end: self.end_with(&svids, not_after, now),
         };
-        Ok(Cache { table, svids })
+        Ok(KeptSvids { table, svids })
     }
 
     /// What is to become of a new SVID.
     #[tactic(auto, using(crate::proofs::Keeping::install_listed, crate::proofs::Keeping::install_within), unfolding(crate::specs::Caches::install))]
-    fn judge(&self, svids: &[Shared<Svid>], svid: &Svid, now: u64) -> Installed
+    fn judge(&self, svids: &SortedBlocks<Svid>, svid: &Svid, now: u64) -> Installed
         requires { IsAbout self.now svids.now }
         ensures answer { result ≡ install now svid.now (cached_by self.now svids.now) }
         ensures listed { result ≡ Installed.Kept → is_listed self.now.asks svid.now.ask ≡ true }

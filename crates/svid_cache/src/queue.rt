@@ -2,7 +2,7 @@
 //! passed over by one comparison until one of its asks may be due.
 
 ghost use Rattle.std.specs.Prelude.{◌≡◌, ◌≤◌, ◌<◌, ◌++◌, ℕ, min, nat_le, take, drop, map, filter, length, IfOk, OnOk};
-ghost use Rattle.std.specs.List.{AllByRecursion, reduce};
+ghost use Rattle.std.specs.List.{AllByRecursion};
 ghost use Rattle.list_laws.specs.Lists.{Rises};
 ghost use Rattle.wl_entry.specs.Fitness.{is_half_over};
 ghost use Rattle.wl_entry.specs.Keys.{ask_key, svid_key};
@@ -10,10 +10,11 @@ ghost use Rattle.svid_cache.specs.Caches.{is_due};
 ghost use Rattle.svid_cache.specs.Queue.{half_second, first_second, NotBefore, OthersNotBefore, Filed, NoneBelow, clear_second};
 
 use crate::kept::{due_at, find_kept};
+use sorted_blocks::SortedBlocks;
 use sorted_lists::place_by_key;
 use std::alloc::Global;
 use wl_entry::{Ask, Signed, Svid};
-use wl_octets::{Memory, Octets, Row, Shared};
+use wl_octets::{Memory, Octets, Row};
 
 /// The first second at which half of its time has passed.
 fn half_time(signed: &Signed) -> u64
@@ -27,7 +28,7 @@ fn half_time(signed: &Signed) -> u64
 
 /// The first second at which the ask is due.
 #[tactic(auto, unfolding(crate::specs::Queue::first_second))]
-fn due_time(svids: &[Shared<Svid>], ask: &Ask) -> u64
+fn due_time(svids: &SortedBlocks<Svid>, ask: &Ask) -> u64
     requires { Rises (map svid_key svids.now) }
     ensures { result ≡ first_second svids.now ask.now }
 {
@@ -38,7 +39,7 @@ fn due_time(svids: &[Shared<Svid>], ask: &Ask) -> u64
 }
 
 /// A second before which none of the asks is due.
-fn block_time(asks: &[Ask], svids: &[Shared<Svid>]) -> u64
+fn block_time(asks: &[Ask], svids: &SortedBlocks<Svid>) -> u64
     requires { Rises (map svid_key svids.now) }
     ensures { AllByRecursion (NotBefore svids.now result) asks.now }
 {
@@ -67,7 +68,7 @@ pub(crate) fn file_all(
     alloc: Global,
     size: usize,
     asks: &[Ask],
-    svids: &[Shared<Svid>],
+    svids: &SortedBlocks<Svid>,
 ) -> Result<Vec<u64>, Memory>
     requires size { 0 < size }
     requires rises { Rises (map svid_key svids.now) }
@@ -89,7 +90,7 @@ pub(crate) fn refile(
     size: usize,
     firsts: &[u64],
     asks: &[Ask],
-    svids: &[Shared<Svid>],
+    svids: &SortedBlocks<Svid>,
     id: &Octets,
 ) -> Result<Vec<u64>, Memory>
     requires size { 0 < size }
@@ -136,19 +137,12 @@ pub(crate) fn least(firsts: &[u64]) -> u64
     least
 }
 
-/// The first of the seconds.
-pub(crate) fn first_end(ends: &[u64]) -> Option<u64>
-    ensures { result ≡ reduce min ends.now }
-{
-    ends.iter().copied().min()
-}
-
 /// Adds those of the asks that are due.
 fn push_due(
     alloc: Global,
     due: &mut Vec<Ask>,
     asks: &[Ask],
-    svids: &[Shared<Svid>],
+    svids: &SortedBlocks<Svid>,
     now: u64,
 ) -> Result<(), Memory>
     requires { Rises (map svid_key svids.now) }
@@ -168,7 +162,7 @@ fn push_block(
     due: &mut Vec<Ask>,
     first: u64,
     block: &[Ask],
-    svids: &[Shared<Svid>],
+    svids: &SortedBlocks<Svid>,
     now: u64,
 ) -> Result<(), Memory>
     requires rises { Rises (map svid_key svids.now) }
@@ -187,7 +181,7 @@ pub(crate) fn due_of(
     size: usize,
     firsts: &[u64],
     asks: &[Ask],
-    svids: &[Shared<Svid>],
+    svids: &SortedBlocks<Svid>,
     now: u64,
 ) -> Result<Row<Ask>, Memory>
     requires rises { Rises (map svid_key svids.now) }

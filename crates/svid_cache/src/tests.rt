@@ -6,6 +6,7 @@ ghost use Rattle.wl_entry.specs.Keys.{ask_key};
 
 use crate::queue::{due_of, file_all};
 use crate::{Cache, Installed};
+use sorted_blocks::SortedBlocks;
 use spiffe_id::SpiffeId;
 use std::alloc::Global;
 use std::test::Fail;
@@ -126,10 +127,10 @@ fn first_end(rt: HostRuntime) -> Result<(), Fail> {
 fn count_in_blocks(alloc: Global, size: usize, cache: &Cache, now: u64) -> Result<usize, Fail>
     requires { 0 < size }
 {
-    let svids = cache.svids();
+    let svids = SortedBlocks::of(alloc, cache.svids())?;
     let asks = vec![in alloc; ask(alloc, b"e1")?, ask(alloc, b"e2")?]?;
-    let firsts = file_all(alloc, size, asks.as_slice(), svids)?;
-    Ok(due_of(alloc, size, firsts.as_slice(), asks.as_slice(), svids, now)?.len())
+    let firsts = file_all(alloc, size, asks.as_slice(), &svids)?;
+    Ok(due_of(alloc, size, firsts.as_slice(), asks.as_slice(), &svids, now)?.len())
 }
 
 #[test]

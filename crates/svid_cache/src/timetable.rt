@@ -9,8 +9,9 @@ ghost use Rattle.svid_cache.specs.Caches.{is_listed, due_asks, lasts, has_ended,
 ghost use Rattle.svid_cache.specs.Timetables.{cached_by, IsAbout};
 
 use crate::asks::lists;
-use crate::kept::ends_of;
-use crate::queue::{clear_until, due_of, file_all, first_end, least};
+use crate::kept::{any_ended_in, first_end_in};
+use crate::queue::{clear_until, due_of, file_all, least};
+use sorted_blocks::SortedBlocks;
 use std::alloc::Global;
 use std::marker::Model;
 use wl_entry::{Ask, Svid};
@@ -29,10 +30,8 @@ pub struct Timetable {
     pub(crate) firsts: Vec<u64>,
     /// None of the asks is due before this second.
     pub(crate) next: u64,
-    /// The second at which each of the SVIDs ends, so that finding the first of them touches no SVID.
-    pub(crate) ends: Vec<u64>,
-    /// The first of them.
-    pub(crate) end: Option<u64>,
+    /// None of the SVIDs has expired before this second.
+    pub(crate) end: u64,
 }
 
 impl Model for Timetable {
@@ -41,7 +40,7 @@ impl Model for Timetable {
 
     ghost Value = { Times };
 
-    ghost view = { λ t. record { asks = asks_in t.asks; firsts = t.firsts.items; next = t.next; seconds = t.ends.items; end = t.end } };
+    ghost view = { λ t. record { asks = asks_in t.asks; firsts = t.firsts.items; next = t.next; end = t.end } };
 }
 
 impl Timetable {
@@ -54,8 +53,7 @@ impl Timetable {
             asks: None,
             firsts: Vec::new(alloc),
             next: u64::MAX,
-            ends: Vec::new(alloc),
-            end: None,
+            end: u64::MAX,
         }
     }
 
@@ -63,20 +61,18 @@ impl Timetable {
     pub(crate) fn of(
         alloc: Global,
         asks: Row<Ask>,
-        svids: &[Shared<Svid>],
+        svids: &SortedBlocks<Svid>,
     ) -> Result<Timetable, Memory>
         requires { IsCached (record { asks = asks; svids = svids.now }) }
         ensures asks { IfOk result (λ t. t.asks ≡ asks) }
         ensures about { IfOk result (λ t. IsAbout t svids.now) }
     {
         let firsts = file_all(alloc, BLOCK, asks.as_slice(), svids)?;
-        let ends = ends_of(alloc, svids)?;
         Ok(Timetable {
             asks: Some(Shared::new(alloc, asks)?),
             next: least(firsts.as_slice()),
-            end: first_end(ends.as_slice()),
             firsts,
-            ends,
+            end: first_end_in(svids.blocks()),
         })
     }
 
@@ -88,7 +84,6 @@ impl Timetable {
             asks: self.share_asks()?,
             firsts: Vec::from_slice(alloc, self.firsts.as_slice())?,
             next: self.next,
-            ends: Vec::from_slice(alloc, self.ends.as_slice())?,
             end: self.end,
         })
     }
@@ -121,16 +116,21 @@ impl Timetable {
         lists(self.asks(), ask)
     }
 
-    /// Whether one of the SVIDs has expired, so that a sweep lets go of it. It takes no memory.
-    pub fn has_ended(&self, now: u64) -> bool
-        ensures ended { (svids : List Svid) → IsAbout self.now svids → result ≡ has_ended now (cached_by self.now svids) }
-        ensures kept { (svids : List Svid) → IsAbout self.now svids → result ≡ false
-            → without_ended now (cached_by self.now svids) ≡ cached_by self.now svids }
+    /// Whether the second has come before which none of the SVIDs has expired. It takes no memory.
+    pub(crate) fn may_have_ended(&self, now: u64) -> bool
+        ensures { (svids : List Svid) → IsAbout self.now svids → result ≡ false → has_ended now (cached_by self.now svids) ≡ false }
     {
-        match self.end {
-            Some(end) => end <= now,
-            None => false,
-        }
+        self.end <= now
+    }
+
+    /// Whether one of the SVIDs has expired, so that a sweep lets go of it. It takes no memory, and looks at no SVID before
+    /// the first one can have.
+    pub fn has_ended(&self, svids: &SortedBlocks<Svid>, now: u64) -> bool
+        requires { IsAbout self.now svids.now }
+        ensures ended { result ≡ has_ended now (cached_by self.now svids.now) }
+        ensures kept { result ≡ false → without_ended now (cached_by self.now svids.now) ≡ cached_by self.now svids.now }
+    {
+        self.may_have_ended(now) && any_ended_in(svids.blocks(), now)
     }
 
     /// Lets go of the times of the SVIDs that have expired. It takes no memory.
@@ -140,12 +140,15 @@ impl Timetable {
     {
         clear_until(self.firsts.as_mut_slice(), now);
         self.next = least(self.firsts.as_slice());
-        self.ends.retain(|end| now < *end);
-        self.end = first_end(self.ends.as_slice());
     }
 
     /// The asks that are due, by ascending entry id.
-    pub fn due(&self, alloc: Global, svids: &[Shared<Svid>], now: u64) -> Result<Row<Ask>, Memory>
+    pub fn due(
+        &self,
+        alloc: Global,
+        svids: &SortedBlocks<Svid>,
+        now: u64,
+    ) -> Result<Row<Ask>, Memory>
         requires { IsAbout self.now svids.now }
         ensures { IfOk result (λ r. r ≡ due_asks now (cached_by self.now svids.now)) }
     {

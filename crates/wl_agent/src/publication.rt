@@ -6,6 +6,7 @@ ghost use Rattle.list_laws.specs.Lists.{Rises};
 ghost use Rattle.wl_entry.specs.Keys.{entry_key};
 ghost use Rattle.wl_agent.specs.Kept.{is_fit, kept_of, kept_in, publication_of};
 
+use sorted_blocks::SortedBlocks;
 use sorted_lists::find_by_key;
 use std::alloc::Global;
 use wl_document::{AuthorityState, DocSvid};
@@ -89,6 +90,7 @@ pub(crate) fn publication(alloc: Global, state: AuthorityState) -> Result<Snapsh
         svids,
     } = state;
     let svids = keep_all(alloc, entries.as_slice(), svids)?;
+    let svids = SortedBlocks::of(alloc, svids.as_slice())?;
     let entries = share_list(alloc, entries)?;
     let bundles = share_list(alloc, bundles)?;
     Ok(Snapshot {

@@ -2,6 +2,7 @@ ghost use Rattle.std.specs.Prelude.{◌≡◌, IfOk};
 ghost use mathlib.Core.List.{IsPrefix};
 ghost use Rattle.wl_publish.specs.Lists.{IsVouched};
 
+use sorted_blocks::SortedBlocks;
 use spiffe_id::TrustDomain;
 use std::alloc::{AllocGlobal, Global};
 use std::sync::Wait;
@@ -33,7 +34,7 @@ fn edition(alloc: Global, number: u64) -> Result<Edition, Memory>
         number,
         domain,
         entries: shared(alloc, Row::empty(alloc))?,
-        svids: Row::empty(alloc),
+        svids: SortedBlocks::empty(alloc),
         bundles: shared(alloc, Row::empty(alloc))?,
     };
     let index = Index::build(alloc, &[])?;

@@ -12,7 +12,8 @@ ghost use Rattle.wl_snapshot.specs.Views.{view_in, sight_of, entries_at, held_of
 
 use crate::snapshot::Snapshot;
 use crate::views::{Held, View};
-use sorted_lists::{find_by_key, mark_key};
+use sorted_blocks::SortedBlocks;
+use sorted_lists::mark_key;
 use spiffe_id::TrustDomain;
 use std::alloc::Global;
 use wl_entry::{Bundle, Entry, Svid};
@@ -46,11 +47,11 @@ fn entitled_in(
 
 /// An entry with its SVID.
 #[tactic(auto, unfolding(crate::specs::Views::held_of))]
-fn hold(svids: &[Shared<Svid>], entry: &Shared<Entry>) -> Result<Held, Memory>
+fn hold(svids: &SortedBlocks<Svid>, entry: &Shared<Entry>) -> Result<Held, Memory>
     requires { Rises (map svid_key svids.now) }
     ensures { IfOk result (λ h. h ≡ held_of svids.now entry.now) }
 {
-    let svid = match find_by_key(svids, entry.part().id.as_slice()) {
+    let svid = match svids.find(entry.part().id.as_slice()) {
         Some(svid) => Some(svid.share()?),
         None => None,
     };
@@ -63,7 +64,7 @@ fn hold(svids: &[Shared<Svid>], entry: &Shared<Entry>) -> Result<Held, Memory>
 /// The entries with their SVIDs.
 fn hold_all(
     alloc: Global,
-    svids: &[Shared<Svid>],
+    svids: &SortedBlocks<Svid>,
     entries: &[Shared<Entry>],
 ) -> Result<Row<Held>, Memory>
     requires { Rises (map svid_key svids.now) }
@@ -163,7 +164,7 @@ fn view_with(alloc: Global, snapshot: &Snapshot, entries: &[Shared<Entry>]) -> R
         domain.as_bytes(),
         entries,
     )?;
-    let held = hold_all(alloc, snapshot.svids.as_slice(), entries)?;
+    let held = hold_all(alloc, &snapshot.svids, entries)?;
     Ok(View {
         domain,
         held,

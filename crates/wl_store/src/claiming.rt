@@ -17,13 +17,13 @@ use crate::store::Store;
 use crate::tickets::{Adopted, Claim};
 use crate::touched::ids_ended;
 use std::alloc::Global;
-use svid_cache::Cache;
+use svid_cache::KeptSvids;
 use wl_entry::{Ask, Voucher};
 use wl_octets::{Memory, Octets, Row};
 
 impl<V: Voucher> Store<V> {
     /// The asks and SVIDs without what has expired, where something has.
-    fn swept(&self, alloc: Global, now: u64) -> Result<Option<Cache>, Memory>
+    fn swept(&self, alloc: Global, now: u64) -> Result<Option<KeptSvids>, Memory>
         ensures value { IfOk result
             (λ c. kept_after c self.now.store ≡ without_ended now (cached_of self.now.store)) }
         ensures trusted { IfOk result
@@ -32,7 +32,7 @@ impl<V: Voucher> Store<V> {
             (λ c. is_none c ≡ pointwise same_svid self.now.store.svids (kept_after c self.now.store).svids) }
     {
         let svids = self.svids();
-        if self.table().has_ended(now) {
+        if self.table().has_ended(svids, now) {
             let cache = self.table().prepare_sweep(alloc, svids, now)?;
             return Ok(Some(cache));
         }
@@ -43,14 +43,16 @@ impl<V: Voucher> Store<V> {
     fn ids_swept(&self, alloc: Global, now: u64) -> Result<Row<Octets>, Memory>
         ensures { IfOk result (λ ids. ids ≡ ids_ended now self.now.store.svids) }
     {
-        if self.table().has_ended(now) {
-            return ids_ended(alloc, self.svids(), now);
+        let svids = self.svids();
+        if self.table().has_ended(svids, now) {
+            let all = svids.to_row(alloc)?;
+            return ids_ended(alloc, all.as_slice(), now);
         }
         Ok(Row::empty(alloc))
     }
 
     /// The asks that are due among these, or else among those that are kept now.
-    fn due(&self, alloc: Global, cache: &Option<Cache>, now: u64) -> Result<Row<Ask>, Memory>
+    fn due(&self, alloc: Global, cache: &Option<KeptSvids>, now: u64) -> Result<Row<Ask>, Memory>
         ensures { IfOk result (λ r. r ≡ due_asks now (kept_after cache.now self.now.store)) }
     {
         match cache {
@@ -64,7 +66,7 @@ impl<V: Voucher> Store<V> {
     fn asks_to_claim(
         &self,
         alloc: Global,
-        cache: &Option<Cache>,
+        cache: &Option<KeptSvids>,
         now: u64,
     ) -> Result<Row<Ask>, Memory>
         requires { kept_after cache.now self.now.store ≡ without_ended now (cached_of self.now.store) }
@@ -107,7 +109,7 @@ impl<V: Voucher> Store<V> {
     fn claim_asks(
         &self,
         alloc: Global,
-        cache: Option<Cache>,
+        cache: Option<KeptSvids>,
         asks: &[Ask],
         touched: Row<Octets>,
     ) -> Result<Prepared<V>, Memory>

@@ -7,6 +7,7 @@ ghost use Rattle.wl_entry.specs.Keys.{entry_key, bundle_key};
 ghost use Rattle.svid_cache.specs.Timetables.{IsAbout};
 ghost use Rattle.wl_store.specs.Stores.{asks_of};
 
+use sorted_blocks::SortedBlocks;
 use sorted_lists::find_by_key;
 use std::alloc::Global;
 use svid_cache::Timetable;
@@ -111,7 +112,7 @@ pub(crate) fn table_of(alloc: Global, entries: &[Entry]) -> Result<Shared<Timeta
     ensures about { IfOk result (λ t. IsAbout t []) }
 {
     let asks = asks_for(alloc, entries)?;
-    let cache = Timetable::start(alloc).prepare_sync(alloc, &[], asks)?;
+    let cache = Timetable::start(alloc).prepare_sync(alloc, &SortedBlocks::empty(alloc), asks)?;
     let (table, _) = cache.into_parts();
     Ok(Shared::new(alloc, table)?)
 }

@@ -11,7 +11,7 @@ use crate::store::Store;
 use crate::tickets::{Adopted, Change};
 use std::alloc::Global;
 use std::marker::PhantomData;
-use svid_cache::Cache;
+use svid_cache::KeptSvids;
 use wl_entry::Voucher;
 use wl_octets::{Memory, Shared};
 use wl_snapshot::Snapshot;
@@ -68,7 +68,7 @@ impl<V: Voucher> Store<V> {
         &self,
         alloc: Global,
         stock: Stock,
-        cache: Cache,
+        cache: KeptSvids,
         in_flight: InFlight,
         last_ticket: u64,
     ) -> Result<Store<V>, Memory>
@@ -109,7 +109,7 @@ impl<V: Voucher> Store<V> {
         &self,
         alloc: Global,
         stock: Stock,
-        cache: Option<Cache>,
+        cache: Option<KeptSvids>,
         in_flight: InFlight,
         last_ticket: u64,
     ) -> Result<(Store<V>, Change), Memory>

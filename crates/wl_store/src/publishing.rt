@@ -3,6 +3,7 @@
 ghost use Rattle.std.specs.Prelude.{◌≡◌, IfOk};
 ghost use Rattle.wl_snapshot.specs.Snapshots.{IsPublication};
 
+use sorted_blocks::SortedBlocks;
 use spiffe_id::TrustDomain;
 use std::alloc::Global;
 use wl_entry::{Bundle, Entry, Svid};
@@ -15,7 +16,7 @@ pub(crate) fn publication(
     number: u64,
     domain: TrustDomain,
     entries: Shared<Row<Shared<Entry>>>,
-    svids: Row<Shared<Svid>>,
+    svids: SortedBlocks<Svid>,
     bundles: Shared<Row<Shared<Bundle>>>,
 ) -> Result<Shared<Snapshot>, Memory>
     requires { IsPublication

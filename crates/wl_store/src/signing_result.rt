@@ -11,7 +11,7 @@ use crate::preparing::Prepared;
 use crate::store::Store;
 use crate::tickets::{Adopted, Change, Ticket, abandon_all};
 use std::alloc::Global;
-use svid_cache::{Cache, Installed};
+use svid_cache::{Installed, KeptSvids};
 use wl_entry::{Ask, Signed, Svid, Unfit, Voucher};
 use wl_octets::{Memory, Octets, Row};
 use wl_x509::leaf_unfit;
@@ -83,7 +83,7 @@ impl<V: Voucher> Store<V> {
         alloc: Global,
         svid: Svid,
         now: u64,
-    ) -> Result<(Option<Cache>, Installed), Memory>
+    ) -> Result<(Option<KeptSvids>, Installed), Memory>
         requires { refusal now svid.ask svid.signed self.now.store ≡ None }
         ensures answer { IfOk result (λ r. r.1 ≡ install now svid.ask svid.signed self.now.store) }
         ensures cache { IfOk result
@@ -101,7 +101,7 @@ impl<V: Voucher> Store<V> {
         alloc: Global,
         svid: Svid,
         now: u64,
-    ) -> Result<(Option<Cache>, Installed), Memory>
+    ) -> Result<(Option<KeptSvids>, Installed), Memory>
         requires { V.signed svid.ask svid.signed }
         ensures answer { IfOk result (λ r. r.1 ≡ install now svid.ask svid.signed self.now.store) }
         ensures gives { IfOk result

@@ -17,6 +17,7 @@ use crate::in_flight::InFlight;
 use crate::lists::{index_of, share_bundles, share_entries, table_of};
 use crate::publishing::publication;
 use crate::tickets::{Flight, Ticket};
+use sorted_blocks::SortedBlocks;
 use spiffe_id::TrustDomain;
 use std::alloc::Global;
 use std::marker::{Model, PhantomData};
@@ -114,7 +115,14 @@ impl<V: Voucher> Store<V> {
         let index = index_of(alloc, entries.as_slice())?;
         let entries = Shared::new(alloc, entries)?;
         let bundles = Shared::new(alloc, bundles)?;
-        let published = publication(alloc, 0, domain, entries, Row::empty(alloc), bundles)?;
+        let published = publication(
+            alloc,
+            0,
+            domain,
+            entries,
+            SortedBlocks::empty(alloc),
+            bundles,
+        )?;
         Ok(Store {
             strict,
             published,
@@ -135,11 +143,11 @@ impl<V: Voucher> Store<V> {
     }
 
     /// The SVIDs, which are those of the last publication.
-    pub(crate) fn svids(&self) -> &[Shared<Svid>]
+    pub(crate) fn svids(&self) -> &SortedBlocks<Svid>
         ensures svids { result.now ≡ self.now.store.svids }
         ensures trusted { AllTrusted V.signed self.now.store.strict self.now.store.svids }
     {
-        self.published.part().svids.as_slice()
+        &self.published.part().svids
     }
 
     /// The number of the last ticket.

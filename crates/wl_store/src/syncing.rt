@@ -21,7 +21,7 @@ use crate::store::Store;
 use crate::tickets::Adopted;
 use crate::touched::ids_changed;
 use std::alloc::Global;
-use svid_cache::Cache;
+use svid_cache::KeptSvids;
 use wl_document::{AuthorityState, DocFault, read_state};
 use wl_entry::{Bundle, Entry, Voucher};
 use wl_match::Index;
@@ -29,7 +29,7 @@ use wl_octets::{Memory, Octets, Row, Shared};
 
 impl<V: Voucher> Store<V> {
     /// The cache with the asks of these entries.
-    fn cache_for(&self, alloc: Global, entries: &Row<Entry>) -> Result<Cache, Memory>
+    fn cache_for(&self, alloc: Global, entries: &Row<Entry>) -> Result<KeptSvids, Memory>
         requires rises { Rises (map entry_key entries.now) }
         requires few { length entries.now ≤ 10000 }
         ensures value { IfOk result (λ c. c ≡ with_asks (asks_of entries.now) (cached_of self.now.store)) }
@@ -121,14 +121,16 @@ impl<V: Voucher> Store<V> {
     }
 
     /// Whether the last publication has the SVIDs of this cache.
-    fn has_svids(&self, cache: &Cache) -> bool
-        ensures { result ≡ pointwise same_svid self.now.published.svids cache.now.svids }
+    fn has_svids(&self, alloc: Global, cache: &KeptSvids) -> Result<bool, Memory>
+        ensures { IfOk result (λ same. same ≡ pointwise same_svid self.now.published.svids cache.now.svids) }
     {
-        self.published.part().svids.as_slice() == cache.svids()
+        let old = self.published.part().svids.to_row(alloc)?;
+        let new = cache.svids().to_row(alloc)?;
+        Ok(old == new)
     }
 
     /// The cache, unless the last publication shows it with this stock.
-    fn unless_shown(&self, stock: &Stock, cache: Cache, is_same: bool) -> Option<Cache>
+    fn unless_shown(&self, stock: &Stock, cache: KeptSvids, is_same: bool) -> Option<KeptSvids>
         requires cached { cache.asks ≡ asks_of stock.now.entries }
         requires same { is_same
             ≡ shows_parts self.now.published stock.now.entries cache.svids stock.now.bundles }
@@ -163,7 +165,8 @@ impl<V: Voucher> Store<V> {
         let (bundles, same_bundles) = self.known_bundles(alloc, bundles)?;
         let index = self.index_for(alloc, entries.part().as_slice(), same_entries)?;
         let touched = self.ids_touched(alloc, entries.part().as_slice(), same_entries)?;
-        let is_same = same_entries && self.has_svids(&cache) && same_bundles;
+        let same_svids = self.has_svids(alloc, &cache)?;
+        let is_same = same_entries && same_svids && same_bundles;
         let stock = Stock {
             entries,
             index,

@@ -102,7 +102,9 @@ pub fn differing_ids(alloc: Global, old: &Snapshot, new: &Snapshot) -> Result<Ro
     let (before, after) = (old.entries.part().as_slice(), new.entries.part().as_slice());
     push_gone(alloc, before, after, &mut ids)?;
     push_new(alloc, before, after, &mut ids)?;
-    let (before, after) = (old.svids.as_slice(), new.svids.as_slice());
+    let old_svids = old.svids.to_row(alloc)?;
+    let new_svids = new.svids.to_row(alloc)?;
+    let (before, after) = (old_svids.as_slice(), new_svids.as_slice());
     push_gone(alloc, before, after, &mut ids)?;
     push_new(alloc, before, after, &mut ids)?;
     Ok(Row::from_vec(ids))
@@ -127,10 +129,7 @@ pub fn is_same_at(old: &Snapshot, new: &Snapshot, id: &[u8]) -> bool
     same_option(
         find_by_key(old.entries.part().as_slice(), id),
         find_by_key(new.entries.part().as_slice(), id),
-    ) && same_option(
-        find_by_key(old.svids.as_slice(), id),
-        find_by_key(new.svids.as_slice(), id),
-    )
+    ) && same_option(old.svids.find(id), new.svids.find(id))
 }
 
 /// Whether the bundle of this domain is another one.

@@ -31,7 +31,10 @@ fn is_whole(alloc: Global, snapshot: &Snapshot) -> Result<bool, AllocError> {
     let Some(before) = snapshot.number.checked_sub(1) else {
         return Ok(true);
     };
-    let (Some(entry), Some(svid)) = (snapshot.entries.part().get(0), snapshot.svids.get(0)) else {
+    let Some(entry) = snapshot.entries.part().get(0) else {
+        return Ok(false);
+    };
+    let Some(svid) = snapshot.svids.find(entry.part().id.as_slice()) else {
         return Ok(false);
     };
     let hint = &entry.part().hint;

@@ -5,6 +5,7 @@ ghost use Rattle.wl_entry.specs.Asks.{ask_of};
 ghost use Rattle.wl_entry.specs.Limits.{EntryWithin, SignedWithin, BundleWithin};
 
 use super::callers::{Stop, selectors};
+use sorted_blocks::SortedBlocks;
 use spiffe_id::{SpiffeId, TrustDomain};
 use std::alloc::Global;
 use wl_entry::limits::{
@@ -183,11 +184,12 @@ fn bundle(alloc: Global) -> Result<Bundle, Stop>
 }
 
 /// The SVID of an entry, alone.
-fn svid(alloc: Global, entry: &Entry, signed: Signed) -> Result<Row<Shared<Svid>>, Memory>
+fn svid(alloc: Global, entry: &Entry, signed: Signed) -> Result<SortedBlocks<Svid>, Memory>
     ensures { IfOk result (λ r. r ≡ record { ask = ask_of entry.now; signed = signed } ∷ []) }
 {
     let ask = entry.ask(alloc)?;
-    alone(alloc, Svid { ask, signed })
+    let svids = alone(alloc, Svid { ask, signed })?;
+    SortedBlocks::of(alloc, svids.as_slice())
 }
 
 /// A publication of an entry, its SVID and a bundle.

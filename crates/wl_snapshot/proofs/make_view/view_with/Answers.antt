@@ -9,7 +9,7 @@ unfolding sight_of
 invariant_of-result c =
     let is = subst IsPublication c.snapshot.view_is c.snapshot.invariant in
     let domain = c.in_ok-domain.ensures ∙ ap (λ p. p.domain) c.snapshot.view_is in
-    let held = c.in_ok-held.ensures ∙ ap (λ svids. map (held_of svids) c.args.entries.now) (c.as_slice-2.ensures ∙ ap (λ p. p.svids) c.snapshot.view_is) in
+    let held = c.in_ok-held.ensures ∙ ap (λ svids. map (held_of svids) c.args.entries.now) (ap (λ p. p.svids) c.snapshot.view_is) in
     let own = c.as_bytes.ensures.value ∙ domain in
     let all = c.as_slice.ensures ∙ c.part.ensures ∙ ap (λ p. p.bundles) c.snapshot.view_is in
     let bundles = c.in_ok-bundles.ensures ∙ (λ i. filter (is_seen (own i) c.args.entries.now) (all i)) in

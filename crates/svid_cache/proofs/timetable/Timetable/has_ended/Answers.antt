@@ -1,18 +1,19 @@
-use Rattle.std.proofs.Common.{sym, ◌∙◌, ap}
+use Rattle.std.specs.Prelude.{not}
+use Rattle.std.proofs.Common.{sym, ◌∙◌}
+use Rattle.sorted_blocks.specs.Blocks.{join}
+use Rattle.svid_cache.specs.Caches.{lasts}
 use Rattle.svid_cache.specs.Timetables.{cached_by}
-use Rattle.svid_cache.proofs.Ending.{has_come, ended_by, all_kept}
+use Rattle.svid_cache.proofs.Ending.{any_join, ended_is, all_kept}
 use Rattle.svid_cache.proofs.timetable.Timetable.has_ended.Goals as goal
 
-pub returns-in-Some-clause-ended : goal.returns-in-Some-clause-ended
-returns-in-Some-clause-ended c = λ svids about.
-    ap (has_come c.args.now) (sym c.in-Some.is) ∙ ended_by c.args.now c.self.inside.end (cached_by c.args.self.now svids) ((λ i. (c.self.view_is i).end) ∙ about.ends)
+pub returns-then-may_have_ended-clause-ended : goal.returns-then-may_have_ended-clause-ended
+returns-then-may_have_ended-clause-ended c =
+    c.any_ended_in.ensures ∙ (any_join (λ s. not (lasts c.args.now s)) c.blocks-then-may_have_ended.result.now ∙ ended_is c.args.now (cached_by c.args.self.now c.args.svids.now) (join c.blocks-then-may_have_ended.result.now) c.blocks-then-may_have_ended.ensures)
 
-pub returns-in-Some-clause-kept : goal.returns-in-Some-clause-kept
-returns-in-Some-clause-kept c = λ svids about none. all_kept c.args.now (cached_by c.args.self.now svids) (sym (returns-in-Some-clause-ended c svids about) ∙ none)
+pub returns-then-may_have_ended-clause-kept : goal.returns-then-may_have_ended-clause-kept
+returns-then-may_have_ended-clause-kept c = λ none.
+    all_kept c.args.now (cached_by c.args.self.now c.args.svids.now) (sym (returns-then-may_have_ended-clause-ended c) ∙ none)
 
-pub returns-in-None-clause-ended : goal.returns-in-None-clause-ended
-returns-in-None-clause-ended c = λ svids about.
-    ap (has_come c.args.now) (sym c.in-None.is) ∙ ended_by c.args.now c.self.inside.end (cached_by c.args.self.now svids) ((λ i. (c.self.view_is i).end) ∙ about.ends)
-
-pub returns-in-None-clause-kept : goal.returns-in-None-clause-kept
-returns-in-None-clause-kept c = λ svids about none. all_kept c.args.now (cached_by c.args.self.now svids) (sym (returns-in-None-clause-ended c svids about) ∙ none)
+pub returns-else-may_have_ended-clause-kept : goal.returns-else-may_have_ended-clause-kept
+returns-else-may_have_ended-clause-kept c = λ none.
+    all_kept c.args.now (cached_by c.args.self.now c.args.svids.now) (c.may_have_ended.ensures c.args.svids.now c.requires none)

@@ -1,7 +1,6 @@
-use Rattle.std.proofs.Common.{min, sym, ◌∙◌, ap, subst}
-use Rattle.std.specs.List.{reduce}
+use Rattle.std.proofs.Common.{sym, ◌∙◌, subst}
 use Rattle.svid_cache.specs.Caches.{IsCached}
-use Rattle.svid_cache.specs.Queue.{Filed, NotBefore, NoneBelow}
+use Rattle.svid_cache.specs.Queue.{Filed, NotBefore, NoneBelow, NoneEndsBefore}
 use Rattle.svid_cache.proofs.timetable.Timetable.of.Goals as goal
 
 pub returns-clause-about : goal.returns-clause-about
@@ -9,6 +8,5 @@ returns-clause-about c = record {
   cached = subst (λ a. IsCached (record { asks = a; svids = c.args.svids.now })) (sym c.in_ok-new.ensures.ok) c.requires;
   filed = subst (λ a. Filed (NotBefore c.args.svids.now) 64 c.in_ok-firsts.firsts.items a) (c.as_slice.ensures ∙ sym c.in_ok-new.ensures.ok) c.in_ok-firsts.ensures;
   none_below = subst (NoneBelow c.least.result) c.as_slice-2.ensures.value c.least.ensures;
-  each_end = c.in_ok-ends.ensures;
-  ends = c.first_end.ensures ∙ ap (reduce min) (c.as_slice-3.ensures.value ∙ c.in_ok-ends.ensures);
+  ends = subst (NoneEndsBefore c.first_end_in.result) c.blocks-2.ensures c.first_end_in.ensures;
 }

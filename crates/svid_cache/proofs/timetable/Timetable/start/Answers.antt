@@ -1,6 +1,5 @@
 use Rattle.std.proofs.Common.{[], refl}
 use Rattle.svid_cache.specs.Queue.{NotBefore}
-use Rattle.svid_cache.proofs.Ending.{no_ends}
 use Rattle.svid_cache.proofs.Filing.{filed_none, no_seconds}
 use Rattle.svid_cache.proofs.Keeping.{empty_cached}
 use Rattle.svid_cache.proofs.timetable.Timetable.start.Goals as goal
@@ -10,6 +9,5 @@ returns-clause-about c = record {
   cached = empty_cached [] refl;
   filed = filed_none (NotBefore []) 64 c.new.result.items [] c.new.ensures.items refl;
   none_below = no_seconds 18446744073709551615 c.new.result.items c.new.ensures.items;
-  each_end = c.new-2.ensures.items;
-  ends = no_ends [] refl;
+  ends = tt;
 }

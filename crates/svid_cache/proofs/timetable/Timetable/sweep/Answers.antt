@@ -1,12 +1,10 @@
-use Rattle.std.proofs.Common.{◌≡◌, ◌++◌, length, map, filter, take, drop, min, rules, sym, ◌∙◌, ap, subst}
-use Rattle.std.specs.List.{reduce}
-use Rattle.std.proofs.lemmas.Fn.{filter_same}
+use Rattle.std.proofs.Common.{◌≡◌, ◌≤◌, ◌++◌, length, map, filter, take, drop, sym, ◌∙◌, ap, subst}
 use Rattle.svid_cache.specs.Caches.{lasts}
 use Rattle.svid_cache.specs.Inside.{asks_in}
 use Rattle.svid_cache.specs.Queue.{Filed, NotBefore, NoneBelow, svid_end, clear_second}
 use Rattle.svid_cache.specs.Timetables.{IsAbout}
 use Rattle.svid_cache.proofs.Filing.{filed_swept, written}
-use Rattle.svid_cache.proofs.Gaps.{ends_swept}
+use Rattle.list_laws.proofs.Elements.{all_filter}
 use Rattle.svid_cache.proofs.Keeping.{swept_cached}
 use Rattle.svid_cache.proofs.timetable.Timetable.sweep.Goals as goal
 
@@ -18,12 +16,9 @@ returns-clause-about c = λ svids is.
     let all : length c.self.inside.firsts.items ≡ c.self.inside.firsts.len = sym (ap length c.as_mut_slice.ensures.value) ∙ c.as_mut_slice.ensures.len in
     let firsts : take c.self.inside.firsts.len (c.clear_until.new.firsts ++ drop (length c.clear_until.new.firsts) c.self.inside.firsts.items) ≡ map (clear_second c.args.now) c.self.inside.firsts.items =
     written c.clear_until.new.firsts c.self.inside.firsts.items c.self.inside.firsts.len long all ∙ mapped in
-    let left : c.retain.new.self.items ≡ map svid_end (filter (lasts c.args.now) svids) =
-    filter_same _ _ _ (λ x b f' k. search rules) _ _ c.retain.ensures.filtered ∙ ends_swept c.args.now svids c.self.inside.ends.items about.each_end in
     record {
       cached = swept_cached c.args.now (asks_in c.self.inside.asks) svids about.cached;
       filed = subst (λ f. Filed (NotBefore (filter (lasts c.args.now) svids)) 64 f (asks_in c.self.inside.asks)) (sym firsts) (filed_swept c.args.now 64 svids c.self.inside.firsts.items (asks_in c.self.inside.asks) about.filed);
       none_below = subst (NoneBelow c.least-self-inside.result) c.as_slice.ensures.value c.least-self-inside.ensures;
-      each_end = left;
-      ends = c.first_end-self-inside.ensures ∙ ap (reduce min) (c.as_slice-2.ensures.value ∙ left);
+      ends = all_filter (λ s. c.self.inside.end ≤ svid_end s) (lasts c.args.now) svids about.ends;
     }

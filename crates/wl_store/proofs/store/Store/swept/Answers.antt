@@ -1,7 +1,7 @@
-use Rattle.std.proofs.Common.{◌≡◌, filter, refl, sym, ◌∙◌, ap, subst}
+use Rattle.std.proofs.Common.{◌≡◌, true, filter, refl, sym, ◌∙◌, ap, subst}
 use Rattle.std.specs.Cmp.Lexicographic.{pointwise}
 use Rattle.wl_entry.specs.Same.{same_svid}
-use Rattle.svid_cache.specs.Caches.{lasts, without_ended}
+use Rattle.svid_cache.specs.Caches.{lasts, has_ended, without_ended}
 use Rattle.svid_cache.specs.Timetables.{cached_by}
 use Rattle.wl_store.specs.Steps.{AllTrusted}
 use Rattle.wl_store.proofs.Settling.{still_trusted, ended_differs, all_same}
@@ -17,13 +17,15 @@ pub returns-then-has_ended-clause-same : goal.returns-then-has_ended-clause-same
 returns-then-has_ended-clause-same g c =
     let s = c.args.self.now.store in
     let svids : c.in_ok-cache.cache.svids ≡ filter (lasts c.args.now) s.svids = (λ i. (c.in_ok-cache.ensures i).svids) ∙ ap (filter (lasts c.args.now)) c.svids-svids.ensures.svids in
-    let differs = ended_differs c.args.now (cached_by c.table.result.now s.svids) (sym (c.has_ended.ensures.ended s.svids c.table.ensures.about) ∙ c.if-has_ended.true) in
+    let ended : has_ended c.args.now (cached_by c.table.result.now s.svids) ≡ true = ap (λ l. has_ended c.args.now (cached_by c.table.result.now l)) (sym c.svids-svids.ensures.svids) ∙ (sym c.has_ended.ensures.ended ∙ c.if-has_ended.true) in
+    let differs = ended_differs c.args.now (cached_by c.table.result.now s.svids) ended in
     sym (ap (pointwise same_svid s.svids) svids ∙ differs)
 
 pub returns-clause-value : goal.returns-clause-value
 returns-clause-value g c =
     let s = c.args.self.now.store in
-    sym (ap (without_ended c.args.now) (sym c.table.ensures.value) ∙ (c.has_ended.ensures.kept s.svids c.table.ensures.about c.if-has_ended.false ∙ c.table.ensures.value))
+    let kept = subst (λ l. without_ended c.args.now (cached_by c.table.result.now l) ≡ cached_by c.table.result.now l) c.svids-svids.ensures.svids (c.has_ended.ensures.kept c.if-has_ended.false) in
+    sym (ap (without_ended c.args.now) (sym c.table.ensures.value) ∙ (kept ∙ c.table.ensures.value))
 
 pub returns-clause-same : goal.returns-clause-same
 returns-clause-same g c = sym (all_same c.args.self.now.store.svids c.args.self.now.store.svids refl)

@@ -1,0 +1,9 @@
+use Rattle.std.proofs.Common.{◌≤◌, take}
+use Rattle.svid_cache.specs.Queue.{NoneEndsBefore}
+use Rattle.svid_cache.proofs.kept.first_end.Given as goal
+
+abbrev pub invariant-loop-svid : goal.invariant-loop-svid
+invariant-loop-svid l = record {
+  ends : NoneEndsBefore l.first (take l.svid-index l.svids);
+  other : l.first ≤ l.other;
+}

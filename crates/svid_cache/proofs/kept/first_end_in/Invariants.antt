@@ -1,0 +1,7 @@
+use Rattle.std.proofs.Common.{take}
+use Rattle.sorted_blocks.specs.Blocks.{join}
+use Rattle.svid_cache.specs.Queue.{NoneEndsBefore}
+use Rattle.svid_cache.proofs.kept.first_end_in.Given as goal
+
+abbrev pub invariant-loop-block : goal.invariant-loop-block
+invariant-loop-block l = NoneEndsBefore l.first (join (take l.block-index l.blocks))
