@@ -59,6 +59,19 @@ fn keep_all(
     Ok(kept)
 }
 
+/// The SVIDs that are kept, as a publication has them.
+fn keep_in_blocks(
+    alloc: Global,
+    entries: &[Entry],
+    given: Row<DocSvid>,
+) -> Result<SortedBlocks<Svid>, Memory>
+    requires { Rises (map entry_key entries.now) }
+    ensures { IfOk result (λ b. b ≡ kept_in entries.now given) }
+{
+    let kept = keep_all(alloc, entries, given)?;
+    SortedBlocks::of(alloc, kept.as_slice())
+}
+
 /// The same items, as parts that can be shared.
 fn share_all<T: Drop>(alloc: Global, items: Row<T>) -> Result<Row<Shared<T>>, Memory>
     ensures { IfOk result (λ r. r ≡ items) }
@@ -89,8 +102,7 @@ pub(crate) fn publication(alloc: Global, state: AuthorityState) -> Result<Snapsh
         entries,
         svids,
     } = state;
-    let svids = keep_all(alloc, entries.as_slice(), svids)?;
-    let svids = SortedBlocks::of(alloc, svids.as_slice())?;
+    let svids = keep_in_blocks(alloc, entries.as_slice(), svids)?;
     let entries = share_list(alloc, entries)?;
     let bundles = share_list(alloc, bundles)?;
     Ok(Snapshot {
