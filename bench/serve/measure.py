@@ -84,7 +84,7 @@ class Measured:
 
 def message_of(socket):
     with grpc.insecure_channel(f"unix:{socket}", [("grpc.max_receive_message_length", 8_000_000)]) as opened:
-        return next(opened.unary_stream(API + "FetchX509SVID")(b"", metadata=(SECURITY,), timeout=30))
+        return next(opened.unary_stream(API + "FetchX509SVID")(b"", metadata=(SECURITY,), timeout=30, wait_for_ready=True))
 
 
 def go_server(folder, name, message, *words):
