@@ -1,5 +1,5 @@
 -- What a frame does to the windows and the streams of the outbox, whatever is said of the streams.
-use Rattle.std.proofs.Common.{◌≡◌, ℕ, ◌+◌, ◌<◌, ◌==◌, ◌%◌, ◌∙◌, Bool, true, false, not, cond, ◌&&◌, ◌||◌, nat_lt, ℤ, pos, ◌+ℤ◌, List, [], ◌∷◌, ◌++◌, length, map, filter, Option, Some, None, Result, Ok, Err, refl, sym, ap, subst, inl, inr, arith, eqb-true, ne_eqb, eq-eqb, add-zero, int_lt}
+use Rattle.std.proofs.Common.{◌≡◌, ℕ, ◌+◌, ◌==◌, ◌%◌, ◌∙◌, Bool, true, false, not, cond, ◌&&◌, ◌||◌, nat_lt, ℤ, pos, ◌+ℤ◌, List, [], ◌∷◌, ◌++◌, length, map, filter, Option, Some, None, Result, Ok, Err, refl, sym, ap, subst, inl, inr, arith, eqb-true, ne_eqb, add-zero, int_lt}
 use Rattle.std.specs.List.{list_any, AllByRecursion}
 use Rattle.std.proofs.lemmas.Bool.{cases_Bool}
 use Rattle.std.proofs.lemmas.Int.{ints}
@@ -15,9 +15,8 @@ use Rattle.h2_frame.specs.declared.frame.Body.{Body}
 use Rattle.h2_frame.specs.declared.frame.Body.TheVariants.{Bytes, Headers, Priority, Reset, Settings, SettingsAck, PushPromise, Ping, GoAway, WindowUpdate, Continuation, Unknown}
 use Rattle.h2_frame.specs.declared.frame.Frame.{Frame}
 use Rattle.h2_frame.specs.declared.frame.Setting.{Setting}
-use Rattle.h2_flow.specs.declared.overflow.Overflow.{Overflow}
 use Rattle.h2_flow.specs.declared.stream.Stream as flow
-use Rattle.h2_flow.specs.Outboxes.{Out, RisesFrom, is_number, has_stream, numbers, update_stream, new_stream, with_stream, without_stream, with_control, with_size_update, is_written, has_size_update, credit_of, with_step, with_connection_step, with_stream_step, first_over, with_initial, set_initial_window}
+use Rattle.h2_flow.specs.Outboxes.{Out, RisesFrom, is_number, numbers, update_stream, new_stream, with_stream, without_stream, with_control, with_size_update, is_written, has_size_update, credit_of, with_step, with_connection_step, with_stream_step, first_over, with_initial, set_initial_window}
 use Rattle.h2_flow.specs.Windows.{window_of}
 use Rattle.h2_flow.proofs.Orders.{rises_from}
 use Rattle.h2_conn.specs.declared.fault.ConnCause.TheVariants as cause

@@ -11,7 +11,7 @@ use Rattle.h2_conn.specs.declared.fault.ConnError.{ConnError}
 use Rattle.h2_conn.specs.declared.fault.ConnError.TheVariants as refusal
 use Rattle.h2_conn.specs.declared.happening.Happening.{Happening}
 use Rattle.h2_conn.specs.declared.state.State.{State}
-use Rattle.h2_conn.specs.Peer.{Outcome, fails, fault, nothing, or_else, first_row, table, peer, even_stream, continuation_flood, BlockFragment, first_fragment, next_fragment, if_fragment, too_long, grows, is_wrong, if_wrong, if_right, with_headers, decoding, with_decoder, new_head_row, closed_stream_row, ended_stream_row, trailers_row}
+use Rattle.h2_conn.specs.Peer.{Outcome, fault, nothing, or_else, first_row, table, peer, even_stream, continuation_flood, BlockFragment, first_fragment, next_fragment, if_fragment, too_long, grows, is_wrong, if_wrong, if_right, with_headers, decoding, with_decoder, new_head_row, closed_stream_row, ended_stream_row, trailers_row}
 use Rattle.h2_conn.specs.Kinds.{Steps, guard_rows, Guards, kind_rows, header_list_rows, fragment_rows}
 
 -- the rows of a whole block, in the order in which a decoding decides

@@ -1,6 +1,6 @@
 -- The windows of a connection are sums over what came to it and what it wrote.
-use Rattle.std.proofs.Common.{◌≡◌, ℕ, ◌+◌, ◌<◌, ◌≤◌, ◌==◌, ◌∙◌, Bool, true, false, not, cond, nat_lt, ℤ, pos, ◌+ℤ◌, ◌-ℤ◌, List, [], ◌∷◌, map, sum_by, Option, Some, None, refl, sym, ap, subst, inl, inr, arith, eq-eqb, eqb-true, ne_eqb}
-use Rattle.std.specs.List.{take_while, AllByRecursion}
+use Rattle.std.proofs.Common.{◌≡◌, ℕ, ◌+◌, ◌<◌, ◌==◌, ◌∙◌, Bool, true, false, not, cond, nat_lt, ℤ, pos, ◌+ℤ◌, ◌-ℤ◌, List, [], ◌∷◌, map, sum_by, Option, Some, None, refl, sym, ap, subst, inl, inr, arith, eq-eqb, eqb-true, ne_eqb}
+use Rattle.std.specs.List.{AllByRecursion}
 use Rattle.std.proofs.lemmas.Bool.{cases_Bool, ltb-true}
 use Rattle.std.proofs.lemmas.Int.{ints}
 use Rattle.std.proofs.lemmas.List.Sums.{sum_by-cons, take_while-cons}
@@ -10,9 +10,9 @@ use Rattle.h2_frame.specs.declared.frame.Body.TheVariants.{Reset}
 use Rattle.h2_frame.specs.declared.frame.Frame.{Frame}
 use Rattle.h2_flow.specs.declared.stream.Stream as flow
 use Rattle.h2_flow.specs.Streams.{Sent}
-use Rattle.h2_flow.specs.Histories.{data_of, data_on}
+use Rattle.h2_flow.specs.Histories.{data_on}
 use Rattle.h2_flow.specs.Windows.{window_of}
-use Rattle.h2_flow.specs.Outboxes.{Out, PullResult, pull_of, numbers, is_number, update_stream, without_stream, with_control, new_stream, with_head, with_offer, with_message, without_waiting, with_trailers}
+use Rattle.h2_flow.specs.Outboxes.{pull_of, update_stream, with_control, new_stream, with_head, with_offer, with_message, without_waiting, with_trailers}
 use Rattle.h2_flow.proofs.Numbers.{numbers_pulled}
 use Rattle.h2_flow.proofs.Sums.{Spent, pull_sums}
 use Rattle.h2_conn.specs.declared.happening.Happening.{Happening}

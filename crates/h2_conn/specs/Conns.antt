@@ -94,6 +94,12 @@ out_of_memory (Open q) = OutOfMemory (totals_of q)
 out_of_memory (Failed fault left totals) = OutOfMemory totals
 out_of_memory (OutOfMemory totals) = OutOfMemory totals
 
+-- The state of a connection that goes on is taken out; until it is put back the connection is out of memory. One that has failed has none to give.
+abbrev pub GivesState : Result (Option State) Memory → Phase → Phase → Type 0
+GivesState (Ok (Some q)) old new = (old ≡ Open q) × (new ≡ OutOfMemory (totals_of q))
+GivesState (Ok None) old new = ((fault : ConnFault) × (left : List ℕ) × (totals : Totals) × (old ≡ Failed fault left totals)) × (new ≡ old)
+GivesState (Err e) old new = ((totals : Totals) × (old ≡ OutOfMemory totals)) × (new ≡ old)
+
 -- A call that may answer Memory: a connection that has failed has nothing to do and does it; after running out of memory each call answers that.
 abbrev pub Lasts : {T : Type 0} → Phase → Result T Memory → Type 0
 Lasts (Open q) result = Unit {0}

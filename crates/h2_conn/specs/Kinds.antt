@@ -10,7 +10,6 @@ use Rattle.h2_frame.specs.declared.frame.Body.TheVariants.{Bytes, Headers, Prior
 use Rattle.h2_frame.specs.declared.frame.Frame.{Frame}
 use Rattle.h2_frame.specs.declared.frame.Setting.{Setting}
 use Rattle.h2_conn.specs.declared.fault.ConnCause.TheVariants as cause
-use Rattle.h2_conn.specs.declared.fault.ConnFault.{ConnFault}
 use Rattle.h2_conn.specs.declared.fault.ConnError.{ConnError}
 use Rattle.h2_conn.specs.declared.fault.ConnError.TheVariants as refusal
 use Rattle.h2_conn.specs.declared.happening.Happening.{Happening}

@@ -6,11 +6,11 @@ ghost use Rattle.hpack.specs.declared.limit.TheConstants.{MAX_LIST_SIZE};
 ghost use Rattle.hpack.specs.Tables.{list_size};
 ghost use Rattle.hpack.specs.Writing.{block_bytes};
 ghost use Rattle.h2_frame.specs.declared.fault.FrameFault.TheVariants as frames;
-ghost use Rattle.h2_conn.specs.declared.phase.Phase.TheVariants.{Open};
+ghost use Rattle.h2_conn.specs.declared.phase.Phase.TheVariants.{Open, Failed};
 ghost use Rattle.h2_conn.specs.Faults.{cause_of};
 ghost use Rattle.h2_conn.specs.Kinds.{Fits};
 ghost use Rattle.h2_conn.specs.Naming.{NamesOn};
-ghost use Rattle.h2_conn.specs.Conns.{is_live_on, live_on, is_going, begun_on, new_state, told_list, frame_result, Refuses, Repeats, Lasts, out_of_memory, frame_fault_on, after_frame_fault, with_head_on, with_trailers_on, after_reset, on_open, offers, withdraws, flush_of};
+ghost use Rattle.h2_conn.specs.Conns.{is_live_on, live_on, is_going, begun_on, new_state, told_list, frame_result, Refuses, Repeats, Lasts, out_of_memory, GivesState, frame_fault_on, after_frame_fault, goaway, with_head_on, with_trailers_on, after_reset, on_open, offers, withdraws, flush_of};
 
 use crate::answers;
 use crate::control::failure;
@@ -31,8 +31,8 @@ use wl_octets::{Header, Memory, Octets, Row, Shared};
 
 /// A connection of HTTP/2, as a server sees its peer (RFC 9113).
 ///
-/// After a fault it has no live stream, and writes nothing behind its GOAWAY. After want of
-/// memory it fails for good: each later call that can answer it answers it.
+/// After a fault it has no live stream, and writes nothing after its GOAWAY. After it ran out
+/// of memory it fails for good: each later call that can answer that answers it.
 #[derive(Drop)]
 pub struct Conn {
     alloc: Global,
@@ -65,6 +65,49 @@ fn totals(phase: &Phase) -> Totals
     }
 }
 
+/// Takes a connection's phase out. Until one is put back the connection is out of memory, so a
+/// call that stops on its way leaves it so.
+fn take(phase: &mut Phase) -> Phase
+    ensures taken { result ≡ phase.old }
+    ensures left { phase.new ≡ out_of_memory phase.old }
+{
+    let totals = totals(phase);
+    mem::replace(phase, Phase::OutOfMemory(totals))
+}
+
+/// Takes the state out of a connection that goes on. One that has failed stays as it is.
+fn take_state(phase: &mut Phase) -> Result<Option<State>, Memory>
+    ensures { GivesState result phase.old phase.new }
+{
+    match take(phase) {
+        Phase::Open(state) => Ok(Some(state)),
+        Phase::OutOfMemory(_) => Err(Memory),
+        failed => {
+            *phase = failed;
+            Ok(None)
+        }
+    }
+}
+
+/// Where a fault leaves a connection: the queued control frames and GOAWAY are all that is
+/// still written.
+fn failed_phase(
+    alloc: Global,
+    state: &State,
+    fault: ConnFault,
+    totals: Totals,
+) -> Result<Phase, Memory>
+    ensures { IfOk result
+        (λ phase. phase ≡ Failed fault (state.now.outbox.control ++ goaway fault) totals) }
+{
+    let left = final_bytes(alloc, state.outbox.queued(), fault)?;
+    Ok(Phase::Failed {
+        fault,
+        left,
+        totals,
+    })
+}
+
 /// The cause of bytes that are no frames.
 fn cause_of(why: FrameFault) -> ConnCause
     requires { why ≡ frames.Memory → ⊥ }
@@ -79,7 +122,7 @@ fn cause_of(why: FrameFault) -> ConnCause
     }
 }
 
-/// Puts what a frame told behind what `into` holds.
+/// Appends what a frame told.
 fn tell(told: Option<Happening>, into: &mut Row<Happening>) -> Result<(), Memory>
     ensures ok { OnOk result (into.new ≡ into.old ++ told_list told) }
     ensures err { OnErr result (into.new ≡ into.old) }
@@ -131,8 +174,7 @@ impl Conn {
         ensures again { Repeats self.old result }
         ensures named { NamesOn self.old frame }
     {
-        let totals = totals(&self.phase);
-        match mem::replace(&mut self.phase, Phase::OutOfMemory(totals)) {
+        match take(&mut self.phase) {
             Phase::Open(mut state) => match step(&mut state, self.alloc, frame) {
                 Ok(told) => {
                     tell(told, into)?;
@@ -140,12 +182,7 @@ impl Conn {
                     Ok(())
                 }
                 Err(ConnError::Fault(fault)) => {
-                    let left = final_bytes(self.alloc, state.outbox.queued(), fault)?;
-                    self.phase = Phase::Failed {
-                        fault,
-                        left,
-                        totals,
-                    };
+                    self.phase = failed_phase(self.alloc, &state, fault, totals(&self.phase))?;
                     Err(ConnError::Fault(fault))
                 }
                 Err(ConnError::Memory) => Err(ConnError::Memory),
@@ -175,16 +212,10 @@ impl Conn {
         ensures err { OnErr result (self.new ≡ out_of_memory self.old) }
         ensures again { Lasts self.old result }
     {
-        let totals = totals(&self.phase);
-        match mem::replace(&mut self.phase, Phase::OutOfMemory(totals)) {
+        match take(&mut self.phase) {
             Phase::Open(state) => {
                 let fault = failure(&state, cause_of(why));
-                let left = final_bytes(self.alloc, state.outbox.queued(), fault)?;
-                self.phase = Phase::Failed {
-                    fault,
-                    left,
-                    totals,
-                };
+                self.phase = failed_phase(self.alloc, &state, fault, totals(&self.phase))?;
                 Ok(fault)
             }
             Phase::Failed {
@@ -214,27 +245,11 @@ impl Conn {
         ensures err { OnErr result (self.new ≡ out_of_memory self.old) }
         ensures again { Lasts self.old result }
     {
-        let totals = totals(&self.phase);
-        match mem::replace(&mut self.phase, Phase::OutOfMemory(totals)) {
-            Phase::Open(mut state) => {
-                answers::head(&mut state, self.alloc, stream, headers)?;
-                self.phase = Phase::Open(state);
-                Ok(())
-            }
-            Phase::Failed {
-                fault,
-                left,
-                totals,
-            } => {
-                self.phase = Phase::Failed {
-                    fault,
-                    left,
-                    totals,
-                };
-                Ok(())
-            }
-            Phase::OutOfMemory(_) => Err(Memory),
+        if let Some(mut state) = take_state(&mut self.phase)? {
+            answers::head(&mut state, self.alloc, stream, headers)?;
+            self.phase = Phase::Open(state);
         }
+        Ok(())
     }
 
     /// Gives a stream its last headers, which are written with END_STREAM once no message is
@@ -247,27 +262,11 @@ impl Conn {
         ensures err { OnErr result (self.new ≡ out_of_memory self.old) }
         ensures again { Lasts self.old result }
     {
-        let totals = totals(&self.phase);
-        match mem::replace(&mut self.phase, Phase::OutOfMemory(totals)) {
-            Phase::Open(mut state) => {
-                answers::finish(&mut state, self.alloc, stream, headers)?;
-                self.phase = Phase::Open(state);
-                Ok(())
-            }
-            Phase::Failed {
-                fault,
-                left,
-                totals,
-            } => {
-                self.phase = Phase::Failed {
-                    fault,
-                    left,
-                    totals,
-                };
-                Ok(())
-            }
-            Phase::OutOfMemory(_) => Err(Memory),
+        if let Some(mut state) = take_state(&mut self.phase)? {
+            answers::finish(&mut state, self.alloc, stream, headers)?;
+            self.phase = Phase::Open(state);
         }
+        Ok(())
     }
 
     /// Offers a stream a message, which isn't empty: it takes the place of one that waits, and
@@ -312,32 +311,16 @@ impl Conn {
         ensures err { OnErr result (self.new ≡ out_of_memory self.old) }
         ensures again { Lasts self.old result }
     {
-        let totals = totals(&self.phase);
-        match mem::replace(&mut self.phase, Phase::OutOfMemory(totals)) {
-            Phase::Open(mut state) => {
-                answers::reset(&mut state, stream, code)?;
-                self.phase = Phase::Open(state);
-                Ok(())
-            }
-            Phase::Failed {
-                fault,
-                left,
-                totals,
-            } => {
-                self.phase = Phase::Failed {
-                    fault,
-                    left,
-                    totals,
-                };
-                Ok(())
-            }
-            Phase::OutOfMemory(_) => Err(Memory),
+        if let Some(mut state) = take_state(&mut self.phase)? {
+            answers::reset(&mut state, stream, code)?;
+            self.phase = Phase::Open(state);
         }
+        Ok(())
     }
 
-    /// Writes all that may be written behind what `out` holds: the control frames in the order
-    /// in which they were queued, and then rounds of the streams. After a fault it writes what
-    /// control frames were still queued and GOAWAY, once, and nothing behind it.
+    /// Appends to `out` all that may be written: the control frames in the order in which they
+    /// were queued, and then rounds of the streams. After a fault it writes what control frames
+    /// were still queued and GOAWAY, once, and nothing after it.
     #[tactic(auto, unfolding(crate::specs::Conns::flush_of))]
     pub fn flush(&mut self, out: &mut Octets) -> Result<(), Memory>
         ensures after { OnOk result (self.new ≡ (flush_of self.old).after) }
@@ -346,8 +329,7 @@ impl Conn {
         ensures err { OnErr result (self.new ≡ out_of_memory self.old) }
         ensures again { self.old ≡ out_of_memory self.old → IsErr result }
     {
-        let totals = totals(&self.phase);
-        match mem::replace(&mut self.phase, Phase::OutOfMemory(totals)) {
+        match take(&mut self.phase) {
             Phase::Open(mut state) => {
                 pull(&mut state, self.alloc, out)?;
                 self.phase = Phase::Open(state);

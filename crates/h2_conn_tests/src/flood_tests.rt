@@ -11,6 +11,8 @@ use wl_octets::{Octets, Row};
 
 /// DATA without bytes on stream 1.
 const EMPTY1: &[u8] = b"\0\0\0\0\0\0\0\0\x01";
+/// The same with END_STREAM.
+const EMPTY1_END: &[u8] = b"\0\0\0\0\x01\0\0\0\x01";
 /// CONTINUATION on stream 1, whose block goes on.
 const MORE1: &[u8] = b"\0\0\x01\x09\0\0\0\0\x01\x84";
 
@@ -82,6 +84,21 @@ fn settings_counted_anew(rt: HostRuntime) -> Result<(), Fail> {
     settings_counted_anew_on(&rt, rt.alloc(), &mut conn)
 }
 
+/// DATA that only ends its request ends neither count.
+#[test]
+fn counts_go_on(rt: HostRuntime) -> Result<(), Fail> {
+    for (bytes, kind) in [(S, 4), (EMPTY1, 0)] {
+        let mut conn = Conn::start(rt.alloc())?;
+        goes_on(&rt, rt.alloc(), &mut conn, S)?;
+        goes_on(&rt, rt.alloc(), &mut conn, H1)?;
+        repeats(&rt, rt.alloc(), &mut conn, bytes, 100)?;
+        goes_on(&rt, rt.alloc(), &mut conn, EMPTY1_END)?;
+        let cause = ConnCause::Flood(kind, 101);
+        floods(&rt, rt.alloc(), &mut conn, bytes, 1, cause)?;
+    }
+    Ok(())
+}
+
 fn empty_data_flood_on(rt: &impl Abort, alloc: Global, conn: &mut Conn) -> Result<(), Fail> {
     goes_on(rt, alloc, conn, S)?;
     goes_on(rt, alloc, conn, H1)?;
@@ -148,6 +165,29 @@ fn empty_data_on_a_closed_stream(rt: HostRuntime) -> Result<(), Fail> {
     empty_data_on_closed(&rt, rt.alloc(), &mut conn)
 }
 
+/// The flood is judged before the stream is.
+#[test]
+fn empty_data_on_an_idle_stream(rt: HostRuntime) -> Result<(), Fail> {
+    let mut conn = Conn::start(rt.alloc())?;
+    goes_on(&rt, rt.alloc(), &mut conn, S)?;
+    goes_on(&rt, rt.alloc(), &mut conn, H1)?;
+    repeats(&rt, rt.alloc(), &mut conn, EMPTY1, 100)?;
+    let idle = b"\0\0\0\0\0\0\0\0\x03";
+    let cause = ConnCause::Flood(0, 101);
+    floods(&rt, rt.alloc(), &mut conn, idle, 1, cause)
+}
+
+/// DATA that ends its request is not counted.
+#[test]
+fn empty_data_that_ends(rt: HostRuntime) -> Result<(), Fail> {
+    let mut conn = Conn::start(rt.alloc())?;
+    goes_on(&rt, rt.alloc(), &mut conn, S)?;
+    goes_on(&rt, rt.alloc(), &mut conn, H1)?;
+    goes_on(&rt, rt.alloc(), &mut conn, R1)?;
+    repeats(&rt, rt.alloc(), &mut conn, EMPTY1_END, 101)?;
+    goes_on(&rt, rt.alloc(), &mut conn, EMPTY1)
+}
+
 fn continuation_flood_on(rt: &impl Abort, alloc: Global, conn: &mut Conn) -> Result<(), Fail> {
     goes_on(rt, alloc, conn, S)?;
     goes_on(rt, alloc, conn, H1_OPEN)?;
@@ -167,13 +207,19 @@ fn continuation_flood(rt: HostRuntime) -> Result<(), Fail> {
     continuation_flood_on(&rt, rt.alloc(), &mut conn)
 }
 
-/// Gives a connection a head without END_STREAM.
-fn opens(rt: &impl Abort, alloc: Global, conn: &mut Conn, stream: u32) -> Result<(), Fail> {
+/// Gives a connection a head.
+fn opens(
+    rt: &impl Abort,
+    alloc: Global,
+    conn: &mut Conn,
+    stream: u32,
+    ended: bool,
+) -> Result<(), Fail> {
     let mut into = Row::empty(alloc);
     let block = Octets::from_slice(alloc, b"\x82")?;
     let body = Body::Headers {
         block,
-        ended: false,
+        ended,
         whole: true,
     };
     assert!(rt; take(rt, conn, Frame { stream, body }, &mut into)? == None);
@@ -202,7 +248,7 @@ fn early_resets(
 ) -> Result<(), Fail> {
     for each in 0..times {
         let stream = (first / 2).saturating_add(each).saturating_mul(2) | 1;
-        opens(rt, alloc, conn, stream)?;
+        opens(rt, alloc, conn, stream, false)?;
         assert!(rt; resets(rt, alloc, conn, stream)? == None);
     }
     Ok(())
@@ -216,7 +262,7 @@ fn reset_flood_on(rt: &impl Abort, alloc: Global, conn: &mut Conn) -> Result<(),
         last_stream: 20_001,
         cause: ConnCause::Flood(3, 10_001),
     };
-    opens(rt, alloc, conn, 20_001)?;
+    opens(rt, alloc, conn, 20_001, false)?;
     assert_eq!(rt; resets(rt, alloc, conn, 20_001)?, Some(fault));
     Ok(())
 }
@@ -232,7 +278,7 @@ fn reset_flood(rt: HostRuntime) -> Result<(), Fail> {
 fn resets_counted_anew_on(rt: &impl Abort, alloc: Global, conn: &mut Conn) -> Result<(), Fail> {
     goes_on(rt, alloc, conn, S)?;
     early_resets(rt, alloc, conn, 1, 10_000)?;
-    opens(rt, alloc, conn, 20_001)?;
+    opens(rt, alloc, conn, 20_001, false)?;
     let message = Octets::from_slice(alloc, b"hello")?;
     assert!(rt; message.len() > 0);
     conn.offer(20_001, message);
@@ -255,12 +301,12 @@ fn resets_counted_anew(rt: HostRuntime) -> Result<(), Fail> {
 fn answered_resets_on(rt: &impl Abort, alloc: Global, conn: &mut Conn) -> Result<(), Fail> {
     let mut out = Octets::empty(alloc);
     for each in 0..10_001_u32 {
-        opens(rt, alloc, conn, 2 * each + 1)?;
+        opens(rt, alloc, conn, 2 * each + 1, false)?;
         conn.head(2 * each + 1, &[])?;
         conn.flush(&mut out)?;
         assert!(rt; resets(rt, alloc, conn, 2 * each + 1)? == None);
     }
-    Ok(())
+    early_resets(rt, alloc, conn, 20_003, 1)
 }
 
 #[test]
@@ -268,4 +314,33 @@ fn answered_resets(rt: HostRuntime) -> Result<(), Fail> {
     let mut conn = Conn::start(rt.alloc())?;
     goes_on(&rt, rt.alloc(), &mut conn, S)?;
     answered_resets_on(&rt, rt.alloc(), &mut conn)
+}
+
+/// Gives a connection one byte of DATA.
+fn sends(rt: &impl Abort, alloc: Global, conn: &mut Conn, stream: u32) -> Result<(), Fail> {
+    let mut into = Row::empty(alloc);
+    let body = Body::Bytes {
+        bytes: Octets::from_slice(alloc, b"x")?,
+        size: 1,
+        ended: false,
+    };
+    assert!(rt; take(rt, conn, Frame { stream, body }, &mut into)? == None);
+    Ok(())
+}
+
+/// RST_STREAMs of this side, which DATA after the end of a request provokes, are not counted.
+fn provoked_resets_on(rt: &impl Abort, alloc: Global, conn: &mut Conn) -> Result<(), Fail> {
+    for each in 0..10_000_u32 {
+        opens(rt, alloc, conn, 2 * each + 1, true)?;
+        sends(rt, alloc, conn, 2 * each + 1)?;
+        assert_eq!(rt; conn.live(), 0);
+    }
+    early_resets(rt, alloc, conn, 20_001, 1)
+}
+
+#[test]
+fn provoked_resets(rt: HostRuntime) -> Result<(), Fail> {
+    let mut conn = Conn::start(rt.alloc())?;
+    goes_on(&rt, rt.alloc(), &mut conn, S)?;
+    provoked_resets_on(&rt, rt.alloc(), &mut conn)
 }

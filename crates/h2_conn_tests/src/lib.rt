@@ -12,4 +12,8 @@ mod row_tests;
 #[cfg(test)]
 mod samples;
 #[cfg(test)]
+mod state_rows;
+#[cfg(test)]
+mod state_tests;
+#[cfg(test)]
 mod testing;

@@ -54,6 +54,20 @@ fn header_blocks_are_whole(rt: HostRuntime) -> Result<(), Fail> {
             &[A, G0_1],
         ),
         wrong(
+            "an unknown frame in a block",
+            &[S, H1_OPEN, b"\0\0\0\x0a\0\0\0\0\x01"],
+            1,
+            ConnCause::BlockOpen,
+            &[A, G0_1],
+        ),
+        wrong(
+            "SETTINGS in a block",
+            &[S, H1_OPEN, S],
+            1,
+            ConnCause::BlockOpen,
+            &[A, G0_1],
+        ),
+        wrong(
             "CONTINUATION elsewhere in a block",
             &[S, H1_OPEN, b"\0\0\x01\x09\x04\0\0\0\x03\x84"],
             1,
@@ -140,6 +154,13 @@ fn frames_are_in_their_place(rt: HostRuntime) -> Result<(), Fail> {
             &[S, b"\0\0\x08\x07\0\0\0\0\x01\0\0\0\0\0\0\0\0"],
             1,
             ConnCause::StreamZero,
+            &[A, G0_1],
+        ),
+        wrong(
+            "PUSH_PROMISE on the connection",
+            &[S, b"\0\0\x05\x05\x04\0\0\0\0\0\0\0\x02\x82"],
+            1,
+            ConnCause::Push,
             &[A, G0_1],
         ),
         wrong(
@@ -321,10 +342,28 @@ fn idle_and_closed_streams(rt: HostRuntime) -> Result<(), Fail> {
         Case {
             fault: Some((1, ConnCause::Idle)),
             ..well(
+                "RST_STREAM on an even stream",
+                &[S, H3, b"\0\0\x04\x03\0\0\0\0\x02\0\0\0\x08"],
+                b"H\x03\x01",
+                &[A, G3_1],
+            )
+        },
+        Case {
+            fault: Some((1, ConnCause::EvenStream)),
+            ..well(
+                "HEADERS on an even stream below the last",
+                &[S, H3, b"\0\0\x01\x01\x04\0\0\0\x02\x82"],
+                b"H\x03\x01",
+                &[A, G3_1],
+            )
+        },
+        Case {
+            fault: Some((1, ConnCause::Idle)),
+            ..well(
                 "DATA on an even stream",
                 &[S, H3, b"\0\0\x01\0\0\0\0\0\x02x"],
                 b"H\x03\x01",
-                &[A, b"\0\0\x08\x07\0\0\0\0\0\0\0\0\x03\0\0\0\x01"],
+                &[A, G3_1],
             )
         },
         well(

@@ -67,7 +67,8 @@ pub fn take(
     }
 }
 
-/// Gives a connection the frames of some bytes, and answers the last one's fault.
+/// Gives a connection the frames of some bytes, of which only the last may be a fault, and answers
+/// it.
 pub fn feed(
     rt: &impl Abort,
     alloc: Global,
@@ -77,6 +78,7 @@ pub fn feed(
 ) -> Result<Option<ConnFault>, Fail> {
     let mut fault = None;
     for frame in frames(alloc, bytes)?.into_vec() {
+        assert!(rt; fault == None);
         fault = take(rt, conn, frame, into)?;
     }
     Ok(fault)

@@ -3,5 +3,5 @@ use Rattle.hpack.specs.Writing.{block_bytes}
 use Rattle.h2_conn.proofs.Sounds.{s_finished_on}
 use Rattle.h2_conn.proofs.conn.Conn.finish.Goals as goal
 
-pub invariant_of-self-in-Open : goal.invariant_of-self-in-Open
-invariant_of-self-in-Open c = rw c.in_ok-finish-in-Open.ensures (s_finished_on c.args.stream (block_bytes c.args.headers.now) c.in-Open.state (search rules))
+pub invariant_of-self-in_ok-finish-3 : goal.invariant_of-self-in_ok-finish-3
+invariant_of-self-in_ok-finish-3 c = rw c.in_ok-finish.ensures (s_finished_on c.args.stream (block_bytes c.args.headers.now) c.in-Some.state (search rules))
