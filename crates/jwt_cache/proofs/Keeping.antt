@@ -199,6 +199,9 @@ kept_less q id es n rings seen gone off =
     let old : unwrap_or (lookup (finds q) es) [] ≡ tokens_for rings q = ap (λ (o : Option (List CachedToken)). unwrap_or o []) (sym (kept_bytes q es)) ∙ ap (λ (r : List (List ℕ × List CachedToken)). tokens_for r q) seen in
     ap (λ (o : Option (List CachedToken)). unwrap_or o []) (kept_bytes q n) ∙ forget_by (bytes_eq q id) q id es n refl gone off ∙ ap (λ (r : List CachedToken). if bytes_eq q id then [] else r) old
 
+pub none_kept : (id : List ℕ) (es : List (Vec ℕ Global × List CachedToken)) → lookup (finds id) es ≡ None → lookup (bytes_eq id) (map (λ e. ((e.0).items, e.1)) es) ≡ None
+none_kept id es off = kept_bytes id es ∙ off
+
 none_go : (s : Bool) (id : List ℕ) (k : CachedToken) (rest : List CachedToken) → is_of id k ≡ s → filter (is_of id) rest ≡ [] → filter (is_of id) (cond (not s) (k ∷ rest) rest) ≡ []
 none_go true id k rest is h = h
 none_go false id k rest is h = ap (λ (b : Bool). cond b (k ∷ filter (is_of id) rest) (filter (is_of id) rest)) is ∙ h

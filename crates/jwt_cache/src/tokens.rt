@@ -1,6 +1,7 @@
 //! The tokens of all entries.
 
-ghost use Rattle.std.specs.Prelude.{◌≡◌, ℕ, List, [], ◌∷◌, ◌++◌, map, if◌then◌else◌, IfOk, OnOk, OnErr};
+ghost use Rattle.std.specs.Prelude.{◌≡◌, ℕ, List, [], ◌∷◌, ◌++◌, map, if◌then◌else◌, None, IfOk, OnOk, OnErr};
+ghost use Rattle.std.specs.Map.{lookup};
 ghost use Rattle.std.specs.Str.{bytes_eq};
 ghost use Rattle.wl_selector.specs.Selectors.{sorted_texts};
 ghost use Rattle.jwt_cache.specs.History.{with_token, cached_token_of, find_among, find_in, without_entry};
@@ -151,8 +152,10 @@ impl Tokens {
 
     /// Drops the tokens of an entry. It takes no memory.
     fn drop_ring(&mut self, entry_id: &[u8])
-        ensures { (q : List ℕ)
+        ensures rings { (q : List ℕ)
             → tokens_for self.new q ≡ (if bytes_eq q entry_id.now then [] else tokens_for self.old q) }
+        // Not even an empty list stays of it.
+        ensures gone { lookup (bytes_eq entry_id.now) self.new ≡ None }
     {
         self.rings.remove(entry_id);
     }
@@ -161,6 +164,8 @@ impl Tokens {
     pub fn forget(&mut self, entry_id: &[u8])
         ensures rings { (q : List ℕ)
             → tokens_for self.new q ≡ (if bytes_eq q entry_id.now then [] else tokens_for self.old q) }
+        // Not even an empty list stays of it.
+        ensures gone { lookup (bytes_eq entry_id.now) self.new ≡ None }
         ensures history { (history : List CachedToken) → StandsFor self.old history
             → StandsFor self.new (without_entry entry_id.now history) }
     {

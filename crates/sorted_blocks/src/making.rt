@@ -2,7 +2,7 @@
 
 ghost use Rattle.std.specs.Prelude.{◌≡◌, ◌<◌, ◌≤◌, ◌++◌, map, filter, take, drop, length, IfOk, OnOk};
 ghost use Rattle.list_laws.specs.Lists.{Rises};
-ghost use Rattle.sorted_blocks.specs.Blocks.{join, AreFilled, with_item, is_below, is_above};
+ghost use Rattle.sorted_blocks.specs.Blocks.{join, AreFilled, AreHalfFull, with_item, is_below, is_above};
 
 use sorted_lists::Keyed;
 use std::alloc::Global;
@@ -36,6 +36,8 @@ fn push_items<T: Drop>(
     requires { 0 < length items.now }
     ensures items { OnOk result (join blocks.new.items ≡ join blocks.old.items ++ items.now) }
     ensures filled { AreFilled blocks.old.items → OnOk result (AreFilled blocks.new.items) }
+    ensures half { AreHalfFull blocks.old.items → 64 ≤ length items.now
+        → OnOk result (AreHalfFull blocks.new.items) }
 {
     let block = share_all(alloc, items)?;
     Ok(blocks.push(Shared::new(alloc, block)?)?)
@@ -50,6 +52,8 @@ pub(crate) fn push_block<T: Drop>(
     requires { 0 < length items.now }
     ensures items { OnOk result (join blocks.new.items ≡ join blocks.old.items ++ items.now) }
     ensures filled { AreFilled blocks.old.items → OnOk result (AreFilled blocks.new.items) }
+    ensures half { AreHalfFull blocks.old.items → 64 ≤ length items.now
+        → OnOk result (AreHalfFull blocks.new.items) }
 {
     if items.len() <= LARGEST_BLOCK {
         return push_items(alloc, blocks, items);

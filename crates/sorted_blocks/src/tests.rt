@@ -69,13 +69,15 @@ fn count_found(list: &SortedBlocks<Word>) -> u32
 
 #[test]
 fn all_are_found_however_they_come(rt: HostRuntime) -> Result<(), Fail> {
-    for step in [1, 599, 7] {
+    for (step, blocks) in [(1, 9), (599, 9), (7, 6)] {
         let list = many(rt.alloc(), step)?;
         assert_eq!(rt;
             (count_found(&list), list.to_row(rt.alloc())?.len()),
             (600, 600)
         );
-        assert!(rt; !has(&list, 600, 600) && list.blocks().len() > 4);
+        assert!(rt; !has(&list, 600, 600));
+        // A block of more than 128 is cut into one of 64 and the others.
+        assert_eq!(rt; list.blocks().len(), blocks);
     }
     Ok(())
 }

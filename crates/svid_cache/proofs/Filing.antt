@@ -1,14 +1,14 @@
 -- Blocks of asks and the seconds before which none of a block is due.
-use Rattle.std.specs.Prelude.{◌≡◌, ◌++◌, ℕ, ◌+◌, ◌<◌, ◌≤◌, min, nat_le, nat_lt, Bool, true, false, if◌then◌else◌, List, [], ◌∷◌, map, filter, find, take, drop, get_or, set, length, Option, Some, None, unwrap_or, option_map}
+use Rattle.std.specs.Prelude.{◌≡◌, ◌++◌, ℕ, ◌+◌, ◌<◌, ◌≤◌, nat_le, nat_lt, Bool, true, false, if◌then◌else◌, List, [], ◌∷◌, map, filter, find, take, drop, get_or, set, length, Option, Some, None, unwrap_or, option_map}
 use Rattle.std.specs.Str.{bytes_eq}
 use Rattle.std.specs.List.{AllByRecursion}
 use Rattle.std.specs.List.Sorted.{IsStrictlySortedBy}
-use Rattle.std.specs.Ordering.{nat_cmp, ordering_reverse, is_lt, is_gt, is_eq}
-use Rattle.std.specs.Cmp.Lexicographic.{slice_cmp, nat_list_cmp_total}
+use Rattle.std.specs.Ordering.{nat_cmp, is_lt, is_gt, is_eq}
+use Rattle.std.specs.Cmp.Lexicographic.{slice_cmp}
 use Rattle.std.proofs.Common.{Ordering, Less, Equal, Greater, arith, refl, sym, ◌∙◌, ap, subst, append_assoc, append-nil}
 use Rattle.std.proofs.lemmas.Bool.Decides.{nat_tests}
 use Rattle.std.proofs.lemmas.Map.Text.{is_eq-slice_cmp}
-use Rattle.std.proofs.lemmas.List.{take-append-drop, drop_more, take_more, take_all, drop_all, get_or_default}
+use Rattle.std.proofs.lemmas.List.{take-append-drop, drop_more, take_all, drop_all, get_or_default}
 use Rattle.std.proofs.lemmas.List.Edits.{map_over_more}
 use Rattle.std.proofs.lemmas.List.Elements.{filter-append}
 use Rattle.list_laws.specs.Lists.{Rises}
@@ -18,7 +18,7 @@ use Rattle.wl_entry.specs.Same.{same_ask}
 use Rattle.wl_entry.specs.declared.asks.Ask.{Ask}
 use Rattle.wl_entry.specs.declared.signing.Signed.{Signed}
 use Rattle.wl_entry.specs.declared.signing.Svid.{Svid}
-use Rattle.list_laws.proofs.Elements.{all_append, all_such}
+use Rattle.list_laws.proofs.Elements.{all_such}
 use Rattle.list_laws.proofs.Equality.{same_bytes}
 use Rattle.list_laws.proofs.Order.{order}
 use Rattle.svid_cache.proofs.Keeping.{same_entry_id}
@@ -55,14 +55,6 @@ none_filed now next size svids (f ∷ fs) asks filed all before =
 
 pub no_seconds : (least : ℕ) (firsts : List ℕ) → firsts ≡ [] → NoneBelow least firsts
 no_seconds least firsts empty = subst (NoneBelow least) (sym empty) tt
-
--- ---- a block's second
-
--- the least of the seconds so far and of one more
-pub least_more : (firsts : List ℕ) (i least : ℕ) → i < length firsts → NoneBelow least (take i firsts) → NoneBelow (min least (get_or firsts i 0)) (take (i + 1) firsts)
-least_more firsts i least below all =
-    subst (NoneBelow (min least (get_or firsts i 0))) (sym (take_more firsts i 0 below))
-    (all_append (λ f. min least (get_or firsts i 0) ≤ f) (take i firsts) (get_or firsts i 0 ∷ []) (all_such (λ f. least ≤ f) (λ f. min least (get_or firsts i 0) ≤ f) (take i firsts) (λ f from. omega (arith, from)) all) (omega arith, tt))
 
 -- ---- parts of what rises
 

@@ -1,5 +1,5 @@
 -- When asks come due, a block of asks at a time (own rule).
-use Rattle.std.specs.Prelude.{◌≡◌, ℕ, ◌+◌, ◌/◌, ◌≤◌, min, false, List, [], ◌∷◌, map, take, drop, if◌then◌else◌, nat_le, Option, unwrap_or, option_map}
+use Rattle.std.specs.Prelude.{◌≡◌, ℕ, ◌+◌, ◌-◌, ◌/◌, ◌^◌, ◌≤◌, min, false, List, [], ◌∷◌, take, drop, if◌then◌else◌, nat_le, unwrap_or, option_map}
 use Rattle.std.specs.Str.{bytes_eq}
 use Rattle.std.specs.List.{AllByRecursion}
 use Rattle.wl_entry.specs.declared.asks.Ask.{Ask}
@@ -36,6 +36,14 @@ clear_second now first = if nat_le first now then 0 else first
 -- none of the seconds is below this one
 abbrev pub NoneBelow : ℕ → List ℕ → Type 0
 NoneBelow least firsts = AllByRecursion (λ f. least ≤ f) firsts
+
+-- no later second fits, up to the last one that counts
+abbrev pub IsLatest : ℕ → (ℕ → Type 0) → ℕ → Type 0
+IsLatest last Fits second = (other : ℕ) → other ≤ last → Fits other → other ≤ second
+
+-- the last second that a u64 can say
+abbrev pub last_second : ℕ
+last_second = 2 ^ 64 - 1
 
 -- the second at which an SVID ends
 abbrev pub svid_end : Svid → ℕ

@@ -7,7 +7,7 @@ ghost use Rattle.wl_entry.specs.Keys.{ask_key, svid_key};
 ghost use Rattle.wl_entry.specs.Same.{same_ask};
 ghost use Rattle.sorted_blocks.specs.Blocks.{join};
 ghost use Rattle.svid_cache.specs.Caches.{only, is_listed, kept_for, is_due, lasts, unless_older};
-ghost use Rattle.svid_cache.specs.Queue.{NoneEndsBefore};
+ghost use Rattle.svid_cache.specs.Queue.{NoneEndsBefore, IsLatest, last_second};
 
 use crate::asks::lists;
 use crate::install::Installed;
@@ -106,6 +106,7 @@ pub(crate) fn any_ended_in(blocks: &[Shared<Row<Shared<Svid>>>], now: u64) -> bo
 fn first_end(svids: &[Shared<Svid>], other: u64) -> u64
     ensures ends { NoneEndsBefore result svids.now }
     ensures other { result ≤ other }
+    ensures exact { IsLatest other (λ s. NoneEndsBefore s svids.now) result }
 {
     let mut first = other;
     for svid in svids {
@@ -116,7 +117,8 @@ fn first_end(svids: &[Shared<Svid>], other: u64) -> u64
 
 /// The first second at which one of the SVIDs in these blocks has expired.
 pub(crate) fn first_end_in(blocks: &[Shared<Row<Shared<Svid>>>]) -> u64
-    ensures { NoneEndsBefore result (join blocks.now) }
+    ensures ends { NoneEndsBefore result (join blocks.now) }
+    ensures exact { IsLatest last_second (λ s. NoneEndsBefore s (join blocks.now)) result }
 {
     let mut first = u64::MAX;
     for block in blocks {

@@ -7,7 +7,7 @@ ghost use Rattle.list_laws.specs.Lists.{Rises};
 ghost use Rattle.wl_entry.specs.Fitness.{is_half_over};
 ghost use Rattle.wl_entry.specs.Keys.{ask_key, svid_key};
 ghost use Rattle.svid_cache.specs.Caches.{is_due};
-ghost use Rattle.svid_cache.specs.Queue.{half_second, first_second, NotBefore, OthersNotBefore, Filed, NoneBelow, clear_second};
+ghost use Rattle.svid_cache.specs.Queue.{half_second, first_second, NotBefore, OthersNotBefore, Filed, NoneBelow, IsLatest, last_second, clear_second};
 
 use crate::kept::{due_at, find_kept};
 use sorted_blocks::SortedBlocks;
@@ -38,10 +38,11 @@ fn due_time(svids: &SortedBlocks<Svid>, ask: &Ask) -> u64
     }
 }
 
-/// A second before which none of the asks is due.
+/// The first second at which one of the asks is due.
 fn block_time(asks: &[Ask], svids: &SortedBlocks<Svid>) -> u64
     requires { Rises (map svid_key svids.now) }
-    ensures { AllByRecursion (NotBefore svids.now result) asks.now }
+    ensures fits { AllByRecursion (NotBefore svids.now result) asks.now }
+    ensures exact { IsLatest last_second (λ s. AllByRecursion (NotBefore svids.now s) asks.now) result }
 {
     let mut first = u64::MAX;
     for ask in asks {
@@ -128,7 +129,8 @@ pub(crate) fn clear_until(firsts: &mut [u64], now: u64)
 
 /// The least of the seconds.
 pub(crate) fn least(firsts: &[u64]) -> u64
-    ensures { NoneBelow result firsts.now }
+    ensures fits { NoneBelow result firsts.now }
+    ensures exact { IsLatest last_second (λ s. NoneBelow s firsts.now) result }
 {
     let mut least = u64::MAX;
     for first in firsts {

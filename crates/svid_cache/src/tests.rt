@@ -5,7 +5,7 @@ ghost use Rattle.list_laws.specs.Lists.{Rises};
 ghost use Rattle.wl_entry.specs.Keys.{ask_key};
 
 use crate::queue::{due_of, file_all};
-use crate::{Cache, Installed};
+use crate::{Cache, Installed, KeptSvids, Timetable};
 use sorted_blocks::SortedBlocks;
 use spiffe_id::SpiffeId;
 use std::alloc::Global;
@@ -174,5 +174,73 @@ fn other_asks(rt: HostRuntime) -> Result<(), Fail> {
     change(rt.alloc(), &mut cache)?;
     assert_eq!(rt; counts(rt.alloc(), &cache)?, (0, 1, false));
     assert_eq!(rt; counts(rt.alloc(), &copy)?, (1, 1, true));
+    Ok(())
+}
+
+/// A cache, and a timetable that is to keep the same SVIDs for the same asks.
+#[derive(Drop)]
+struct Both {
+    cache: Cache,
+    kept: KeptSvids,
+}
+
+/// Both without asks.
+fn start_both(alloc: Global) -> Result<Both, Memory> {
+    let none = SortedBlocks::empty(alloc);
+    Ok(Both {
+        cache: Cache::start(alloc),
+        kept: Timetable::start(alloc).prepare_sync(alloc, &none, Row::empty(alloc))?,
+    })
+}
+
+/// Both take the one ask.
+fn sync_both(alloc: Global, both: &mut Both) -> Result<(), Fail> {
+    let asks = alone(alloc, ask(alloc, b"e1")?)?;
+    let same = alone(alloc, ask(alloc, b"e1")?)?;
+    both.cache.sync(alloc, asks)?;
+    both.kept = both.kept.table.prepare_sync(alloc, &both.kept.svids, same)?;
+    Ok(())
+}
+
+/// Both take an SVID from 100 until then, and whether they say the same of it.
+fn install_both(alloc: Global, both: &mut Both, until: u64, now: u64) -> Result<bool, Fail> {
+    let one = svid(alloc, b"e1", 100, until)?;
+    let same = svid(alloc, b"e1", 100, until)?;
+    let said = both.cache.install(alloc, one, now)?;
+    let (next, other) = both
+        .kept
+        .table
+        .prepare_install(alloc, &both.kept.svids, same, now)?;
+    if let Some(next) = next {
+        both.kept = next;
+    }
+    Ok(said == other)
+}
+
+/// Both let go of what has expired.
+fn sweep_both(alloc: Global, both: &mut Both, now: u64) -> Result<(), Fail> {
+    let _ = both.cache.sweep(now);
+    both.kept = both.kept.table.prepare_sweep(alloc, &both.kept.svids, now)?;
+    Ok(())
+}
+
+/// Whether both have the same SVIDs, and the same asks are due.
+fn are_same(alloc: Global, both: &Both, now: u64) -> Result<bool, Fail> {
+    let svids = both.kept.svids().to_row(alloc)?;
+    let due = both.kept.due(alloc, now)?;
+    let same = both.cache.due(alloc, now)?;
+    Ok(svids.as_slice() == both.cache.svids() && due.as_slice() == same.as_slice())
+}
+
+#[test]
+fn a_timetable_keeps_what_a_cache_does(rt: HostRuntime) -> Result<(), Fail> {
+    let mut both = start_both(rt.alloc())?;
+    sync_both(rt.alloc(), &mut both)?;
+    for (until, now) in [(200, 100), (150, 100), (300, 120), (300, 300)] {
+        assert!(rt; install_both(rt.alloc(), &mut both, until, now)?);
+        assert!(rt; are_same(rt.alloc(), &both, now)? && are_same(rt.alloc(), &both, 200)?);
+    }
+    sweep_both(rt.alloc(), &mut both, 300)?;
+    assert!(rt; are_same(rt.alloc(), &both, 300)? && both.cache.svids().is_empty());
     Ok(())
 }

@@ -1,4 +1,4 @@
-use Rattle.std.proofs.Common.{◌≡◌, [], ◌∷◌, drop, rules, sym, ◌∙◌}
+use Rattle.std.proofs.Common.{◌≡◌, ◌∷◌, drop, rules, sym, ◌∙◌}
 use Rattle.sorted_blocks.proofs.Standing.{at_split, at_end, none_left}
 use Rattle.sorted_blocks.proofs.placing.parts_at.Goals as goal
 

@@ -1,4 +1,4 @@
-use Rattle.std.proofs.Common.{◌≡◌, ◌<◌, ◌/◌, ◌*◌, take, drop, length, sym, ◌∙◌, ap, subst}
+use Rattle.std.proofs.Common.{◌<◌, ◌/◌, take, sym, ◌∙◌, ap, subst}
 use Rattle.std.specs.Prelude.{slice_set}
 use Rattle.std.specs.List.{AllByRecursion}
 use Rattle.list_laws.specs.Keys.{place_at}
@@ -22,4 +22,4 @@ returns c =
     let there = c.split_block.ensures.block ∙ ap (take c.args.size) c.split_at.ensures.back in
     subst (λ f. Filed (NotBefore c.args.svids.now) c.args.size (slice_set f (c.in-Some.place / c.args.size) c.block_time.result) c.args.asks.now) (sym c.in_ok-anew.ensures.items)
     (filed_anew c.args.id.now c.args.svids.now c.args.size c.block_time.result c.in-Some.place c.args.firsts.now c.args.asks.now c.requires.size c.requires.asks (ap (place_at ask_key c.args.asks.now) (sym c.as_slice.ensures) ∙ sym c.in-Some.ensures.place) c.requires.others
-    (subst (AllByRecursion (NotBefore c.args.svids.now c.block_time.result)) there c.block_time.ensures))
+    (subst (AllByRecursion (NotBefore c.args.svids.now c.block_time.result)) there c.block_time.ensures.fits))

@@ -1,4 +1,4 @@
-use Rattle.std.proofs.Common.{◌≡◌, ◌++◌, ◌<◌, [], take, drop, suc, length, map, sym, ◌∙◌, ap, subst}
+use Rattle.std.proofs.Common.{◌++◌, ◌<◌, length, map, sym, ◌∙◌, ap, subst}
 use Rattle.list_laws.specs.Lists.{Rises}
 use Rattle.sorted_blocks.specs.Blocks.{join, AreFilled, with_item}
 use Rattle.sorted_blocks.specs.Places.{IsPlace}

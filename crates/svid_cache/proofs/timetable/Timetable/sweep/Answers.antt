@@ -19,6 +19,6 @@ returns-clause-about c = λ svids is.
     record {
       cached = swept_cached c.args.now (asks_in c.self.inside.asks) svids about.cached;
       filed = subst (λ f. Filed (NotBefore (filter (lasts c.args.now) svids)) 64 f (asks_in c.self.inside.asks)) (sym firsts) (filed_swept c.args.now 64 svids c.self.inside.firsts.items (asks_in c.self.inside.asks) about.filed);
-      none_below = subst (NoneBelow c.least-self-inside.result) c.as_slice.ensures.value c.least-self-inside.ensures;
+      none_below = subst (NoneBelow c.least-self-inside.result) c.as_slice.ensures.value c.least-self-inside.ensures.fits;
       ends = all_filter (λ s. c.self.inside.end ≤ svid_end s) (lasts c.args.now) svids about.ends;
     }

@@ -33,7 +33,7 @@ invariant_of-result c =
     record {
       cached = subst (λ a. IsCached (record { asks = a; svids = c.in_ok-svids.svids })) (sym c.in_ok-asks.ensures) (subst (λ l. IsCached (record { asks = c.args.self.now.asks; svids = l })) (sym svids) (put_cached c.args.svid c.args.self.now.asks c.args.svids.now c.requires.about.cached c.requires.listed c.requires.within));
       filed = subst (λ a. Filed (NotBefore c.in_ok-svids.svids) 64 c.in_ok-firsts.firsts.items a) (c.asks.ensures ∙ sym c.in_ok-asks.ensures) c.in_ok-firsts.ensures;
-      none_below = subst (NoneBelow c.least.result) c.as_slice-2.ensures.value c.least.ensures;
+      none_below = subst (NoneBelow c.least.result) c.as_slice-2.ensures.value c.least.ensures.fits;
       ends = c.end_with.ensures;
     }
 
