@@ -7,7 +7,8 @@ ghost use Rattle.jwt_cache.specs.declared.rings.CachedToken.{CachedToken};
 ghost use Rattle.jwt_cache.specs.Rings.{StandsFor};
 ghost use Rattle.wl_manager.specs.Tokens.{history_after};
 ghost use Rattle.wl_store.specs.Steps.{stored_after, after_sync, change_to};
-ghost use Rattle.wl_store.specs.Stores.{after_claim, after_signed, asks_to_claim, flights_from, has_ticket, install};
+ghost use Rattle.svid_cache.specs.Caches.{is_listed};
+ghost use Rattle.wl_store.specs.Stores.{after_claim, after_signed, asks_of, asks_to_claim, flights_from, has_ticket, install};
 ghost use Rattle.wl_store.specs.Flights.{flights_of};
 ghost use Rattle.svid_cache.specs.declared.install.Installed.TheVariants as Installed;
 ghost use Rattle.wl_publish.specs.Lists.{IsLast};
@@ -19,7 +20,7 @@ use std::marker::Model;
 use std::sync::Wait;
 use svid_cache::Installed;
 use wl_document::DocFault;
-use wl_entry::{Signed, Voucher};
+use wl_entry::{Ask, Signed, Voucher};
 use wl_manager::Manager;
 use wl_octets::{Memory, Row};
 use wl_publish::{Note, Publisher};
@@ -172,6 +173,13 @@ impl<V: Voucher> Desk<V> {
                 Err(Memory)
             }
         }
+    }
+
+    /// Whether an entry has this ask.
+    pub fn lists(&self, ask: &Ask) -> bool
+        ensures { result ≡ is_listed (asks_of self.now.managed.stored.store.entries) ask.now }
+    {
+        self.manager.lists(ask)
     }
 
     /// Takes back a ticket without an identity. Nothing changes where it was not in flight. It takes no memory.

@@ -9,7 +9,8 @@ ghost use Rattle.wl_match.specs.Indexes.{entitled_places, items_at};
 ghost use Rattle.wl_document.specs.Checks.{Faults};
 ghost use Rattle.wl_document.specs.Documents.{document_state};
 ghost use Rattle.jwt_cache.specs.Rings.{StandsFor};
-ghost use Rattle.wl_store.specs.Stores.{has_ticket};
+ghost use Rattle.svid_cache.specs.Caches.{is_listed};
+ghost use Rattle.wl_store.specs.Stores.{asks_of, has_ticket};
 ghost use Rattle.wl_store.specs.Steps.{after_failed, AllTrusted};
 ghost use Rattle.wl_manager.specs.Managers.{first_managed};
 
@@ -17,7 +18,7 @@ use jwt_cache::Tokens;
 use std::alloc::Global;
 use std::marker::Model;
 use wl_document::DocFault;
-use wl_entry::Voucher;
+use wl_entry::{Ask, Voucher};
 use wl_match::Index;
 use wl_octets::{Memory, Row, Shared};
 use wl_selector::Selectors;
@@ -115,6 +116,13 @@ impl<V: Voucher> Manager<V> {
         ensures { result ≡ list_any (λ f. f.number == number) self.now.stored.store.in_flight }
     {
         self.store.in_flight(number)
+    }
+
+    /// Whether an entry has this ask.
+    pub fn lists(&self, ask: &Ask) -> bool
+        ensures { result ≡ is_listed (asks_of self.now.stored.store.entries) ask.now }
+    {
+        self.store.lists(ask)
     }
 
     /// Takes back a ticket without an identity: it is in flight no more. Nothing changes where it was not in flight.

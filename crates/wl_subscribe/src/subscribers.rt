@@ -43,7 +43,7 @@ pub struct Subscribers {
     alloc: Global,
     next: u64,
     members: Members,
-    filed: Filed,
+    pub(crate) filed: Filed,
 }
 
 impl Model for Subscribers {

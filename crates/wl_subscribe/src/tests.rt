@@ -5,6 +5,7 @@ ghost use Rattle.wl_entry.specs.Asks.{ask_of};
 ghost use Rattle.wl_entry.specs.Limits.{EntryWithin, SignedWithin, BundleWithin};
 
 use crate::differences::differing_ids;
+use crate::filing::numbers_at;
 use crate::{SubId, Subscribers};
 use sorted_blocks::SortedBlocks;
 use spiffe_id::{SpiffeId, TrustDomain};
@@ -488,5 +489,40 @@ fn who_has_left_is_not_affected(rt: HostRuntime) -> Result<(), Fail> {
     assert!(rt; is_second_told_until_it_leaves(rt.alloc(), &mut subscribers, first, second)?);
     subscribers.leave(first);
     assert!(rt; is_newcomer_told(rt.alloc(), &mut subscribers, second)?);
+    Ok(())
+}
+
+/// How many selectors have subscribers, and how many subscribers the first of the four has.
+fn filed_counts(alloc: Global, subscribers: &Subscribers) -> Result<(usize, usize), Stop> {
+    let selector = selector(alloc, b"unix:uid:1")?;
+    let numbers = numbers_at(&subscribers.filed, &selector);
+    Ok((subscribers.filed.len(), numbers.len()))
+}
+
+/// The same once the subscriber at this place has left.
+fn counts_without(
+    alloc: Global,
+    subscribers: &mut Subscribers,
+    ids: &[SubId],
+    place: usize,
+) -> Result<(usize, usize), Stop> {
+    let Some(id) = ids.get(place) else {
+        return Err(Stop::Place);
+    };
+    subscribers.leave(*id);
+    filed_counts(alloc, subscribers)
+}
+
+#[test]
+fn who_has_left_is_filed_nowhere(rt: HostRuntime) -> Result<(), Fail> {
+    let mut subscribers = Subscribers::start(rt.alloc());
+    let ids = join_all(rt.alloc(), &mut subscribers, &CALLERS)?;
+    assert_eq!(rt; filed_counts(rt.alloc(), &subscribers)?, (3, 2));
+    for (place, counts) in [(2, (2, 1)), (1, (1, 1)), (0, (0, 0)), (3, (0, 0))] {
+        assert_eq!(rt;
+            counts_without(rt.alloc(), &mut subscribers, ids.as_slice(), place)?,
+            counts
+        );
+    }
     Ok(())
 }
