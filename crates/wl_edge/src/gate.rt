@@ -3,8 +3,14 @@
 /// Point 1 is passed before each turn of a served connection.
 pub const BEFORE_TURN: u32 = 1;
 
-/// Point 2 is passed before each round of upkeep.
+/// Point 2 is passed before each pull of the present document.
 pub const BEFORE_UPKEEP: u32 = 2;
+
+/// Point 3 is passed before each look of the keeper.
+pub const BEFORE_KEEPING: u32 = 3;
+
+/// Point 4 is passed before each ask of a signer.
+pub const BEFORE_SIGNING: u32 = 4;
 
 /// Holds whoever passes a point, as long as it wants to.
 pub trait Gate {

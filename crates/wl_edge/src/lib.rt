@@ -35,7 +35,7 @@ pub use attestor::{Attestor, AttestorCall};
 pub use clock::Clock;
 pub use drain::{ReadFault, read_all, write_all};
 pub use fault::EdgeFault;
-pub use gate::{BEFORE_TURN, BEFORE_UPKEEP, Gate, OpenGate};
+pub use gate::{BEFORE_KEEPING, BEFORE_SIGNING, BEFORE_TURN, BEFORE_UPKEEP, Gate, OpenGate};
 pub use link::{Heard, Link, Received, TrySent};
 pub use listener::{AcceptKind, Accepted, Listener};
 pub use memory_attestor::MemoryAttestor;

@@ -9,6 +9,7 @@ use std::io::{Read, Write};
 use std::net::Net;
 use std::os::unix::net::UnixStream;
 use std::time::Duration;
+use timed_stream::connect;
 use wl_edge::{Link, Received, Sent, TrySent};
 
 /// How many seconds a receive waits for bytes before it is idle.
@@ -25,8 +26,9 @@ pub struct DialedLink<R> {
     failed_sends: u64,
 }
 
+/// Connects without waiting: a server whose backlog is full is a fault at once.
 fn dial(rt: &impl Net, path: &str) -> io::Result<UnixStream> {
-    let stream = UnixStream::connect(rt, path)?;
+    let stream = connect(rt, path)?;
     stream.set_read_timeout(Some(Duration::from_secs(PATIENCE_SECONDS)))?;
     Ok(stream)
 }

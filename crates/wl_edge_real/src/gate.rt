@@ -3,32 +3,42 @@
 use std::sync::atomic::{AtomicBool, Ordering};
 use std::thread;
 use std::time::Duration;
-use wl_edge::{BEFORE_UPKEEP, Gate};
+use wl_edge::{BEFORE_KEEPING, BEFORE_UPKEEP, Gate};
 
-/// A gate that holds upkeep for some seconds before each round but the first, and nothing else.
+/// How many seconds the keeper waits between two looks.
+const KEEPER_SECONDS: u32 = 1;
+
+/// A gate that holds the puller for some seconds before each pull but the first, the keeper for a second before each look
+/// but the first, and nothing else.
 #[derive(Drop)]
 pub struct RealGate<R> {
     rt: R,
     seconds: u32,
-    /// Whether a round has begun.
-    begun: AtomicBool,
+    /// Whether a pull was begun.
+    pulled: AtomicBool,
+    /// Whether the keeper has looked.
+    kept: AtomicBool,
 }
 
 impl<R: std::rt::Clock + Drop> RealGate<R> {
-    /// A gate that holds upkeep for so many seconds between two rounds.
+    /// A gate that holds the puller for so many seconds between two pulls.
     pub fn start(rt: R, seconds: u32) -> RealGate<R> {
         RealGate {
             rt,
             seconds,
-            begun: AtomicBool::new(false),
+            pulled: AtomicBool::new(false),
+            kept: AtomicBool::new(false),
         }
     }
 }
 
 impl<R: std::rt::Clock + Drop> Gate for RealGate<R> {
     fn pass(&self, point: u32) {
-        if point == BEFORE_UPKEEP && self.begun.swap(true, Ordering::SeqCst) {
-            thread::sleep(&self.rt, Duration::from_secs(u64::from(self.seconds)));
-        }
+        let seconds = match point {
+            BEFORE_UPKEEP if self.pulled.swap(true, Ordering::SeqCst) => self.seconds,
+            BEFORE_KEEPING if self.kept.swap(true, Ordering::SeqCst) => KEEPER_SECONDS,
+            _ => return,
+        };
+        thread::sleep(&self.rt, Duration::from_secs(u64::from(seconds)));
     }
 }

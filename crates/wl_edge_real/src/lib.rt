@@ -14,6 +14,8 @@ mod link;
 mod listener;
 mod ready;
 #[cfg(test)]
+mod slow_tests;
+#[cfg(test)]
 mod tests;
 mod upstream;
 
@@ -26,4 +28,4 @@ pub use gate::RealGate;
 pub use link::RealLink;
 pub use listener::RealListener;
 pub use ready::RealReady;
-pub use upstream::RealUpstream;
+pub use upstream::{PULL_SECONDS, RealUpstream};

@@ -19,7 +19,7 @@ use wl_edge::{
 use wl_octets::{Octets, Row};
 
 /// A path of this test's own at which nothing stands.
-fn path_of(rt: &HostRuntime, name: &str) -> Result<String, Fail> {
+pub(crate) fn path_of(rt: &HostRuntime, name: &str) -> Result<String, Fail> {
     let directory = env::temp_dir(rt)?;
     let file = format!(in rt.alloc(); "wl-{}-{name}", process::id(rt.process()))?;
     let path = directory.join(rt.alloc(), file.as_str())?;
@@ -29,7 +29,7 @@ fn path_of(rt: &HostRuntime, name: &str) -> Result<String, Fail> {
 }
 
 /// The next link of a listener to which a peer has connected.
-fn accepted(listener: &mut RealListener) -> Result<RealLink, Fail> {
+pub(crate) fn accepted(listener: &mut RealListener) -> Result<RealLink, Fail> {
     match listener.accept() {
         Accepted::Link(link) => Ok(link),
         _ => Err("no link")?,
@@ -37,7 +37,7 @@ fn accepted(listener: &mut RealListener) -> Result<RealLink, Fail> {
 }
 
 /// A listener at this path.
-fn bound<R: Files + Net>(rt: &R, path: &str) -> Result<RealListener, Fail> {
+pub(crate) fn bound<R: Files + Net>(rt: &R, path: &str) -> Result<RealListener, Fail> {
     match bind(rt, path) {
         Ok(listener) => Ok(listener),
         Err(_) => Err("bind")?,

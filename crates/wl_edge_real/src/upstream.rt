@@ -7,26 +7,38 @@ use std::alloc::Global;
 use std::io;
 use std::net::Net;
 use std::os::unix::net::UnixStream;
-use std::time::Duration;
+use std::rt::Clock;
+use std::time::{Duration, Instant};
+use timed_stream::{TimedStream, connect, deadline_after};
 use wl_edge::{EdgeFault, MAX_PULLED, ReadFault, RealSource, Upstream, read_all};
 use wl_octets::{Memory, Octets};
 
-/// How many seconds a pull waits for the next bytes.
-const PATIENCE_SECONDS: u64 = 30;
+/// How many seconds a pull may take, from connecting to the end.
+pub const PULL_SECONDS: u64 = 30;
 
-/// An upstream that connects to the Unix socket of a path at each pull, and reads to the end. It tells no content. One
-/// that sends nothing for 30 seconds has failed.
+/// An upstream that connects to the Unix socket of a path at each pull, and reads to the end. It tells no content. A
+/// pull that takes more than [`PULL_SECONDS`] has failed.
 #[derive(Drop)]
 pub struct RealUpstream<R> {
     rt: R,
     alloc: Global,
     path: String,
+    /// How long a pull may take.
+    limit: Duration,
     faults: u64,
 }
 
-impl<R: Net + Drop> RealUpstream<R> {
+impl<R: Net + Clock + Drop> RealUpstream<R> {
     /// An upstream at this path. Nothing is opened yet.
     pub fn start(rt: R, alloc: Global, path: String) -> RealUpstream<R>
+        ensures untold { ⟦<RealUpstream<R> as Upstream>⟧.told result ≡ None }
+        ensures fresh { ⟦<RealUpstream<R> as Upstream>⟧.faults result ≡ 0 }
+    {
+        RealUpstream::start_within(rt, alloc, path, Duration::from_secs(PULL_SECONDS))
+    }
+
+    /// The same, where a pull may take so long.
+    pub fn start_within(rt: R, alloc: Global, path: String, limit: Duration) -> RealUpstream<R>
         ensures untold { ⟦<RealUpstream<R> as Upstream>⟧.told result ≡ None }
         ensures fresh { ⟦<RealUpstream<R> as Upstream>⟧.faults result ≡ 0 }
     {
@@ -34,25 +46,36 @@ impl<R: Net + Drop> RealUpstream<R> {
             rt,
             alloc,
             path,
+            limit,
             faults: 0,
         }
     }
 }
 
-fn connect(rt: &impl Net, path: &str) -> io::Result<UnixStream> {
-    let stream = UnixStream::connect(rt, path)?;
-    stream.set_read_timeout(Some(Duration::from_secs(PATIENCE_SECONDS)))?;
-    Ok(stream)
+/// Connects to the socket of this path, without waiting, for a pull that takes at most so long.
+fn connect_until(
+    rt: &(impl Net + Clock),
+    path: &str,
+    limit: Duration,
+) -> io::Result<(UnixStream, Instant)> {
+    let deadline = deadline_after(rt, limit)?;
+    Ok((connect(rt, path)?, deadline))
 }
 
 /// Reads what the socket of this path gives, up to the most that a pull appends.
-fn read_document(rt: &impl Net, alloc: Global, path: &str) -> Result<Vec<u8>, ReadFault>
+fn read_document<R: Net + Clock>(
+    rt: &R,
+    alloc: Global,
+    path: &str,
+    limit: Duration,
+) -> Result<Vec<u8>, ReadFault>
     ensures { IfOk result (λ v. length v.items ≤ MAX_PULLED) }
 {
-    match connect(rt, path) {
-        Ok(stream) => read_all(alloc, &mut RealSource::start(stream), MAX_PULLED),
-        Err(_) => Err(ReadFault::Failed),
-    }
+    let Ok((stream, deadline)) = connect_until(rt, path, limit) else {
+        return Err(ReadFault::Failed);
+    };
+    let mut source = RealSource::start(TimedStream::start(rt, &stream, deadline));
+    read_all(alloc, &mut source, MAX_PULLED)
 }
 
 /// Appends bytes, which are copied only where there are others before them.
@@ -67,13 +90,13 @@ fn append(into: &mut Octets, bytes: Vec<u8>) -> Result<(), Memory>
     Ok(())
 }
 
-impl<R: Net + Drop> Upstream for RealUpstream<R> {
+impl<R: Net + Clock + Drop> Upstream for RealUpstream<R> {
     ghost told = { λ u. None };
 
     ghost faults = { λ u. u.faults };
 
     fn pull(&mut self, into: &mut Octets) -> Result<(), EdgeFault> {
-        match read_document(&self.rt, self.alloc, self.path.as_str()) {
+        match read_document(&self.rt, self.alloc, self.path.as_str(), self.limit) {
             Ok(bytes) => Ok(append(into, bytes)?),
             Err(ReadFault::Memory) => Err(EdgeFault::Memory),
             Err(ReadFault::Failed) => {
