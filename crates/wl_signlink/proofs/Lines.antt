@@ -1,8 +1,8 @@
 -- A line that comes piece by piece: before is what came, has and left are what the source had and has.
 use Rattle.std.proofs.Common.{◌≡◌, ◌<◌, ◌≤◌, ◌+◌, ◌||◌, ◌==◌, ℕ, suc, Bool, true, false, cond, nat_lt, not, List, [], ◌∷◌, ◌++◌, length, take, drop, get_or, Option, Some, None, refl, sym, ◌∙◌, ap, subst, arith, true≢false, append_assoc, length-append}
-use Rattle.std.specs.Prelude.{IfSome, position, ◌⊎◌}
+use Rattle.std.specs.Prelude.{IfSome, position}
 use Rattle.std.proofs.Common.{inl, inr}
-use Rattle.std.specs.List.{list_any, position_or_len}
+use Rattle.std.specs.List.{position_or_len}
 use Rattle.std.proofs.lemmas.Bool.{ltb-true, eqb-true, ltb-false}
 use Rattle.std.proofs.lemmas.List.{take-append-drop, take-append-le, take_all, append-nil}
 use Rattle.std.proofs.lemmas.List.Folds.{list_any-append}

@@ -1,5 +1,5 @@
 -- One request and the line that answers it (own rules), over a sink and a source that may tell their content.
-use Rattle.std.specs.Prelude.{◌≡◌, ◌⊎◌, ◌≤◌, ◌<◌, ◌+◌, ◌==◌, ℕ, Bool, true, false, List, [], ◌∷◌, ◌++◌, length, take, Option, Some, IfSome, Result, Ok, Err}
+use Rattle.std.specs.Prelude.{◌≡◌, ◌⊎◌, ◌≤◌, ◌<◌, ◌+◌, ◌==◌, ℕ, Bool, true, false, List, [], ◌∷◌, ◌++◌, length, take, Option, Some, IfSome, Result, Err}
 use Rattle.std.specs.List.{list_any}
 use Rattle.wl_edge.specs.Edge.{Rose, Gained}
 use Rattle.wl_signlink.specs.declared.exchanges.Piece.{Piece}

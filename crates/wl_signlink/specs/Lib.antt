@@ -2,3 +2,5 @@
 pub mod Requests
 pub mod Replies
 pub mod Exchanges
+pub mod Vouched
+pub mod LinkStates

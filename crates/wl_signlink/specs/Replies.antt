@@ -1,6 +1,6 @@
 -- The lines with which a signer answers (own rules), without their newline: a JSON object (RFC 8259, the last of equal
--- members) with the members below; further ones are ignored.
-use Rattle.std.specs.Prelude.{◌≡◌, ℕ, List, length, codes, nat_lt, if◌then◌else◌, Option, Some, None, option_and_then, Result, Ok, Err}
+-- members) with the members below; further ones are ignored. A signer may hand back the `number` of the ask.
+use Rattle.std.specs.Prelude.{◌≡◌, ◌==◌, ℕ, Bool, true, false, List, length, codes, nat_lt, if◌then◌else◌, Option, Some, None, option_and_then, Result, Ok, Err}
 use Rattle.base64.specs.declared.decode.DecodeError.{DecodeError}
 use Rattle.base64.specs.Engines.{standard}
 use Rattle.base64.specs.GeneralPurpose.{decode_of}
@@ -63,10 +63,29 @@ token_in d = do
   expires_at ← number_of (codes "expires_at") d
   Ok (record { token = token; issued_at = issued_at; expires_at = expires_at })
 
--- the signed identity that a reply has
-unfoldable pub signed_of : List ℕ → Result Signed LineFault
-signed_of line = value_in line >>= signed_in
+-- ---- which ask a reply answers
 
--- the token that a reply has
-unfoldable pub token_of : List ℕ → Result JwtToken LineFault
-token_of line = value_in line >>= token_in
+-- it is this number
+abbrev pub is_number : ℕ → Option ℕ → Bool
+is_number number None = false
+is_number number (Some found) = found == number
+
+-- a member `number`, where there is one, is that of the ask
+abbrev pub has_number : ℕ → Option Data → Bool
+has_number number None = true
+has_number number (Some v) = is_number number (option_and_then as_u64 (as_number v))
+
+unfoldable pub is_reply_to : ℕ → Data → Bool
+is_reply_to number d = has_number number (get (codes "number") d)
+
+-- the value of a line that answers the ask with this number
+unfoldable pub reply_in : ℕ → List ℕ → Result Data LineFault
+reply_in number line = value_in line >>= λ d. if is_reply_to number d then Ok d else Err Wrong
+
+-- the signed identity that a reply to the ask with this number has
+unfoldable pub signed_of : ℕ → List ℕ → Result Signed LineFault
+signed_of number line = reply_in number line >>= signed_in
+
+-- the token that a reply to the ask with this number has
+unfoldable pub token_of : ℕ → List ℕ → Result JwtToken LineFault
+token_of number line = reply_in number line >>= token_in

@@ -21,27 +21,28 @@ pub struct Answer<T> {
     pub is_last: bool,
 }
 
-/// Asks for an identity. None where the request was not sent whole, or no reply that can be read came.
+/// Asks for an identity, as the ask with this number. None where the request was not sent whole, or no reply that can be read came.
 pub fn ask_x509<O: Sink, I: Source>(
     alloc: Global,
     output: &mut O,
     input: &mut I,
+    number: u64,
     ask: &Ask,
 ) -> Result<Option<Answer<Signed>>, Memory>
     requires { is_text_ask ask.now ≡ true }
     ensures { IfOk result (λ r. MatchOption r
-        (NotAnswered signed_of (O.faults output.old) (O.faults output.new) (I.faults input.old) (I.faults input.new)
-        (O.taken output.old) (O.taken output.new) (I.left input.old) (I.left input.new) (x509_line ask.now))
-        (λ a. Answered signed_of (O.taken output.old) (O.taken output.new) (I.left input.old) (I.left input.new)
-        (x509_line ask.now) a.is_last (Ok a.value))) }
+        (NotAnswered (signed_of number) (O.faults output.old) (O.faults output.new) (I.faults input.old) (I.faults input.new)
+        (O.taken output.old) (O.taken output.new) (I.left input.old) (I.left input.new) (x509_line number ask.now))
+        (λ a. Answered (signed_of number) (O.taken output.old) (O.taken output.new) (I.left input.old) (I.left input.new)
+        (x509_line number ask.now) a.is_last (Ok a.value))) }
 {
     let mut request = Octets::empty(alloc);
-    put_x509(alloc, ask, &mut request)?;
+    put_x509(alloc, number, ask, &mut request)?;
     let reply = match exchange(alloc, output, input, request.as_slice())? {
         Some(reply) => reply,
         None => return Ok(None),
     };
-    match read_signed(alloc, reply.line.as_slice()) {
+    match read_signed(alloc, number, reply.line.as_slice()) {
         Ok(value) => Ok(Some(Answer {
             value,
             is_last: reply.is_last,
@@ -51,30 +52,32 @@ pub fn ask_x509<O: Sink, I: Source>(
     }
 }
 
-/// Asks for a token for these audiences. None where the request was not sent whole, or no reply that can be read came.
+/// Asks for a token for these audiences, as the ask with this number. None where the request was not sent whole, or no
+/// reply that can be read came.
 pub fn ask_jwt<O: Sink, I: Source>(
     alloc: Global,
     output: &mut O,
     input: &mut I,
+    number: u64,
     ask: &Ask,
     audience: &[Octets],
 ) -> Result<Option<Answer<JwtToken>>, Memory>
     requires ask { is_text_ask ask.now ≡ true }
     requires audience { are_texts audience.now ≡ true }
     ensures { IfOk result (λ r. MatchOption r
-        (NotAnswered token_of (O.faults output.old) (O.faults output.new) (I.faults input.old) (I.faults input.new)
+        (NotAnswered (token_of number) (O.faults output.old) (O.faults output.new) (I.faults input.old) (I.faults input.new)
         (O.taken output.old) (O.taken output.new) (I.left input.old) (I.left input.new)
-        (jwt_line ask.now audience.now))
-        (λ a. Answered token_of (O.taken output.old) (O.taken output.new) (I.left input.old) (I.left input.new)
-        (jwt_line ask.now audience.now) a.is_last (Ok a.value))) }
+        (jwt_line number ask.now audience.now))
+        (λ a. Answered (token_of number) (O.taken output.old) (O.taken output.new) (I.left input.old) (I.left input.new)
+        (jwt_line number ask.now audience.now) a.is_last (Ok a.value))) }
 {
     let mut request = Octets::empty(alloc);
-    put_jwt(alloc, ask, audience, &mut request)?;
+    put_jwt(alloc, number, ask, audience, &mut request)?;
     let reply = match exchange(alloc, output, input, request.as_slice())? {
         Some(reply) => reply,
         None => return Ok(None),
     };
-    match read_token(alloc, reply.line.as_slice()) {
+    match read_token(alloc, number, reply.line.as_slice()) {
         Ok(value) => Ok(Some(Answer {
             value,
             is_last: reply.is_last,

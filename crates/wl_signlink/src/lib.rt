@@ -12,14 +12,18 @@ mod link;
 mod replies;
 mod requests;
 #[cfg(test)]
+mod socket_tests;
+#[cfg(test)]
 mod tests;
 mod texts;
+mod vouching;
 
 pub use asks::{Answer, ask_jwt, ask_x509};
 pub use exchanges::{Reply, exchange, read_line};
 pub use fault::LineFault;
-pub use limits::{REPLY_LIMIT, REPLY_SECONDS};
+pub use limits::{EXCHANGE_SECONDS, REPLY_LIMIT};
 pub use link::SignLink;
 pub use replies::{read_signed, read_token};
 pub use requests::{put_jwt, put_x509};
 pub use texts::{are_texts, is_text_ask};
+pub use vouching::ReplyVoucher;

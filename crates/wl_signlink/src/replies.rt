@@ -1,8 +1,9 @@
 //! The lines that answer.
 
+ghost use Rattle.std.specs.Prelude.{◌≡◌};
 ghost use Rattle.serde_json.specs.View.{view};
 ghost use Rattle.wl_document.specs.Documents.{value_of};
-ghost use Rattle.wl_signlink.specs.Replies.{Gives, or_wrong, member_of, text_of, bytes_of, number_of, value_in, signed_in, token_in, signed_of, token_of};
+ghost use Rattle.wl_signlink.specs.Replies.{Gives, or_wrong, member_of, text_of, bytes_of, number_of, value_in, is_reply_to, reply_in, signed_in, token_in, signed_of, token_of};
 
 use crate::fault::LineFault;
 use crate::limits::REPLY_LIMIT;
@@ -118,20 +119,48 @@ fn token_in(alloc: Global, reply: &Value) -> Result<JwtToken, LineFault>
     })
 }
 
-/// Reads a reply with a signed identity, without its newline. A line that is none is Wrong.
-#[tactic(auto, unfolding(crate::specs::Replies::signed_of))]
-pub fn read_signed(alloc: Global, line: &[u8]) -> Result<Signed, LineFault>
-    ensures { Gives (λ s. s) result (signed_of line.now) }
+/// Whether a reply may answer the ask with this number: it hands back no number, or this one.
+#[tactic(auto, unfolding(crate::specs::Replies::is_reply_to))]
+fn is_reply_to(number: u64, reply: &Value) -> bool
+    ensures { result ≡ is_reply_to number (view reply.now) }
+{
+    match reply.get("number") {
+        None => true,
+        Some(found) => match found.as_u64() {
+            None => false,
+            Some(found) => found == number,
+        },
+    }
+}
+
+/// The JSON value of a line that answers the ask with this number.
+#[tactic(auto, unfolding(crate::specs::Replies::reply_in))]
+fn reply_in(alloc: Global, number: u64, line: &[u8]) -> Result<Value, LineFault>
+    ensures { Gives view result (reply_in number line.now) }
 {
     let reply = value_in(alloc, line)?;
+    if !is_reply_to(number, &reply) {
+        return Err(LineFault::Wrong);
+    }
+    Ok(reply)
+}
+
+/// Reads the reply with a signed identity to the ask with this number, without its newline. A line that is no such
+/// reply is Wrong.
+#[tactic(auto, unfolding(crate::specs::Replies::signed_of))]
+pub fn read_signed(alloc: Global, number: u64, line: &[u8]) -> Result<Signed, LineFault>
+    ensures { Gives (λ s. s) result (signed_of number line.now) }
+{
+    let reply = reply_in(alloc, number, line)?;
     signed_in(alloc, &reply)
 }
 
-/// Reads a reply with a token, without its newline. A line that is none is Wrong.
+/// Reads the reply with a token to the ask with this number, without its newline. A line that is no such reply is
+/// Wrong.
 #[tactic(auto, unfolding(crate::specs::Replies::token_of))]
-pub fn read_token(alloc: Global, line: &[u8]) -> Result<JwtToken, LineFault>
-    ensures { Gives (λ t. t) result (token_of line.now) }
+pub fn read_token(alloc: Global, number: u64, line: &[u8]) -> Result<JwtToken, LineFault>
+    ensures { Gives (λ t. t) result (token_of number line.now) }
 {
-    let reply = value_in(alloc, line)?;
+    let reply = reply_in(alloc, number, line)?;
     token_in(alloc, &reply)
 }

@@ -29,9 +29,9 @@ fn texts(alloc: Global, list: &[Octets]) -> Result<Value, AllocError>
 
 /// The request for an identity.
 #[tactic(auto, unfolding(crate::specs::Requests::x509_request))]
-fn x509_request(alloc: Global, ask: &Ask) -> Result<Value, AllocError>
+fn x509_request(alloc: Global, number: u64, ask: &Ask) -> Result<Value, AllocError>
     requires { is_text_ask ask.now ≡ true }
-    ensures { IfOk result (λ v. view v ≡ x509_request ask.now) }
+    ensures { IfOk result (λ v. view v ≡ x509_request number ask.now) }
 {
     let dns_names = texts(alloc, ask.dns_names.as_slice())?;
     let entry = text(ask.entry_id.as_slice());
@@ -40,6 +40,7 @@ fn x509_request(alloc: Global, ask: &Ask) -> Result<Value, AllocError>
         "dns_names": dns_names,
         "entry": entry,
         "kind": "x509",
+        "number": number,
         "spiffe_id": spiffe_id,
         "ttl": ask.ttl,
         "version": VERSION
@@ -48,10 +49,15 @@ fn x509_request(alloc: Global, ask: &Ask) -> Result<Value, AllocError>
 
 /// The request for a token.
 #[tactic(auto, unfolding(crate::specs::Requests::jwt_request))]
-fn jwt_request(alloc: Global, ask: &Ask, audience: &[Octets]) -> Result<Value, AllocError>
+fn jwt_request(
+    alloc: Global,
+    number: u64,
+    ask: &Ask,
+    audience: &[Octets],
+) -> Result<Value, AllocError>
     requires ask { is_text_ask ask.now ≡ true }
     requires audience { are_texts audience.now ≡ true }
-    ensures { IfOk result (λ v. view v ≡ jwt_request ask.now audience.now) }
+    ensures { IfOk result (λ v. view v ≡ jwt_request number ask.now audience.now) }
 {
     let audience = texts(alloc, audience)?;
     let entry = text(ask.entry_id.as_slice());
@@ -60,6 +66,7 @@ fn jwt_request(alloc: Global, ask: &Ask, audience: &[Octets]) -> Result<Value, A
         "audience": audience,
         "entry": entry,
         "kind": "jwt",
+        "number": number,
         "spiffe_id": spiffe_id,
         "version": VERSION
     })
@@ -77,28 +84,30 @@ fn put_line(alloc: Global, request: &Value, out: &mut Octets) -> Result<(), Memo
     out.push_slice(line.as_slice())
 }
 
-/// Appends the line that asks for an identity. When memory runs out nothing changes.
-pub fn put_x509(alloc: Global, ask: &Ask, out: &mut Octets) -> Result<(), Memory>
+/// Appends the line that asks for an identity, as the ask with this number. When memory runs out nothing changes.
+pub fn put_x509(alloc: Global, number: u64, ask: &Ask, out: &mut Octets) -> Result<(), Memory>
     requires { is_text_ask ask.now ≡ true }
-    ensures ok { OnOk result (out.new ≡ out.old ++ x509_line ask.now) }
+    ensures ok { OnOk result (out.new ≡ out.old ++ x509_line number ask.now) }
     ensures err { OnErr result (out.new ≡ out.old) }
 {
-    let request = x509_request(alloc, ask)?;
+    let request = x509_request(alloc, number, ask)?;
     put_line(alloc, &request, out)
 }
 
-/// Appends the line that asks for a token for these audiences. When memory runs out nothing changes.
+/// Appends the line that asks for a token for these audiences, as the ask with this number. When memory runs out
+/// nothing changes.
 pub fn put_jwt(
     alloc: Global,
+    number: u64,
     ask: &Ask,
     audience: &[Octets],
     out: &mut Octets,
 ) -> Result<(), Memory>
     requires ask { is_text_ask ask.now ≡ true }
     requires audience { are_texts audience.now ≡ true }
-    ensures ok { OnOk result (out.new ≡ out.old ++ jwt_line ask.now audience.now) }
+    ensures ok { OnOk result (out.new ≡ out.old ++ jwt_line number ask.now audience.now) }
     ensures err { OnErr result (out.new ≡ out.old) }
 {
-    let request = jwt_request(alloc, ask, audience)?;
+    let request = jwt_request(alloc, number, ask, audience)?;
     put_line(alloc, &request, out)
 }

@@ -1,17 +1,9 @@
-//! The lines of the format's description, replies that are cut and changed, and a signer behind a socket.
+//! The lines of the format's description, replies that are cut and changed, and asks in memory.
 
 use super::*;
 use spiffe_id::SpiffeId;
 use std::alloc::{AllocError, Global};
-use std::io;
-use std::io::{Read, Write};
-use std::os::unix::net::UnixListener;
-use std::process::id;
-use std::rt::Clock;
-use std::sync::atomic::{AtomicUsize, Ordering};
 use std::test::Fail;
-use std::thread::{join, sleep};
-use std::time::Duration;
 use wl_edge::{EdgeFault, MemorySink, MemorySource, Signer};
 use wl_entry::{Ask, JwtToken, Signed};
 use wl_octets::{Memory, Octets, Row};
@@ -21,12 +13,12 @@ const IDENTITY: &str = r#"{"chain":"AQ==","key":"Ag==","not_before":100,"not_aft
 const TOKEN: &str = r#"{"token":"t","issued_at":100,"expires_at":200}"#;
 
 const X509_LINE: &str =
-    "{\"dns_names\":[],\"entry\":\"e1\",\"kind\":\"x509\",\"spiffe_id\":\"spiffe://a.b/w\",\"ttl\":3600,\"version\":1}\n";
+    "{\"dns_names\":[],\"entry\":\"e1\",\"kind\":\"x509\",\"number\":1,\"spiffe_id\":\"spiffe://a.b/w\",\"ttl\":3600,\"version\":1}\n";
 
 const JWT_LINE: &str =
-    "{\"audience\":[\"x\"],\"entry\":\"e1\",\"kind\":\"jwt\",\"spiffe_id\":\"spiffe://a.b/w\",\"version\":1}\n";
+    "{\"audience\":[\"x\"],\"entry\":\"e1\",\"kind\":\"jwt\",\"number\":2,\"spiffe_id\":\"spiffe://a.b/w\",\"version\":1}\n";
 
-fn list(alloc: Global, texts: &[&[u8]]) -> Result<Row<Octets>, Fail> {
+pub(crate) fn list(alloc: Global, texts: &[&[u8]]) -> Result<Row<Octets>, Fail> {
     let mut list = Vec::new(alloc);
     for text in texts {
         list.push(Octets::from_slice(alloc, text)?)?;
@@ -35,7 +27,7 @@ fn list(alloc: Global, texts: &[&[u8]]) -> Result<Row<Octets>, Fail> {
 }
 
 /// The ask of an entry with this id and these DNS names.
-fn ask_of(alloc: Global, entry_id: &[u8], dns_names: &[&[u8]]) -> Result<Ask, Fail> {
+pub(crate) fn ask_of(alloc: Global, entry_id: &[u8], dns_names: &[&[u8]]) -> Result<Ask, Fail> {
     Ok(Ask {
         entry_id: Octets::from_slice(alloc, entry_id)?,
         spiffe_id: SpiffeId::parse(alloc, b"spiffe://a.b/w")?,
@@ -46,12 +38,12 @@ fn ask_of(alloc: Global, entry_id: &[u8], dns_names: &[&[u8]]) -> Result<Ask, Fa
 
 /// What a line gives as an identity and as a token.
 fn outcomes(alloc: Global, line: &[u8]) -> Result<(bool, bool), AllocError> {
-    let identity = match read_signed(alloc, line) {
+    let identity = match read_signed(alloc, 1, line) {
         Ok(_) => true,
         Err(LineFault::Wrong) => false,
         Err(LineFault::Memory) => return Err(AllocError),
     };
-    let token = match read_token(alloc, line) {
+    let token = match read_token(alloc, 1, line) {
         Ok(_) => true,
         Err(LineFault::Wrong) => false,
         Err(LineFault::Memory) => return Err(AllocError),
@@ -80,8 +72,8 @@ fn are_texts_of(bytes: &[u8], texts: &[&str]) -> bool {
 fn lines(alloc: Global, ask: &Ask, audience: &[Octets]) -> Result<Octets, Memory> {
     let mut out = Octets::from_slice(alloc, b"before")?;
     if is_text_ask(ask) && are_texts(audience) {
-        put_x509(alloc, ask, &mut out)?;
-        put_jwt(alloc, ask, audience, &mut out)?;
+        put_x509(alloc, 1, ask, &mut out)?;
+        put_jwt(alloc, 2, ask, audience, &mut out)?;
     }
     Ok(out)
 }
@@ -121,18 +113,18 @@ fn is_token(token: &JwtToken, text: &[u8], times: (u64, u64)) -> bool {
 
 #[test]
 fn answers_of_lines(rt: HostRuntime) -> Result<(), Fail> {
-    let signed = read_signed(rt.alloc(), IDENTITY.as_bytes())?;
+    let signed = read_signed(rt.alloc(), 1, IDENTITY.as_bytes())?;
     assert!(rt; is_identity(&signed, &[1], &[2], (100, 200)));
-    let token = read_token(rt.alloc(), TOKEN.as_bytes())?;
+    let token = read_token(rt.alloc(), 1, TOKEN.as_bytes())?;
     assert!(rt; is_token(&token, b"t", (100, 200)));
     Ok(())
 }
 
 const ESCAPED_X509_LINE: &str =
-    "{\"dns_names\":[\"x.y\",\"z\"],\"entry\":\"a\\\"\\n\\\\\u{e9}\",\"kind\":\"x509\",\"spiffe_id\":\"spiffe://a.b/w\",\"ttl\":3600,\"version\":1}\n";
+    "{\"dns_names\":[\"x.y\",\"z\"],\"entry\":\"a\\\"\\n\\\\\u{e9}\",\"kind\":\"x509\",\"number\":1,\"spiffe_id\":\"spiffe://a.b/w\",\"ttl\":3600,\"version\":1}\n";
 
 const ESCAPED_JWT_LINE: &str =
-    "{\"audience\":[],\"entry\":\"a\\\"\\n\\\\\u{e9}\",\"kind\":\"jwt\",\"spiffe_id\":\"spiffe://a.b/w\",\"version\":1}\n";
+    "{\"audience\":[],\"entry\":\"a\\\"\\n\\\\\u{e9}\",\"kind\":\"jwt\",\"number\":2,\"spiffe_id\":\"spiffe://a.b/w\",\"version\":1}\n";
 
 #[test]
 fn escaped_lines(rt: HostRuntime) -> Result<(), Fail> {
@@ -157,7 +149,8 @@ fn asks_that_are_no_text(rt: HostRuntime) -> Result<(), Fail> {
     Ok(())
 }
 
-static REPLIES: [(&str, bool, bool); 23] = [
+/// Replies to the ask with number 1: whether each is one with an identity, and with a token.
+static REPLIES: [(&str, bool, bool); 30] = [
     ("", false, false),
     ("{}", false, false),
     ("null", false, false),
@@ -236,6 +229,41 @@ static REPLIES: [(&str, bool, bool); 23] = [
         false,
     ),
     (r#"{"token":"t","issued_at":100}"#, false, false),
+    (
+        r#"{"number":1,"token":"t","issued_at":1,"expires_at":2}"#,
+        false,
+        true,
+    ),
+    (
+        r#"{"number":2,"token":"t","issued_at":1,"expires_at":2}"#,
+        false,
+        false,
+    ),
+    (
+        r#"{"number":2,"number":1,"token":"t","issued_at":1,"expires_at":2}"#,
+        false,
+        true,
+    ),
+    (
+        r#"{"number":"1","token":"t","issued_at":1,"expires_at":2}"#,
+        false,
+        false,
+    ),
+    (
+        r#"{"number":null,"token":"t","issued_at":1,"expires_at":2}"#,
+        false,
+        false,
+    ),
+    (
+        r#"{"number":1,"chain":"","key":"","not_before":0,"not_after":1}"#,
+        true,
+        false,
+    ),
+    (
+        r#"{"number":0,"chain":"","key":"","not_before":0,"not_after":1}"#,
+        false,
+        false,
+    ),
     (
         r#"{"token":"t","issued_at":1,"expires_at":2,"chain":"","key":"","not_before":0,"not_after":1}"#,
         true,
@@ -397,7 +425,7 @@ fn asks_identity(
     if !is_text_ask(ask) {
         return Ok(Some(false));
     }
-    match ask_x509(alloc, output, input, ask)? {
+    match ask_x509(alloc, output, input, 1, ask)? {
         Some(answer) => Ok(Some(is_identity(&answer.value, &[1], &[2], (100, 200)))),
         None => Ok(None),
     }
@@ -414,7 +442,7 @@ fn asks_token(
     if !is_text_ask(ask) || !are_texts(audience) {
         return Ok(Some(false));
     }
-    match ask_jwt(alloc, output, input, ask, audience)? {
+    match ask_jwt(alloc, output, input, 2, ask, audience)? {
         Some(answer) => Ok(Some(is_token(&answer.value, b"t", (100, 200)))),
         None => Ok(None),
     }
@@ -478,160 +506,5 @@ fn signlink_start(rt: HostRuntime) -> Result<(), Fail> {
         link.sign_jwt(&ask, &[])
             .is_err_and(|fault| fault == EdgeFault::Failed)
     );
-    Ok(())
-}
-
-/// Reads a line and drops it. False where none came.
-fn passes_a_line(stream: &mut impl Read) -> io::Result<bool> {
-    let mut byte = [0u8; 1];
-    for _ in 0..10_000 {
-        if stream.read(&mut byte)? == 0 {
-            return Ok(false);
-        }
-        if byte == [b'\n'] {
-            return Ok(true);
-        }
-    }
-    Ok(false)
-}
-
-/// Answers each request of a connection by these texts, then ends the connection.
-fn answers_one(listener: &UnixListener, replies: &[&str]) -> io::Result<()> {
-    let (mut stream, _) = listener.accept()?;
-    for reply in replies {
-        if passes_a_line(&mut stream)? {
-            stream.write_all(reply.as_bytes())?;
-        }
-    }
-    Ok(())
-}
-
-/// Answers these connections in turn, and counts those that it ended.
-fn answers(
-    listener: &UnixListener,
-    connections: &[&[&str]],
-    ended: &AtomicUsize,
-) -> io::Result<()> {
-    for replies in connections {
-        answers_one(listener, replies)?;
-        ended.fetch_add(1, Ordering::SeqCst);
-    }
-    Ok(())
-}
-
-/// Waits until so many connections ended, but for some seconds at most.
-fn wait_for(rt: &impl Clock, ended: &AtomicUsize, count: usize) {
-    for _ in 0..5_000 {
-        if ended.load(Ordering::SeqCst) >= count {
-            return;
-        }
-        sleep(rt, Duration::from_millis(1));
-    }
-}
-
-/// What a signer answers.
-#[derive(Clone, Copy, Debug, PartialEq)]
-enum Outcome {
-    Due,
-    Other,
-    Failed,
-    Memory,
-}
-
-/// The outcome of an answer, of which it is told whether it is the one that is due.
-fn told(answer: Result<bool, EdgeFault>) -> Outcome {
-    match answer {
-        Ok(true) => Outcome::Due,
-        Ok(false) => Outcome::Other,
-        Err(EdgeFault::Failed) => Outcome::Failed,
-        Err(EdgeFault::Memory) => Outcome::Memory,
-    }
-}
-
-/// What a signer answers to the ask for an identity.
-fn x509_outcome<S: Signer>(signer: &mut S, ask: &Ask) -> Outcome {
-    match signer.sign_x509(ask) {
-        Ok(signed) => told(Ok(signed.chain.as_slice() == [1].as_slice())),
-        Err(fault) => told(Err(fault)),
-    }
-}
-
-/// What a signer answers to the ask for a token.
-fn jwt_outcome<S: Signer>(signer: &mut S, ask: &Ask, audience: &[Octets]) -> Outcome {
-    match signer.sign_jwt(ask, audience) {
-        Ok(token) => told(Ok(token.token.as_slice() == b"t".as_slice())),
-        Err(fault) => told(Err(fault)),
-    }
-}
-
-/// The first connection ends after an answer that has a late one behind it; the second gives no reply that can be
-/// read; the third ends before its second answer.
-const CONNECTIONS: [&[&str]; 4] = [
-    &[
-        "{\"chain\":\"AQ==\",\"key\":\"Ag==\",\"not_before\":100,\"not_after\":200}\n",
-        "{\"token\":\"t\",\"issued_at\":100,\"expires_at\":200}\n{\"chain\":\"Aw==\",\"key\":\"Ag==\",\"not_before\":1,\"not_after\":2}\n",
-    ],
-    &["{}\n"],
-    &["{\"chain\":\"AQ==\",\"key\":\"Ag==\",\"not_before\":100,\"not_after\":200}\n"],
-    &["{\"token\":\"t\",\"issued_at\":100,\"expires_at\":200}\n"],
-];
-
-/// The outcomes of asks over all of these connections but the last.
-fn asked<S: Signer>(signer: &mut S, ask: &Ask, other: &Ask, audience: &[Octets]) -> [Outcome; 5] {
-    [
-        x509_outcome(signer, ask),
-        jwt_outcome(signer, ask, audience),
-        x509_outcome(signer, ask),
-        x509_outcome(signer, ask),
-        x509_outcome(signer, other),
-    ]
-}
-
-/// An ask, one that is no text, and audiences.
-#[derive(Drop)]
-struct Asks {
-    ask: Ask,
-    other: Ask,
-    audience: Row<Octets>,
-}
-
-fn make_asks(alloc: Global) -> Result<Asks, Fail> {
-    let ask = ask_of(alloc, b"e1", &[])?;
-    let other = ask_of(alloc, b"\xff", &[])?;
-    Ok(Asks {
-        ask,
-        other,
-        audience: list(alloc, &[b"x"])?,
-    })
-}
-
-const FOUND: [Outcome; 5] = [
-    Outcome::Due,
-    Outcome::Due,
-    Outcome::Failed,
-    Outcome::Due,
-    Outcome::Failed,
-];
-
-#[test]
-fn a_signer_behind_a_socket(rt: HostRuntime) -> Result<(), Fail> {
-    let path = format!(in rt.alloc(); "/tmp/wl_signlink_{}.sock", id(rt.process()))?;
-    let _ = std::fs::remove_file(&rt, path.as_str());
-    let listener = UnixListener::bind(&rt, path.as_str())?;
-    let mut link = SignLink::start(&rt, rt.alloc(), path.as_bytes())?;
-    let asks = make_asks(rt.alloc())?;
-    let audience = asks.audience.as_slice();
-    let ended = AtomicUsize::new(0);
-    let (served, (found, last)) = join(
-        &rt,
-        || answers(&listener, &CONNECTIONS, &ended).is_ok(),
-        || {
-            let found = asked(&mut link, &asks.ask, &asks.other, audience);
-            wait_for(&rt, &ended, 3);
-            (found, jwt_outcome(&mut link, &asks.ask, audience))
-        },
-    );
-    let _ = std::fs::remove_file(&rt, path.as_str());
-    assert!(rt; served && found == FOUND && last == Outcome::Due);
     Ok(())
 }
