@@ -50,6 +50,7 @@ is_named faults.TooMuch = inr (λ P p. p)
 is_named faults.Idle = inr (λ P p. p)
 is_named (faults.Reset x) = inr (λ P p. p)
 is_named (faults.GoAway x) = inr (λ P p. p)
+is_named faults.TooMany = inr (λ P p. p)
 
 leads_so : (s : ClientState) (h : List ℕ) → (heard h).after ≡ s → StandsFor s h
 leads_so (Listening e l) h same = same

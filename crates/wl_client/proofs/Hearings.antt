@@ -27,6 +27,7 @@ refuses_map faults.TooMuch P Q f p = f p
 refuses_map faults.Idle P Q f p = f p
 refuses_map (faults.Reset x) P Q f p = f p
 refuses_map (faults.GoAway x) P Q f p = f p
+refuses_map faults.TooMany P Q f p = f p
 
 pub refuses : (fault : ClientFault) (P : Type 0) → P → Refuses fault P
 refuses faults.Memory P p = tt
@@ -42,6 +43,7 @@ refuses faults.TooMuch P p = p
 refuses faults.Idle P p = p
 refuses (faults.Reset x) P p = p
 refuses (faults.GoAway x) P p = p
+refuses faults.TooMany P p = p
 
 -- ---- two after one another
 

@@ -1,5 +1,5 @@
 -- What a step answers.
-use Rattle.std.proofs.Common.{◌≡◌, ◌==◌, if◌then◌else◌, ℕ, List, [], ◌++◌, Bool, true, false, Option, Some, None, Result, Ok, Err, refl, sym, ap, map, ◌∙◌}
+use Rattle.std.proofs.Common.{◌≡◌, ◌==◌, ◌+◌, nat_lt, length, if◌then◌else◌, ℕ, List, [], ◌++◌, Bool, true, false, Option, Some, None, Result, Ok, Err, refl, sym, ap, map, ◌∙◌}
 use Rattle.std.proofs.lemmas.List.{append-nil, map-append}
 use Rattle.list_laws.specs.Lists.{GainsFront}
 use Rattle.list_laws.proofs.Fronts.{gains_nothing, gains_before}
@@ -18,6 +18,7 @@ use Rattle.wl_client.specs.declared.listener.Stage.{Stage}
 use Rattle.wl_client.specs.declared.listener.Stage.TheVariants.{Opening, Answering, Ended}
 use Rattle.wl_client.specs.declared.listener.OpenBlock.{OpenBlock}
 use Rattle.wl_client.specs.declared.listener.Listener.{Listener}
+use Rattle.wl_client.specs.declared.listener.TheConstants.{MAX_HEADER_BLOCK_LEN}
 use Rattle.wl_client.specs.Statuses.{http_fault, grpc_code}
 use Rattle.wl_client.specs.Hearing.{Hearing, silent, fails, Says, Tells, Writes, status_heard, head_heard, first_heard, last_heard, list_heard, decoded_heard, block_heard, longer, continued, reset_heard, going_heard, control_heard, body_heard}
 use Rattle.wl_client.proofs.Hearings.{refuses_map}
@@ -54,8 +55,12 @@ unfolding block_heard
 block_silent block true l = decoded_silent block.ended (decode_block l.decoder block.bytes).0 _
 block_silent block false l = refl
 
+longer_silent : (b : Bool) (fault : ClientFault) (h : Hearing) → h.bytes ≡ [] → (if b then fails fault else h).bytes ≡ []
+longer_silent true fault h none = refl
+longer_silent false fault h none = none
+
 pub continued_silent : (block : Option OpenBlock) (more : List ℕ) (whole : Bool) (l : Listener) → (continued block more whole l).bytes ≡ []
-continued_silent (Some block) more whole l = block_silent _ whole l
+continued_silent (Some block) more whole l = longer_silent (nat_lt MAX_HEADER_BLOCK_LEN (length block.bytes + length more)) _ (block_heard (longer block more) whole l) (block_silent _ whole l)
 continued_silent None more whole l = refl
 
 nothing_more : {A : Type 0} (due was : List A) → due ≡ [] → was ≡ was ++ due
@@ -123,13 +128,13 @@ unfolding block_heard
 block_apart block true l = refl
 block_apart block false l = refl
 
-pub continued_some : (l : Listener) (block : OpenBlock) (more : List ℕ) (whole : Bool) → l.block ≡ Some block
+pub continued_some : (l : Listener) (block : OpenBlock) (more : List ℕ) (whole : Bool) → l.block ≡ Some block → nat_lt MAX_HEADER_BLOCK_LEN (length block.bytes + length more) ≡ false
     → continued l.block more whole l ≡ block_heard (longer block more) whole (record l { block = None })
-continued_some l block more whole is = ap (λ (b : Option OpenBlock). continued b more whole l) is ∙ sym (block_apart (longer block more) whole l)
+continued_some l block more whole is room = ap (λ (b : Option OpenBlock). continued b more whole l) is ∙ (rw room refl ∙ sym (block_apart (longer block more) whole l))
 
-pub continued_at : (l : Listener) (block : OpenBlock) (more bytes : List ℕ) (whole : Bool) → l.block ≡ Some block → bytes ≡ block.bytes ++ more
+pub continued_at : (l : Listener) (block : OpenBlock) (more bytes : List ℕ) (whole : Bool) → l.block ≡ Some block → nat_lt MAX_HEADER_BLOCK_LEN (length block.bytes + length more) ≡ false → bytes ≡ block.bytes ++ more
     → continued l.block more whole l ≡ block_heard (record { ended = block.ended; bytes = bytes }) whole (record l { block = None })
-continued_at l block more bytes whole is grown = rw grown (continued_some l block more whole is)
+continued_at l block more bytes whole is room grown = rw grown (continued_some l block more whole is room)
 
 -- ---- a frame of the connection
 

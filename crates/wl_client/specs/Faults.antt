@@ -7,7 +7,7 @@ use Rattle.hpack.specs.declared.fault.HpackFault.TheVariants as header_faults
 use Rattle.grpc_wire.specs.declared.fault.MessageFault.{MessageFault}
 use Rattle.grpc_wire.specs.declared.fault.MessageFault.TheVariants as message_faults
 use Rattle.wl_client.specs.declared.fault.ClientFault.{ClientFault}
-use Rattle.wl_client.specs.declared.fault.ClientFault.TheVariants.{Frame, Header, Order, HttpStatus, NoStatus, Message, Undecodable, Cut, TooMuch, Idle, Reset, GoAway, Memory}
+use Rattle.wl_client.specs.declared.fault.ClientFault.TheVariants.{Frame, Header, Order, HttpStatus, NoStatus, Message, Undecodable, Cut, TooMuch, Idle, Reset, GoAway, Memory, TooMany}
 
 abbrev pub number_of : ClientFault → ℕ
 number_of (Frame fault) = 1
@@ -23,6 +23,7 @@ number_of Idle = 10
 number_of (Reset code) = 11
 number_of (GoAway code) = 12
 number_of Memory = 13
+number_of TooMany = 14
 
 -- running out of memory is one fault, whoever met it
 abbrev pub of_frame : FrameFault → ClientFault
@@ -61,3 +62,4 @@ Refuses TooMuch due = due
 Refuses Idle due = due
 Refuses (Reset code) due = due
 Refuses (GoAway code) due = due
+Refuses TooMany due = due

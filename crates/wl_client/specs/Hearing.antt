@@ -1,9 +1,10 @@
 -- What a client hears in the frames of a server, and what it writes (RFC 9113, sections 6 and 8.1; PROTOCOL-HTTP2 of gRPC,
 -- "Responses"). The call's stream is 1. Own rule: the first frame in the bytes that has a fault ends what is heard; of its
 -- own faults that of its place comes first, and then the one with the lower number.
-use Rattle.std.specs.Prelude.{◌≡◌, ℕ, ◌==◌, ◌&&◌, Bool, true, false, not, is_none, is_some, if◌then◌else◌, List, [], ◌∷◌, ◌++◌, map, Option, Some, None, Result, Ok, Err}
+use Rattle.std.specs.Prelude.{◌≡◌, ℕ, ◌+◌, ◌==◌, ◌&&◌, nat_lt, length, Bool, true, false, not, is_none, is_some, if◌then◌else◌, List, [], ◌∷◌, ◌++◌, map, Option, Some, None, Result, Ok, Err}
 use Rattle.wl_octets.specs.declared.header.Header.{Header}
 use Rattle.hpack.specs.declared.fault.HpackFault.{HpackFault}
+use Rattle.hpack.specs.declared.fault.HpackFault.TheVariants as header_faults
 use Rattle.hpack.specs.Decoding.{Good, decode_block}
 use Rattle.hpack.specs.Tables.{first_table}
 use Rattle.h2_frame.specs.declared.frame.Frame.{Frame}
@@ -22,6 +23,7 @@ use Rattle.wl_client.specs.declared.listener.Stage.{Stage}
 use Rattle.wl_client.specs.declared.listener.Stage.TheVariants.{Opening, Answering, Ended}
 use Rattle.wl_client.specs.declared.listener.OpenBlock.{OpenBlock}
 use Rattle.wl_client.specs.declared.listener.Listener.{Listener}
+use Rattle.wl_client.specs.declared.listener.TheConstants.{MAX_HEADER_BLOCK_LEN}
 use Rattle.wl_client.specs.Faults.{Refuses}
 use Rattle.wl_client.specs.Openings.{call_stream}
 use Rattle.wl_client.specs.Statuses.{http_fault, grpc_code, grpc_text}
@@ -85,8 +87,9 @@ block_heard block whole l =
 abbrev pub longer : OpenBlock → List ℕ → OpenBlock
 longer block more = record block { bytes = block.bytes ++ more }
 
+-- own rule: a block has at most 1,048,576 bytes
 abbrev pub continued : Option OpenBlock → List ℕ → Bool → Listener → Hearing
-continued (Some block) more whole l = block_heard (longer block more) whole l
+continued (Some block) more whole l = if nat_lt MAX_HEADER_BLOCK_LEN (length block.bytes + length more) then fails (faults.Header header_faults.ListTooLong) else block_heard (longer block more) whole l
 continued None more whole l = fails (faults.Order call_stream)
 
 -- ---- DATA

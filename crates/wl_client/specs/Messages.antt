@@ -13,11 +13,12 @@ use Rattle.pb_wire.specs.declared.field.Value.TheVariants.{Varint, Eight, Span, 
 use Rattle.pb_wire.specs.Message.{AreFields, fields_from, content_of, text_of, first_fault, unless_fault}
 use Rattle.pb_wire.specs.Strings.{fault_of}
 use Rattle.workload_proto.specs.declared.field_number.TheConstants as field_number
-use Rattle.wl_client.specs.declared.items.TheConstants.{X509_RESPONSE_CRL}
+use Rattle.wl_client.specs.declared.items.TheConstants.{X509_RESPONSE_CRL, X509_BUNDLES_CRL}
 use Rattle.wl_client.specs.declared.decode.TheConstants.{HEALTH_RESPONSE_STATUS}
 use Rattle.wl_client.specs.declared.response.X509Response.{X509Response}
 use Rattle.wl_client.specs.declared.response.X509Item.{X509Item}
 use Rattle.wl_client.specs.declared.response.MapItem.{MapItem}
+use Rattle.wl_client.specs.declared.response.BundlesResponse.{BundlesResponse}
 use Rattle.wl_client.specs.declared.response.JwtResponse.{JwtResponse}
 use Rattle.wl_client.specs.declared.response.JwtItem.{JwtItem}
 
@@ -136,6 +137,26 @@ x509_of bytes = message_of (x509_wrong bytes) (x509_more bytes) no_x509 bytes
 
 abbrev pub SpellsX509 : List ℕ → X509Response → Type 0
 SpellsX509 bytes m = Spells (x509_wrong bytes) (x509_more bytes) no_x509 bytes m
+
+-- ---- `X509BundlesResponse`; the values of crl are dropped
+
+abbrev pub no_bundles : BundlesResponse
+no_bundles = record { bundles = [] }
+
+unfoldable pub bundles_wrong : List ℕ → Field → Option FieldFault
+bundles_wrong bytes f =
+    if f.number == X509_BUNDLES_CRL then fault_of (bytes_of bytes f)
+    else if f.number == field_number.X509_BUNDLES_BUNDLES then fault_of (inner_of map_item_of bytes f)
+    else None
+
+unfoldable pub bundles_more : List ℕ → BundlesResponse → Field → BundlesResponse
+bundles_more bytes m f = if f.number == field_number.X509_BUNDLES_BUNDLES then record m { bundles = with_more m.bundles (inner_of map_item_of bytes f) } else m
+
+unfoldable pub bundles_of : List ℕ → Result BundlesResponse FieldFault
+bundles_of bytes = message_of (bundles_wrong bytes) (bundles_more bytes) no_bundles bytes
+
+abbrev pub SpellsBundles : List ℕ → BundlesResponse → Type 0
+SpellsBundles bytes m = Spells (bundles_wrong bytes) (bundles_more bytes) no_bundles bytes m
 
 -- ---- `JWTSVID`
 

@@ -15,7 +15,7 @@ use wl_octets::Memory;
 pub enum ClientFault {
     /// Bytes that are no frames.
     Frame(FrameFault),
-    /// A header block that can't be decoded.
+    /// A header block that can't be decoded, or has more than 1,048,576 bytes: then `ListTooLong`.
     Header(HpackFault),
     /// A frame on this stream is not in its place: HEADERS, DATA or CONTINUATION of a stream that was not opened; any
     /// frame within a header block, or CONTINUATION without one; DATA before the head; a later header block that does
@@ -42,10 +42,12 @@ pub enum ClientFault {
     GoAway(u32),
     /// Memory ran out.
     Memory,
+    /// A second message came before the status of a call that has one. It comes from who reads the answer of such a call.
+    TooMany,
 }
 
 impl ClientFault {
-    /// The number of the fault, from 1 to 13 (own rule). It takes no memory.
+    /// The number of the fault, from 1 to 14 (own rule). It takes no memory.
     pub fn number(&self) -> u8
         ensures { result ≡ number_of self.now }
     {
@@ -63,6 +65,7 @@ impl ClientFault {
             ClientFault::Reset(_) => 11,
             ClientFault::GoAway(_) => 12,
             ClientFault::Memory => 13,
+            ClientFault::TooMany => 14,
         }
     }
 }

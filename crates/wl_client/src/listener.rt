@@ -1,6 +1,6 @@
 //! Frames, one after another, as a client hears them.
 
-ghost use Rattle.std.specs.Prelude.{◌≡◌, ◌≤◌, ◌++◌, length, map, OnOk, IfOk, IfErr};
+ghost use Rattle.std.specs.Prelude.{◌≡◌, ◌≤◌, ◌+◌, ◌++◌, length, nat_lt, map, OnOk, IfOk, IfErr};
 ghost use Rattle.list_laws.specs.Lists.{GainsFront};
 ghost use Rattle.h2_wire.specs.declared.limit.TheConstants.{MAX_FRAME_SIZE};
 ghost use Rattle.h2_frame.specs.declared.frame.Body.TheVariants as bodies;
@@ -19,11 +19,14 @@ use crate::reply::Heard;
 use grpc_wire::MessageFault;
 use h2_frame::{Body, Frame, put_frame};
 use h2_wire::error_code;
-use hpack::Decoder;
+use hpack::{Decoder, HpackFault};
 use std::alloc::Global;
 use std::mem;
 use wl_octets::{Header, Memory, Octets, Row};
 use workload_proto::MAX_RESPONSE_LEN;
+
+/// How many bytes the header block of an answer may have (own rule).
+const MAX_HEADER_BLOCK_LEN: usize = 1_048_576;
 
 /// How far the call's stream is.
 #[derive(Clone, Copy, PartialEq, Eq)]
@@ -51,6 +54,13 @@ pub struct Listener {
     pub block: Option<OpenBlock>,
     pub stage: Stage,
     pub messages: Assembly,
+}
+
+/// Whether a block has too many bytes with these behind it.
+fn is_too_long(block: &OpenBlock, more: &[u8]) -> bool
+    ensures { result ≡ nat_lt MAX_HEADER_BLOCK_LEN (length block.now.bytes + length more.now) }
+{
+    block.bytes.len() + more.len() > MAX_HEADER_BLOCK_LEN
 }
 
 /// Puts each message behind what was heard.
@@ -249,6 +259,9 @@ impl Listener {
     {
         match mem::replace(&mut self.block, None) {
             Some(mut block) => {
+                if is_too_long(&block, more) {
+                    return Err(ClientFault::Header(HpackFault::ListTooLong));
+                }
                 block.bytes.push_slice(more)?;
                 self.take_block(alloc, block, whole, into)
             }

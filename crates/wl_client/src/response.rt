@@ -29,6 +29,12 @@ pub struct MapItem<'a> {
     pub value: Lent<'a>,
 }
 
+/// `X509BundlesResponse`: `bundles`, from a trust domain's id to its X.509 bundle.
+#[derive(Drop, PartialEq)]
+pub struct BundlesResponse<'a> {
+    pub bundles: Row<MapItem<'a>>,
+}
+
 /// `JWTSVIDResponse`.
 #[derive(Drop, PartialEq)]
 pub struct JwtResponse<'a> {

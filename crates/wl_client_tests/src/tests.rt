@@ -16,7 +16,8 @@ const GREETING: &[u8] =
 const ACK: &[u8] = b"\x00\x00\x00\x04\x01\x00\x00\x00\x00";
 
 /// The head of an answer.
-const HEAD: &[u8] = b"\x00\x00\x14\x01\x04\x00\x00\x00\x01\x88\x0f\x10\x10application/grpc";
+pub(crate) const HEAD: &[u8] =
+    b"\x00\x00\x14\x01\x04\x00\x00\x00\x01\x88\x0f\x10\x10application/grpc";
 
 /// DATA of one message, `abc`.
 const ABC: &[u8] = b"\x00\x00\x08\x00\x00\x00\x00\x00\x01\x00\x00\x00\x00\x03abc";
@@ -471,6 +472,7 @@ fn faults_have_numbers(rt: HostRuntime) {
         ClientFault::Reset(8),
         ClientFault::GoAway(11),
         ClientFault::Memory,
+        ClientFault::TooMany,
     ];
     for (at, fault) in faults.iter().enumerate() {
         assert_eq!(rt; usize::from(fault.number()), at + 1);
