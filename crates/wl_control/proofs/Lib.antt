@@ -1,4 +1,6 @@
 pub mod Courses
+pub mod Fitting
 pub mod Messages
 pub mod Passages
+pub mod Printable
 pub mod Standings

@@ -8,7 +8,7 @@ use Rattle.wl_edge.specs.declared.link.Heard.{Heard as Answer}
 use Rattle.wl_control.specs.declared.asked.Verdict.{Verdict}
 use Rattle.wl_control.specs.declared.status.TheConstants.{WRITE_FAILED}
 use Rattle.wl_control.specs.Runs.{verdict_line}
-use Rattle.wl_control.specs.Ends.{Moment, LinkGains, Passes, WriteRose, status_of, Breaks, Delivered, delivered, fails, SendsAll}
+use Rattle.wl_control.specs.Ends.{Moment, moment, LinkGains, Passes, status_of, Breaks, Delivered, delivered, not_written, not_sent, SendsAll}
 
 -- ---- nothing
 
@@ -53,10 +53,6 @@ passes_more a b c xs ys s u t v p r = record {
 pub rose_wide : (a b c d : ℕ) → a ≤ b → c ≤ d → Rose b c → Rose a d
 rose_wide a b c d first last (inl lt) = inl (omega arith)
 rose_wide a b c d first last (inr end) = inr (omega arith)
-
-pub write_rose_wide : (a b c : Moment) (xs : List Answer) (s t : List ℕ) → Passes a b xs s t → WriteRose b c → WriteRose a c
-write_rose_wide a b c xs s t p (inl rose) = inl (rose_wide a.failed_sends b.failed_sends c.failed_sends c.failed_sends p.sends (omega arith) rose)
-write_rose_wide a b c xs s t p (inr rose) = inr (rose_wide a.failed_writes b.failed_writes c.failed_writes c.failed_writes p.writes (omega arith) rose)
 
 -- ---- a text that a link takes piece by piece
 
@@ -107,20 +103,30 @@ gives_none l m k r s w t u none later same = record { link = none; sink = sink_s
 
 -- ---- what is delivered
 
-pub not_sent : (sent text bytes : List ℕ) (verdict : Option Verdict) (l m : Option LinkLog) (k : Option (List ℕ)) (r s w t u : ℕ) → bytes ≡ sent → t ≡ r → SendsAll l m s u bytes false
-    → Delivered sent text verdict (record { link = l; sink = k; failed_receives = r; failed_sends = s; failed_writes = w }) (record { link = m; sink = k; failed_receives = t; failed_sends = u; failed_writes = w }) (Some WRITE_FAILED)
-not_sent sent text bytes verdict l m k r s w t u same still went =
-    fails (inl went.0) (record {
-      sent_part = went.2.0;
-      text_part = [];
-      passes = record { link = went.2.2; sink = sink_same k; receives = omega arith; sends = went.1; writes = omega arith };
-      due_sent = subst (λ (xs : List ℕ). BeginsWith xs went.2.0) same went.2.1;
-      due_text = (text ++ verdict_line verdict, refl);
+pub write_fails : (sent text lines : List ℕ) (verdict : Option Verdict) (l : Option LinkLog) (k n : Option (List ℕ)) (r s w v : ℕ) → lines ≡ text ++ verdict_line verdict → Sends k n w v lines false
+    → Delivered sent text verdict (moment l k r s w) (moment l n r s v) (Some WRITE_FAILED)
+write_fails sent text lines verdict l k n r s w v whole wrote =
+    not_written wrote.gives.0 (record {
+      sent_part = [];
+      text_part = wrote.gives.1.0;
+      passes = record { link = link_same l; sink = wrote.gives.1.2; receives = omega arith; sends = omega arith; writes = wrote.later };
+      due_sent = (sent, refl);
+      due_text = subst (λ (xs : List ℕ). BeginsWith xs wrote.gives.1.0) whole wrote.gives.1.1;
     })
+
+pub send_fails : (sent text bytes lines : List ℕ) (verdict : Option Verdict) (l m : Option LinkLog) (k n : Option (List ℕ)) (r s w t u v : ℕ) → bytes ≡ sent → lines ≡ text ++ verdict_line verdict
+    → t ≡ r → SendsAll l m s u bytes false → Sends k n w v lines true
+    → Delivered sent text verdict (moment l k r s w) (moment m n t u v) (Some WRITE_FAILED)
+send_fails sent text bytes lines verdict l m k n r s w t u v same whole still went wrote =
+    not_sent went.0 (
+      went.2.0,
+      subst (λ (xs : List ℕ). BeginsWith xs went.2.0) same went.2.1,
+      record { link = went.2.2; sink = subst (λ (xs : List ℕ). Gained k n xs) whole wrote.gives; receives = omega arith; sends = went.1; writes = wrote.later },
+    )
 
 pub all_delivered : (sent text bytes lines : List ℕ) (verdict : Option Verdict) (status : Option ℕ) (l m : Option LinkLog) (k n : Option (List ℕ)) (r s w t u v : ℕ) → bytes ≡ sent → lines ≡ text ++ verdict_line verdict
     → status ≡ option_map status_of verdict → t ≡ r → SendsAll l m s u bytes true → Sends k n w v lines true
-    → Delivered sent text verdict (record { link = l; sink = k; failed_receives = r; failed_sends = s; failed_writes = w }) (record { link = m; sink = n; failed_receives = t; failed_sends = u; failed_writes = v }) status
+    → Delivered sent text verdict (moment l k r s w) (moment m n t u v) status
 all_delivered sent text bytes lines verdict status l m k n r s w t u v same whole is still went wrote =
     rw is (delivered (record {
       link = subst (λ (xs : List ℕ). LinkGains l m [] xs) same went.0;
@@ -129,21 +135,3 @@ all_delivered sent text bytes lines verdict status l m k n r s w t u v same whol
       sends = went.1;
       writes = wrote.later;
     }))
-
-pub not_written : (sent text bytes lines : List ℕ) (verdict : Option Verdict) (l m : Option LinkLog) (k n : Option (List ℕ)) (r s w t u v : ℕ) → bytes ≡ sent → lines ≡ text ++ verdict_line verdict
-    → t ≡ r → SendsAll l m s u bytes true → Sends k n w v lines false
-    → Delivered sent text verdict (record { link = l; sink = k; failed_receives = r; failed_sends = s; failed_writes = w }) (record { link = m; sink = n; failed_receives = t; failed_sends = u; failed_writes = v }) (Some WRITE_FAILED)
-not_written sent text bytes lines verdict l m k n r s w t u v same whole still went wrote =
-    fails (inr wrote.gives.0) (record {
-      sent_part = sent;
-      text_part = wrote.gives.1.0;
-      passes = record {
-        link = subst (λ (xs : List ℕ). LinkGains l m [] xs) same went.0;
-        sink = wrote.gives.1.2;
-        receives = omega arith;
-        sends = went.1;
-        writes = wrote.later;
-      };
-      due_sent = ([], sym (append-nil sent));
-      due_text = subst (λ (xs : List ℕ). BeginsWith xs wrote.gives.1.0) whole wrote.gives.1.1;
-    })

@@ -30,10 +30,10 @@ use Rattle.wl_control.specs.declared.status.TheConstants.{READ_FAILED, WRITE_FAI
 use Rattle.wl_control.specs.Courses.{Course, course}
 use Rattle.wl_control.specs.Calls.{method_of, message_of, asked_of}
 use Rattle.wl_control.specs.Runs.{bytes_of, bytes_in, is_end, idles_with, idles_after, idles_in, limit_fault, link_fault, bytes_verdict, or_fault, course_by, verdict_of, line_of, verdict_line, text_of, sent_of, AreAwaited}
-use Rattle.wl_control.specs.Ends.{Moment, LinkGains, Passes, BreaksOff, IsDecided, Ends, decided, fails_read, fails_write, Breaks, Delivered, delivered, fails, Delivers, SendsAll}
+use Rattle.wl_control.specs.Ends.{Moment, LinkGains, Passes, BreaksOff, BreaksSending, IsDecided, Ends, decided, fails_read, fails_send, fails_write, Breaks, SendsPart, Delivered, delivered, not_written, not_sent, Delivers, SendsAll}
 use Rattle.wl_control.specs.Standings.{reply_to, run_on, verdict_on, GoesOn, Starts, Standing, StepEnds}
 use Rattle.wl_control.proofs.Courses.{course_on}
-use Rattle.wl_control.proofs.Passages.{link_same, sink_same, passes_nothing, passes_more, rose_wide, write_rose_wide, gives_one, gives_none}
+use Rattle.wl_control.proofs.Passages.{link_same, sink_same, passes_nothing, passes_more, rose_wide, gives_one, gives_none}
 
 -- ---- one answer more
 
@@ -178,6 +178,16 @@ breaks_off q start mid new answers sent text verdict d b =
       due_text = begins_more (text_of q answers) d.text_first (text ++ verdict_line verdict) b.text_part t.0 t.1 b.due_text;
     }
 
+breaks_sending : (q : Request) (start mid new : Moment) (answers : List Answer) (sent text : List ℕ) (verdict : Option Verdict) → Due q start mid answers sent text verdict
+    → SendsPart sent (text ++ verdict_line verdict) mid new → BreaksSending q start new
+unfolding breaks_off course_by
+breaks_sending q start mid new answers sent text verdict d b =
+    let all = text ++ verdict_line verdict in
+    record {
+      breaks = breaks_off q start mid new answers sent text verdict d (record { sent_part = b.0; text_part = all; passes = b.2; due_sent = b.1; due_text = ([], sym (append-nil all)) });
+      written = (verdict_line verdict, rw (d.lines) (sym (append_assoc d.text_first text (verdict_line verdict))));
+    }
+
 is_decided : (q : Request) (start mid new : Moment) (answers : List Answer) (sent text : List ℕ) (v : Verdict) → Due q start mid answers sent text (Some v)
     → Passes mid new [] sent (text ++ line_of v) → IsDecided q start new v
 unfolding text_of
@@ -205,8 +215,10 @@ step_delivered : (q : Request) (start mid new : Moment) (call : Call) (answers :
     → Delivered sent text verdict mid new status → StepEnds q start new call (Ok status)
 step_delivered q start mid new call answers sent text None status d go (delivered p) = go refl refl (goes_out q start mid new answers sent text d p)
 step_delivered q start mid new call answers sent text (Some v) status d go (delivered p) = decided v (is_decided q start mid new answers sent text v d p)
-step_delivered q start mid new call answers sent text verdict status d go (fails rose b) =
-    fails_write (write_rose_wide start mid new answers d.sent_first d.text_first d.passes rose) (breaks_off q start mid new answers sent text verdict d b)
+step_delivered q start mid new call answers sent text verdict status d go (not_written rose b) =
+    fails_write (rose_wide start.failed_writes mid.failed_writes new.failed_writes new.failed_writes d.passes.writes (omega arith) rose) (breaks_off q start mid new answers sent text verdict d b)
+step_delivered q start mid new call answers sent text verdict status d go (not_sent rose b) =
+    fails_send (rose_wide start.failed_sends mid.failed_sends new.failed_sends new.failed_sends d.passes.sends (omega arith) rose) (breaks_sending q start mid new answers sent text verdict d b)
 
 step_delivers : (q : Request) (start mid new : Moment) (call : Call) (answers : List Answer) (sent text : List ℕ) (verdict : Option Verdict) (result : Result (Option ℕ) Memory) → Due q start mid answers sent text verdict
     → (result ≡ Ok None → verdict ≡ None → Passes start new answers (sent_of q answers) (course_by q answers).lines → StepEnds q start new call (Ok None))
@@ -413,10 +425,13 @@ breaks_start q m = breaks_first q m m [] (opening_of (method_of q) (message_of q
 
 pub opening_fails : (q : Request) (call : Call) (bytes : List ℕ) (l m : Option LinkLog) (k : Option (List ℕ)) (r s w t u : ℕ) → Starts q call → bytes ≡ call.client.opening → t ≡ r → SendsAll l m s u bytes false
     → Ends q (record { link = l; sink = k; failed_receives = r; failed_sends = s; failed_writes = w }) (record { link = m; sink = k; failed_receives = t; failed_sends = u; failed_writes = w }) WRITE_FAILED
+unfolding breaks_first
 opening_fails q call bytes l m k r s w t u begun same still went =
-    fails_write (inl went.0)
-    (breaks_first q _ _ went.2.0 (subst (λ (xs : List ℕ). BeginsWith xs went.2.0) (same ∙ begun.opening) went.2.1)
-    (record { link = went.2.2; sink = sink_same k; receives = omega arith; sends = went.1; writes = omega arith }))
+    fails_send went.0 (record {
+      breaks = breaks_first q _ _ went.2.0 (subst (λ (xs : List ℕ). BeginsWith xs went.2.0) (same ∙ begun.opening) went.2.1)
+          (record { link = went.2.2; sink = sink_same k; receives = omega arith; sends = went.1; writes = omega arith });
+      written = ([], sym (ap (λ (c : Course). c.lines ++ []) (course_start q)));
+    })
 
 pub opening_sent : (q : Request) (call : Call) (bytes : List ℕ) (l m : Option LinkLog) (k : Option (List ℕ)) (r s w t u : ℕ) → Starts q call → bytes ≡ call.client.opening → t ≡ r → SendsAll l m s u bytes true
     → Standing q (record { link = l; sink = k; failed_receives = r; failed_sends = s; failed_writes = w }) (record { link = m; sink = k; failed_receives = t; failed_sends = u; failed_writes = w }) call []

@@ -28,11 +28,11 @@ abbrev pub message_course : Result (List ℕ) FieldFault → Asked → Course
 message_course (Ok lines) a = record { lines = lines; after = one_less a }
 message_course (Err fault) a = decides (Faulted (faults.Undecodable fault))
 
--- The status 0 behind what was asked for is awaited where it is; any other status is a refusal. A message more than was
--- asked for says nothing.
+-- The status 0 after what was asked for is awaited where it is; any other status is a refusal. A unary call has one message
+-- (gRPC, "Core concepts"): a second one before its status is a fault.
 unfoldable pub part_course : Heard → Asked → Course
 part_course Head a = asks a
-part_course (Message m) a = if a.left == 0 then asks a else message_course (lines_of a.kind m) a
+part_course (Message m) a = if a.left == 0 then decides (Faulted faults.TooMany) else message_course (lines_of a.kind m) a
 part_course (Status code text) a = if (a.left == 0) && (code == 0) then decides Done else decides (Denied code text)
 
 abbrev pub then_course : List ℕ → Result Asked Verdict → (Asked → Course) → Course

@@ -1,5 +1,5 @@
 -- How a run of the client program ends, and what it sent and wrote (own rules).
-use Rattle.std.specs.Prelude.{◌≡◌, ◌≤◌, ◌⊎◌, ℕ, Bool, true, false, List, [], ◌++◌, Result, Ok, Err, Option, Some, None, IfSome, option_map}
+use Rattle.std.specs.Prelude.{◌≡◌, ◌≤◌, ℕ, Bool, true, false, List, [], ◌++◌, Result, Ok, Err, Option, Some, None, IfSome, option_map}
 use Rattle.list_laws.specs.Lists.{BeginsWith}
 use Rattle.wl_octets.specs.declared.memory.Memory.{Memory}
 use Rattle.wl_edge.specs.Edge.{Rose, Gained}
@@ -9,7 +9,7 @@ use Rattle.wl_control.specs.declared.asked.Verdict.{Verdict}
 use Rattle.wl_control.specs.declared.asked.Verdict.TheVariants.{Done, Denied, Faulted}
 use Rattle.wl_control.specs.declared.request.Request.{Request}
 use Rattle.wl_control.specs.declared.status.TheConstants.{DONE, USAGE, READ_FAILED, WRITE_FAILED, OUT_OF_MEMORY, DENIED, CLIENT_FAULT}
-use Rattle.wl_control.specs.Runs.{verdict_line, verdict_of, text_of, sent_of, AreAwaited}
+use Rattle.wl_control.specs.Runs.{course_by, verdict_line, verdict_of, text_of, sent_of, AreAwaited}
 
 -- ---- what goes on outside
 
@@ -20,6 +20,9 @@ pub record Moment : Type 0 where
   pub failed_receives : ℕ
   pub failed_sends : ℕ
   pub failed_writes : ℕ
+
+abbrev pub moment : Option LinkLog → Option (List ℕ) → ℕ → ℕ → ℕ → Moment
+moment link sink receives sends writes = record { link = link; sink = sink; failed_receives = receives; failed_sends = sends; failed_writes = writes }
 
 -- a link gave these answers and took these bytes, where it tells that
 abbrev pub LinkGains : Option LinkLog → Option LinkLog → List Answer → List ℕ → Type 0
@@ -32,10 +35,6 @@ pub record Passes (old new : Moment) (answers : List Answer) (sent text : List �
   pub receives : old.failed_receives ≤ new.failed_receives
   pub sends : old.failed_sends ≤ new.failed_sends
   pub writes : old.failed_writes ≤ new.failed_writes
-
--- a sending or a write failed
-abbrev pub WriteRose : Moment → Moment → Type 0
-WriteRose old new = Rose old.failed_sends new.failed_sends ⊎ Rose old.failed_writes new.failed_writes
 
 -- ---- the statuses
 
@@ -54,6 +53,11 @@ pub record BreaksOff (q : Request) (old new : Moment) : Type 0 where
   pub due_sent : BeginsWith (sent_of q answers) sent
   pub due_text : BeginsWith (text_of q answers) text
 
+-- A call whose sending failed: the lines of all its messages were written before.
+pub record BreaksSending (q : Request) (old new : Moment) : Type 0 where
+  pub breaks : BreaksOff q old new
+  pub written : BeginsWith breaks.text (course_by q breaks.answers).lines
+
 -- A call that was decided: each answer of its link was awaited, they have this verdict, and it sent and wrote exactly what
 -- was due for them.
 pub record IsDecided (q : Request) (old new : Moment) (v : Verdict) : Type 0 where
@@ -68,8 +72,10 @@ pub data Ends (q : Request) (old new : Moment) : ℕ → Type 0 where
   decided : (v : Verdict) → IsDecided q old new v → Ends q old new (status_of v)
   -- a receive failed
   fails_read : Rose old.failed_receives new.failed_receives → BreaksOff q old new → Ends q old new READ_FAILED
-  -- a sending or a write failed
-  fails_write : WriteRose old new → BreaksOff q old new → Ends q old new WRITE_FAILED
+  -- a sending failed
+  fails_send : Rose old.failed_sends new.failed_sends → BreaksSending q old new → Ends q old new WRITE_FAILED
+  -- a write failed
+  fails_write : Rose old.failed_writes new.failed_writes → BreaksOff q old new → Ends q old new WRITE_FAILED
   -- memory ran out
   lacks_memory : BreaksOff q old new → Ends q old new OUT_OF_MEMORY
 
@@ -91,10 +97,15 @@ pub record Breaks (sent text : List ℕ) (old new : Moment) : Type 0 where
   pub due_sent : BeginsWith sent sent_part
   pub due_text : BeginsWith text text_part
 
--- the text went out, and the line of the verdict behind it
+-- the text went out and the line of the verdict after it, and then a prefix of the bytes
+abbrev pub SendsPart : List ℕ → List ℕ → Moment → Moment → Type 0
+SendsPart sent text old new = (part : List ℕ) × BeginsWith sent part × Passes old new [] part text
+
+-- the text went out and the line of the verdict after it, and then the bytes
 pub data Delivered (sent text : List ℕ) (verdict : Option Verdict) (old new : Moment) : Option ℕ → Type 0 where
   delivered : Passes old new [] sent (text ++ verdict_line verdict) → Delivered sent text verdict old new (option_map status_of verdict)
-  fails : WriteRose old new → Breaks sent (text ++ verdict_line verdict) old new → Delivered sent text verdict old new (Some WRITE_FAILED)
+  not_written : Rose old.failed_writes new.failed_writes → Breaks sent (text ++ verdict_line verdict) old new → Delivered sent text verdict old new (Some WRITE_FAILED)
+  not_sent : Rose old.failed_sends new.failed_sends → SendsPart sent (text ++ verdict_line verdict) old new → Delivered sent text verdict old new (Some WRITE_FAILED)
 
 abbrev pub Delivers : List ℕ → List ℕ → Option Verdict → Moment → Moment → Result (Option ℕ) Memory → Type 0
 Delivers sent text verdict old new (Ok status) = Delivered sent text verdict old new status

@@ -1,4 +1,5 @@
 pub mod Words
+pub mod Escapes
 pub mod Lines
 pub mod Courses
 pub mod Takings

@@ -1,21 +1,11 @@
 -- The words of the client program (own rules).
-use Rattle.std.specs.Prelude.{◌≡◌, ◌≤◌, true, ℕ, ◌+◌, ◌*◌, ◌-◌, ◌==◌, ◌&&◌, Bool, false, nat_le, if◌then◌else◌, List, [], ◌∷◌, length, codes, Option, Some, None, option_map, option_and_then}
+use Rattle.std.specs.Prelude.{◌≡◌, ◌≤◌, true, ℕ, ◌+◌, ◌*◌, ◌-◌, ◌==◌, ◌&&◌, Bool, nat_le, if◌then◌else◌, List, [], ◌∷◌, length, codes, Option, Some, None, option_map, option_and_then}
 use Rattle.std.specs.Str.{bytes_eq}
 use Rattle.std.specs.List.{list_all}
+use Rattle.clap_words.specs.Operands.{operands}
 use Rattle.wl_control.specs.declared.words.TheConstants.{MAX_COUNT, MAX_AUDIENCES, MAX_WORD_LEN}
 use Rattle.wl_control.specs.declared.request.Request.{Request}
-use Rattle.wl_control.specs.declared.request.Request.TheVariants.{FetchX509, FetchJwt, Watch, Health, HealthWatch}
-
--- two bytes or more, the first of them `-`
-abbrev pub is_option : List ℕ → Bool
-is_option [] = false
-is_option (b ∷ []) = false
-is_option (b ∷ c ∷ bytes) = b == 45
-
--- all words but the first `--`, before which none is an option
-abbrev pub operands : List (List ℕ) → Option (List (List ℕ))
-operands [] = Some []
-operands (w ∷ ws) = if bytes_eq w (codes "--") then Some ws else if is_option w then None else option_map (λ others. w ∷ others) (operands ws)
+use Rattle.wl_control.specs.declared.request.Request.TheVariants.{FetchX509, FetchBundles, FetchJwt, Watch, Health, HealthWatch}
 
 abbrev pub is_digit : ℕ → Bool
 is_digit b = nat_le 48 b && nat_le b 57
@@ -51,9 +41,13 @@ abbrev pub x509_of : List (List ℕ) → Option Request
 x509_of [] = Some FetchX509
 x509_of (w ∷ ws) = None
 
+abbrev pub bundles_of : List (List ℕ) → Option Request
+bundles_of [] = Some FetchBundles
+bundles_of (w ∷ ws) = None
+
 abbrev pub fetch_of : List (List ℕ) → Option Request
 fetch_of [] = None
-fetch_of (w ∷ ws) = if bytes_eq w (codes "x509") then x509_of ws else if bytes_eq w (codes "jwt") then jwt_of ws else None
+fetch_of (w ∷ ws) = if bytes_eq w (codes "x509") then x509_of ws else if bytes_eq w (codes "bundles") then bundles_of ws else if bytes_eq w (codes "jwt") then jwt_of ws else None
 
 -- `watch COUNT`, `health-watch COUNT`
 abbrev pub count_of : (ℕ → Request) → List (List ℕ) → Option Request
@@ -83,6 +77,7 @@ request_of (w ∷ ws) = option_and_then (request_by w) (operands ws)
 -- a request whose words are as short as they may be
 abbrev pub IsFit : Request → Type 0
 IsFit FetchX509 = Unit {0}
+IsFit FetchBundles = Unit {0}
 IsFit (FetchJwt audiences) = (length audiences ≤ MAX_AUDIENCES) × (list_all is_audience audiences ≡ true)
 IsFit (Watch count) = Unit {0}
 IsFit (Health service) = length service ≤ MAX_WORD_LEN

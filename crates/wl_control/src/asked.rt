@@ -16,6 +16,8 @@ use wl_octets::{Memory, Octets};
 pub enum Kind {
     /// An `X509SVIDResponse`.
     X509,
+    /// An `X509BundlesResponse`.
+    Bundles,
     /// A `JWTSVIDResponse`.
     Jwt,
     /// A `HealthCheckResponse`.
@@ -28,7 +30,7 @@ pub struct Asked {
     pub kind: Kind,
     /// How many messages.
     pub left: u32,
-    /// Whether the status 0 is awaited behind them.
+    /// Whether the status 0 is awaited after them.
     pub awaits: bool,
 }
 
@@ -67,7 +69,7 @@ impl Asked {
         ensures { IfOk result (λ verdict. Runs (part_course (Message message.now) self.old) verdict text.old.items text.new.items self.new) }
     {
         if self.left == 0 {
-            return Ok(None);
+            return Ok(Some(Verdict::Faulted(ClientFault::TooMany)));
         }
         match put_lines(alloc, text, self.kind, message) {
             Ok(()) => Ok(self.count_down()),

@@ -25,6 +25,7 @@ pub(crate) fn method_of(request: &Request) -> Method
 {
     match request {
         Request::FetchX509 | Request::Watch(_) => Method::X509Svid,
+        Request::FetchBundles => Method::X509Bundles,
         Request::FetchJwt(_) => Method::JwtSvid,
         Request::Health(_) => Method::HealthCheck,
         Request::HealthWatch(_) => Method::HealthWatch,
@@ -38,6 +39,11 @@ pub(crate) fn asked_of(request: &Request) -> Asked
     match request {
         Request::FetchX509 => Asked {
             kind: Kind::X509,
+            left: 1,
+            awaits: false,
+        },
+        Request::FetchBundles => Asked {
+            kind: Kind::Bundles,
             left: 1,
             awaits: false,
         },
@@ -89,7 +95,8 @@ pub(crate) fn message_of(alloc: Global, request: &Request) -> Result<Vec<u8>, Me
                 put_bytes(&mut message, HEALTH_REQUEST_SERVICE, service.as_slice())?;
             }
         }
-        Request::FetchX509 | Request::Watch(_) | Request::HealthWatch(_) => {}
+        Request::FetchX509 | Request::FetchBundles | Request::Watch(_) | Request::HealthWatch(_) =>
+            {}
     }
     Ok(message)
 }

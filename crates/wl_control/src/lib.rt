@@ -6,6 +6,8 @@
 
 mod asked;
 mod call;
+mod escapes;
+mod laws;
 mod limits;
 mod lines;
 mod program;
@@ -14,4 +16,6 @@ mod sending;
 pub mod status;
 mod words;
 
+pub use laws::escaped_text_has_no_newline;
 pub use program::control;
+pub use words::refusal;

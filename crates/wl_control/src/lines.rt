@@ -1,38 +1,22 @@
 //! The lines that are written.
 
-ghost use Rattle.std.specs.Prelude.{◌≡◌, ◌++◌, ◌<◌, codes, Ok, Err, IfOk, OnOk, MatchResult};
+ghost use Rattle.std.specs.Prelude.{◌≡◌, ◌++◌, codes, Ok, Err, IfOk, OnOk, MatchResult};
 ghost use Rattle.std.specs.Fmt.{decimal};
 ghost use Rattle.std.specs.List.{flat_map};
-ghost use Rattle.wl_client.specs.Messages.{x509_of, jwt_of, state_of};
-ghost use Rattle.wl_control.specs.Lines.{hex_digit, hex, line_end, svid_line, svid_lines, jwt_line, jwt_lines, state_line, status_line, fault_line, lines_of, lines_by};
+ghost use Rattle.wl_client.specs.Messages.{x509_of, bundles_of, jwt_of, state_of};
+ghost use Rattle.wl_control.specs.Escapes.{hex};
+ghost use Rattle.wl_control.specs.Lines.{line_end, svid_line, svid_lines, bundle_line, bundle_lines, jwt_line, jwt_lines, state_line, status_line, fault_line, lines_of, lines_by};
 ghost use Rattle.wl_control.specs.Takings.{Writes};
 
 use crate::asked::Kind;
+use crate::escapes::{put_escaped, put_hex};
 use std::alloc::Global;
 use std::string::ToString;
-use wl_client::{ClientFault, JwtItem, X509Item, decode_jwt, decode_state, decode_x509};
+use wl_client::{
+    ClientFault, JwtItem, MapItem, X509Item, decode_bundles, decode_jwt, decode_state, decode_x509,
+};
 use wl_octets::{Memory, Octets};
 use workload_proto::ProtoFault;
-
-/// A digit of lower-case hexadecimal.
-fn digit(value: u8) -> u8
-    requires { value < 16 }
-    ensures { result ≡ hex_digit value }
-{
-    if value < 10 { 48 + value } else { 87 + value }
-}
-
-/// The two digits of each byte.
-#[tactic(auto, unfolding(crate::specs::Lines::hex))]
-fn put_hex(out: &mut Vec<u8>, bytes: &[u8]) -> Result<(), Memory>
-    ensures { OnOk result (out.new.items ≡ out.old.items ++ hex bytes.now) }
-{
-    for byte in bytes {
-        out.push(digit(*byte / 16))?;
-        out.push(digit(*byte % 16))?;
-    }
-    Ok(())
-}
 
 /// A number in decimal.
 fn put_decimal(out: &mut Vec<u8>, number: u32) -> Result<(), Memory>
@@ -57,7 +41,7 @@ fn put_svid(out: &mut Vec<u8>, svid: &X509Item) -> Result<(), Memory>
     ensures { OnOk result (out.new.items ≡ out.old.items ++ svid_line svid.now) }
 {
     out.extend_from_slice(b"svid ")?;
-    out.extend_from_slice(svid.spiffe_id.as_slice())?;
+    put_escaped(out, svid.spiffe_id.as_slice())?;
     put_part(out, b" chain=", svid.chain.as_slice())?;
     put_part(out, b" key=", svid.key.as_slice())?;
     put_part(out, b" bundle=", svid.bundle.as_slice())?;
@@ -75,14 +59,34 @@ fn put_svids(out: &mut Vec<u8>, svids: &[X509Item]) -> Result<(), Memory>
     Ok(())
 }
 
+#[tactic(auto, unfolding(crate::specs::Lines::bundle_line))]
+fn put_bundle(out: &mut Vec<u8>, bundle: &MapItem) -> Result<(), Memory>
+    ensures { OnOk result (out.new.items ≡ out.old.items ++ bundle_line bundle.now) }
+{
+    out.extend_from_slice(b"bundle ")?;
+    put_escaped(out, bundle.key.as_slice())?;
+    put_part(out, b" bundle=", bundle.value.as_slice())?;
+    out.push(b'\n')?;
+    Ok(())
+}
+
+fn put_bundles(out: &mut Vec<u8>, bundles: &[MapItem]) -> Result<(), Memory>
+    ensures { OnOk result (out.new.items ≡ out.old.items ++ flat_map bundle_line bundles.now) }
+{
+    for bundle in bundles {
+        put_bundle(out, bundle)?;
+    }
+    Ok(())
+}
+
 #[tactic(auto, unfolding(crate::specs::Lines::jwt_line))]
 fn put_jwt(out: &mut Vec<u8>, svid: &JwtItem) -> Result<(), Memory>
     ensures { OnOk result (out.new.items ≡ out.old.items ++ jwt_line svid.now) }
 {
     out.extend_from_slice(b"jwt ")?;
-    out.extend_from_slice(svid.spiffe_id.as_slice())?;
+    put_escaped(out, svid.spiffe_id.as_slice())?;
     out.extend_from_slice(b" ")?;
-    out.extend_from_slice(svid.svid.as_slice())?;
+    put_escaped(out, svid.svid.as_slice())?;
     put_part(out, b" hint=", svid.hint.as_slice())?;
     out.push(b'\n')?;
     Ok(())
@@ -118,7 +122,7 @@ pub(crate) fn put_status(out: &mut Vec<u8>, code: u32, text: &[u8]) -> Result<()
     out.extend_from_slice(b"status ")?;
     put_decimal(out, code)?;
     out.extend_from_slice(b" ")?;
-    out.extend_from_slice(text)?;
+    put_escaped(out, text)?;
     out.push(b'\n')?;
     Ok(())
 }
@@ -146,6 +150,14 @@ fn put_x509(alloc: Global, out: &mut Vec<u8>, message: &[u8]) -> Result<(), Prot
 {
     let message = decode_x509(alloc, message)?;
     put_svids(out, message.svids.as_slice())?;
+    Ok(())
+}
+
+fn put_bundles_message(alloc: Global, out: &mut Vec<u8>, message: &[u8]) -> Result<(), ProtoFault>
+    ensures { Writes (lines_by bundle_lines (bundles_of message.now)) result out.old.items out.new.items }
+{
+    let message = decode_bundles(alloc, message)?;
+    put_bundles(out, message.bundles.as_slice())?;
     Ok(())
 }
 
@@ -177,6 +189,7 @@ pub(crate) fn put_lines(
 {
     match kind {
         Kind::X509 => put_x509(alloc, out, message),
+        Kind::Bundles => put_bundles_message(alloc, out, message),
         Kind::Jwt => put_jwt_message(alloc, out, message),
         Kind::State => put_health(out, message),
     }

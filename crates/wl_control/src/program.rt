@@ -6,7 +6,7 @@ ghost use Rattle.wl_control.specs.declared.request.Request.{Request};
 ghost use Rattle.wl_control.specs.declared.asked.Verdict.TheVariants.{Faulted};
 ghost use Rattle.wl_control.specs.declared.limits.TheConstants.{MAX_IDLES};
 ghost use Rattle.wl_control.specs.Words.{request_of, IsFit};
-ghost use Rattle.wl_control.specs.Ends.{Moment, Delivers, EndsWith, StatusExplains};
+ghost use Rattle.wl_control.specs.Ends.{Moment, moment, Delivers, EndsWith, StatusExplains};
 ghost use Rattle.wl_control.specs.Runs.{or_fault, limit_fault};
 ghost use Rattle.wl_control.specs.Standings.{reply_to, run_on, verdict_on, GoesOn, Starts, Standing, StepEnds};
 
@@ -16,7 +16,7 @@ use crate::limits::{MAX_IDLES, READ_LIMIT};
 use crate::request::Request;
 use crate::sending::{Turn, deliver, send_all};
 use crate::status::{OUT_OF_MEMORY, READ_FAILED, USAGE, WRITE_FAILED};
-use crate::words::read_request;
+use crate::words::{NoRequest, read_request};
 use std::alloc::Global;
 use std::string::String;
 use wl_client::{Client, ClientFault};
@@ -97,20 +97,8 @@ impl Call {
     ) -> Result<Option<u8>, Memory>
         requires { length piece.now ≤ self.old.left }
         ensures delivers { Delivers (reply_to self.old piece.now).bytes (run_on self.old piece.now).lines (verdict_on self.old piece.now)
-            (record {
-              link = L.told link.old;
-              sink = K.taken sink.old;
-              failed_receives = L.failed_receives link.old;
-              failed_sends = L.failed_sends link.old;
-              failed_writes = K.faults sink.old;
-            })
-            (record {
-              link = L.told link.new;
-              sink = K.taken sink.new;
-              failed_receives = L.failed_receives link.new;
-              failed_sends = L.failed_sends link.new;
-              failed_writes = K.faults sink.new;
-            }) result }
+            (moment (L.told link.old) (K.taken sink.old) (L.failed_receives link.old) (L.failed_sends link.old) (K.faults sink.old))
+            (moment (L.told link.new) (K.taken sink.new) (L.failed_receives link.new) (L.failed_sends link.new) (K.faults sink.new)) result }
         ensures goes_on { IfOk result (λ status. status ≡ None → GoesOn self.old piece.now self.new) }
         ensures left { self.new.left + length piece.now ≡ self.old.left }
         ensures idles { self.new.idles ≡ 0 }
@@ -130,20 +118,8 @@ impl Call {
     ) -> Result<Option<u8>, Memory>
         ensures over { IfOk result (λ status. status ≡ None → ⊥) }
         ensures delivers { Delivers [] [] (Some (Faulted fault))
-            (record {
-              link = L.told link.old;
-              sink = K.taken sink.old;
-              failed_receives = L.failed_receives link.old;
-              failed_sends = L.failed_sends link.old;
-              failed_writes = K.faults sink.old;
-            })
-            (record {
-              link = L.told link.new;
-              sink = K.taken sink.new;
-              failed_receives = L.failed_receives link.new;
-              failed_sends = L.failed_sends link.new;
-              failed_writes = K.faults sink.new;
-            }) result }
+            (moment (L.told link.old) (K.taken sink.old) (L.failed_receives link.old) (L.failed_sends link.old) (K.faults sink.old))
+            (moment (L.told link.new) (K.taken sink.new) (L.failed_receives link.new) (L.failed_sends link.new) (K.faults sink.new)) result }
     {
         let turn = Turn {
             sent: Octets::empty(self.alloc),
@@ -177,20 +153,8 @@ impl Call {
         requires within { length room.old ≤ self.old.left }
         requires idles { self.old.idles < MAX_IDLES }
         ensures steps { (q : Request) (start : Moment) (answers : List Answer) → Standing q start
-            (record {
-              link = L.told link.old;
-              sink = K.taken sink.old;
-              failed_receives = L.failed_receives link.old;
-              failed_sends = L.failed_sends link.old;
-              failed_writes = K.faults sink.old;
-            }) self.old answers → StepEnds q start
-            (record {
-              link = L.told link.new;
-              sink = K.taken sink.new;
-              failed_receives = L.failed_receives link.new;
-              failed_sends = L.failed_sends link.new;
-              failed_writes = K.faults sink.new;
-            }) self.new result }
+            (moment (L.told link.old) (K.taken sink.old) (L.failed_receives link.old) (L.failed_sends link.old) (K.faults sink.old)) self.old answers → StepEnds q start
+            (moment (L.told link.new) (K.taken sink.new) (L.failed_receives link.new) (L.failed_sends link.new) (K.faults sink.new)) self.new result }
         ensures smaller { IfOk result (λ status. status ≡ None →
             self.new.left * 601 + (600 - self.new.idles) < self.old.left * 601 + (600 - self.old.idles)) }
     {
@@ -217,20 +181,8 @@ impl Call {
     ) -> Result<Option<u8>, Memory>
         requires { 0 < length room.old }
         ensures steps { (q : Request) (start : Moment) (answers : List Answer) → Standing q start
-            (record {
-              link = L.told link.old;
-              sink = K.taken sink.old;
-              failed_receives = L.failed_receives link.old;
-              failed_sends = L.failed_sends link.old;
-              failed_writes = K.faults sink.old;
-            }) self.old answers → StepEnds q start
-            (record {
-              link = L.told link.new;
-              sink = K.taken sink.new;
-              failed_receives = L.failed_receives link.new;
-              failed_sends = L.failed_sends link.new;
-              failed_writes = K.faults sink.new;
-            }) self.new result }
+            (moment (L.told link.old) (K.taken sink.old) (L.failed_receives link.old) (L.failed_sends link.old) (K.faults sink.old)) self.old answers → StepEnds q start
+            (moment (L.told link.new) (K.taken sink.new) (L.failed_receives link.new) (L.failed_sends link.new) (K.faults sink.new)) self.new result }
         ensures smaller { IfOk result (λ status. status ≡ None →
             self.new.left * 601 + (600 - self.new.idles) < self.old.left * 601 + (600 - self.old.idles)) }
     {
@@ -253,20 +205,8 @@ fn talk<L: Link, K: Sink>(
 ) -> Result<u8, Memory>
     requires { 0 < length room.old }
     ensures { (q : Request) (start : Moment) (answers : List Answer) → Standing q start
-        (record {
-          link = L.told link.old;
-          sink = K.taken sink.old;
-          failed_receives = L.failed_receives link.old;
-          failed_sends = L.failed_sends link.old;
-          failed_writes = K.faults sink.old;
-        }) call.old answers → EndsWith q start
-        (record {
-          link = L.told link.new;
-          sink = K.taken sink.new;
-          failed_receives = L.failed_receives link.new;
-          failed_sends = L.failed_sends link.new;
-          failed_writes = K.faults sink.new;
-        }) result }
+        (moment (L.told link.old) (K.taken sink.old) (L.failed_receives link.old) (L.failed_sends link.old) (K.faults sink.old)) call.old answers → EndsWith q start
+        (moment (L.told link.new) (K.taken sink.new) (L.failed_receives link.new) (L.failed_sends link.new) (K.faults sink.new)) result }
 {
     'receives: loop {
         match call.go_on(room, link, sink) {
@@ -286,20 +226,8 @@ fn make_call<L: Link, K: Sink>(
 ) -> Result<u8, Memory>
     requires { IsFit request.now }
     ensures { EndsWith request.now
-        (record {
-          link = L.told link.old;
-          sink = K.taken sink.old;
-          failed_receives = L.failed_receives link.old;
-          failed_sends = L.failed_sends link.old;
-          failed_writes = K.faults sink.old;
-        })
-        (record {
-          link = L.told link.new;
-          sink = K.taken sink.new;
-          failed_receives = L.failed_receives link.new;
-          failed_sends = L.failed_sends link.new;
-          failed_writes = K.faults sink.new;
-        }) result }
+        (moment (L.told link.old) (K.taken sink.old) (L.failed_receives link.old) (L.failed_sends link.old) (K.faults sink.old))
+        (moment (L.told link.new) (K.taken sink.new) (L.failed_receives link.new) (L.failed_sends link.new) (K.faults sink.new)) result }
 {
     let mut call = Call::start(alloc, request)?;
     let mut room = Vec::from_elem(alloc, 0, PIECE_LEN)?;
@@ -310,7 +238,7 @@ fn make_call<L: Link, K: Sink>(
 }
 
 /// Makes the call that the words ask for over the link, and writes a line for each SVID, token or state that comes:
-/// `fetch x509`, `fetch jwt AUDIENCE..`, `watch COUNT`, `health`, `health SERVICE` and `health-watch COUNT`. The status
+/// `fetch x509`, `fetch bundles`, `fetch jwt AUDIENCE..`, `watch COUNT`, `health`, `health SERVICE` and `health-watch COUNT`. The status
 /// is one of [`crate::status`]: `DONE` where all that was asked for was had and written; `USAGE` where the words fit
 /// nothing, and then nothing is sent or written; `DENIED` where the server answered another status than was awaited, and
 /// `CLIENT_FAULT` where its bytes or the link's answers have a fault, each with its line; `READ_FAILED` where a receive
@@ -328,29 +256,17 @@ pub fn control<R, L: Link, K: Sink>(
 ) -> u8
     // Each status has its cause, and what was sent and written goes with it.
     ensures ends { StatusExplains (request_of (map string_bytes words.now))
-        (record {
-          link = L.told link.old;
-          sink = K.taken sink.old;
-          failed_receives = L.failed_receives link.old;
-          failed_sends = L.failed_sends link.old;
-          failed_writes = K.faults sink.old;
-        })
-        (record {
-          link = L.told link.new;
-          sink = K.taken sink.new;
-          failed_receives = L.failed_receives link.new;
-          failed_sends = L.failed_sends link.new;
-          failed_writes = K.faults sink.new;
-        }) result }
+        (moment (L.told link.old) (K.taken sink.old) (L.failed_receives link.old) (L.failed_sends link.old) (K.faults sink.old))
+        (moment (L.told link.new) (K.taken sink.new) (L.failed_receives link.new) (L.failed_sends link.new) (K.faults sink.new)) result }
     // Where the words fit nothing, nothing is sent and nothing written.
     ensures unfit { request_of (map string_bytes words.now) ≡ None → (link.new ≡ link.old) × (sink.new ≡ sink.old) }
 {
     match read_request(alloc, words) {
-        Ok(Some(request)) => match make_call(alloc, &request, link, sink) {
+        Ok(request) => match make_call(alloc, &request, link, sink) {
             Ok(status) => status,
             Err(Memory) => OUT_OF_MEMORY,
         },
-        Ok(None) => USAGE,
-        Err(Memory) => OUT_OF_MEMORY,
+        Err(NoRequest::Unfit(_)) => USAGE,
+        Err(NoRequest::Memory) => OUT_OF_MEMORY,
     }
 }

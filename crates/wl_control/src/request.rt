@@ -7,6 +7,8 @@ use wl_octets::{Octets, Row};
 pub enum Request {
     /// One message of FetchX509SVID.
     FetchX509,
+    /// One message of FetchX509Bundles.
+    FetchBundles,
     /// The message of FetchJWTSVID for these audiences.
     FetchJwt(Row<Octets>),
     /// So many messages of FetchX509SVID.

@@ -2,7 +2,7 @@
 
 ghost use Rattle.std.specs.Prelude.{◌≡◌, ◌++◌, IfOk, OnOk, option_map};
 ghost use Rattle.wl_control.specs.Runs.{line_of, verdict_line};
-ghost use Rattle.wl_control.specs.Ends.{status_of, Delivers, SendsAll};
+ghost use Rattle.wl_control.specs.Ends.{moment, status_of, Delivers, SendsAll};
 
 use crate::asked::Verdict;
 use crate::lines::{put_fault, put_status};
@@ -62,36 +62,24 @@ fn put_ending(text: &mut Vec<u8>, verdict: &Option<Verdict>) -> Result<Option<u8
     }
 }
 
-/// Sends and writes what is due. The status, where the call is over.
+/// Writes and sends what is due: the lines first, since a server may close right after its answer. The status, where the
+/// call is over.
 pub(crate) fn deliver<L: Link, K: Sink>(
     turn: Turn,
     link: &mut L,
     sink: &mut K,
 ) -> Result<Option<u8>, Memory>
     ensures { Delivers turn.sent turn.text.items turn.verdict
-        (record {
-          link = L.told link.old;
-          sink = K.taken sink.old;
-          failed_receives = L.failed_receives link.old;
-          failed_sends = L.failed_sends link.old;
-          failed_writes = K.faults sink.old;
-        })
-        (record {
-          link = L.told link.new;
-          sink = K.taken sink.new;
-          failed_receives = L.failed_receives link.new;
-          failed_sends = L.failed_sends link.new;
-          failed_writes = K.faults sink.new;
-        }) result }
+        (moment (L.told link.old) (K.taken sink.old) (L.failed_receives link.old) (L.failed_sends link.old) (K.faults sink.old))
+        (moment (L.told link.new) (K.taken sink.new) (L.failed_receives link.new) (L.failed_sends link.new) (K.faults sink.new)) result }
 {
+    let mut text = turn.text;
+    let status = put_ending(&mut text, &turn.verdict)?;
+    if !write_all(sink, text.as_slice()) {
+        return Ok(Some(WRITE_FAILED));
+    }
     if !send_all(link, turn.sent.as_slice()) {
         return Ok(Some(WRITE_FAILED));
     }
-    let mut text = turn.text;
-    let status = put_ending(&mut text, &turn.verdict)?;
-    if write_all(sink, text.as_slice()) {
-        Ok(status)
-    } else {
-        Ok(Some(WRITE_FAILED))
-    }
+    Ok(status)
 }

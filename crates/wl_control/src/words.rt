@@ -1,11 +1,16 @@
 //! The words of the client program.
 
-ghost use Rattle.std.specs.Prelude.{◌≡◌, ◌++◌, ◌∷◌, [], map, option_map, string_bytes, IfOk, IfSome, OnOk};
+ghost use Rattle.std.specs.Prelude.{◌≡◌, ◌⊎◌, ◌++◌, ◌∷◌, [], map, option_map, string_bytes, Some, None, IfOk, IfErr, IfSome};
 ghost use Rattle.std.specs.List.{list_all};
+ghost use Rattle.clap.specs.Words.{kind_of};
+ghost use Rattle.clap.specs.declared.error.ErrorKind.TheVariants.{OutOfMemory};
 ghost use Rattle.wl_control.specs.declared.request.Request.TheVariants.{Watch, HealthWatch};
-ghost use Rattle.wl_control.specs.Words.{is_option, operands, digits_after, digits_of, count_in, is_audience, jwt_of, fetch_of, count_of, health_of, request_by, request_of, IsFit};
+ghost use Rattle.wl_control.specs.Words.{digits_after, digits_of, count_in, is_audience, jwt_of, fetch_of, count_of, health_of, request_by, request_of, IsFit};
 
 use crate::request::Request;
+use clap::Error;
+use clap::error::ErrorKind;
+use control_words::read;
 use std::alloc::Global;
 use std::string::String;
 use wl_octets::{Memory, Octets, Row};
@@ -18,46 +23,6 @@ const MAX_AUDIENCES: usize = 64;
 
 /// How many bytes an audience or a service may have.
 const MAX_WORD_LEN: usize = 200;
-
-/// Whether a word has two bytes or more, the first of them `-`.
-fn is_option(word: &[u8]) -> bool
-    ensures { result ≡ is_option word.now }
-{
-    match word {
-        [first, _, ..] => *first == b'-',
-        _ => false,
-    }
-}
-
-/// Adds these words.
-fn add_words(alloc: Global, done: &mut Row<Octets>, words: &[String]) -> Result<(), Memory>
-    ensures { OnOk result (done.new ≡ done.old ++ map string_bytes words.now) }
-{
-    for word in words {
-        done.push(Octets::from_slice(alloc, word.as_bytes())?)?;
-    }
-    Ok(())
-}
-
-/// All of these words but the first `--`, before which none may be an option.
-fn operands(alloc: Global, words: &[String]) -> Result<Option<Row<Octets>>, Memory>
-    ensures { IfOk result (λ o. o ≡ operands (map string_bytes words.now)) }
-{
-    let mut done = Row::empty(alloc);
-    let mut rest = words;
-    'words: while let Some((word, after)) = rest.split_first() {
-        if word.as_bytes() == b"--".as_slice() {
-            add_words(alloc, &mut done, after)?;
-            return Ok(Some(done));
-        }
-        if is_option(word.as_bytes()) {
-            return Ok(None);
-        }
-        done.push(Octets::from_slice(alloc, word.as_bytes())?)?;
-        rest = after;
-    }
-    Ok(Some(done))
-}
 
 /// The number after one digit more, where it is at most 1,000.
 fn more(number: u32, byte: u8) -> Option<u32>
@@ -146,6 +111,13 @@ fn fetch_of(mut words: Row<Octets>) -> Option<Request>
             None
         };
     }
+    if kind.as_slice() == b"bundles".as_slice() {
+        return if words.len() == 0 {
+            Some(Request::FetchBundles)
+        } else {
+            None
+        };
+    }
     if kind.as_slice() == b"jwt".as_slice() {
         return jwt_of(words);
     }
@@ -207,17 +179,67 @@ fn request_by(alloc: Global, command: &[u8], words: Row<Octets>) -> Option<Reque
     None
 }
 
-/// What these words ask for, where they fit something.
-#[tactic(auto, unfolding(crate::specs::Words::request_of))]
-pub(crate) fn read_request(alloc: Global, words: &[String]) -> Result<Option<Request>, Memory>
-    ensures value { IfOk result (λ o. o ≡ request_of (map string_bytes words.now)) }
-    ensures fit { IfOk result (λ o. IfSome o IsFit) }
+/// These words.
+fn row_of(alloc: Global, words: &[&str]) -> Result<Row<Octets>, Memory>
+    ensures { IfOk result (λ row. row ≡ map (λ w. w.now) words.now) }
 {
-    let Some((command, rest)) = words.split_first() else {
-        return Ok(None);
+    let mut row = Row::empty(alloc);
+    for word in words {
+        row.push(Octets::from_slice(alloc, word.as_bytes())?)?;
+    }
+    Ok(row)
+}
+
+/// Why the words ask for nothing.
+#[derive(Drop)]
+pub(crate) enum NoRequest {
+    Memory,
+    /// They fit nothing: why clap refuses them, where it does.
+    Unfit(Option<Error>),
+}
+
+/// What an error of clap says of the words.
+fn no_request(error: Error) -> NoRequest
+    ensures { kind_of error ≡ OutOfMemory → result ≡ NoRequest.Memory }
+{
+    if error.kind() == ErrorKind::OutOfMemory {
+        NoRequest::Memory
+    } else {
+        NoRequest::Unfit(Some(error))
+    }
+}
+
+/// What these words ask for, where they fit something.
+pub(crate) fn read_request(alloc: Global, words: &[String]) -> Result<Request, NoRequest>
+    ensures value { IfOk result (λ q. request_of (map string_bytes words.now) ≡ Some q) }
+    ensures fit { IfOk result IsFit }
+    ensures unfit { IfErr result (λ e. (e ≡ NoRequest.Memory) ⊎ (request_of (map string_bytes words.now) ≡ None)) }
+{
+    let request = match read(alloc, words) {
+        Ok(request) => request,
+        Err(error) => return Err(no_request(error)),
     };
-    match operands(alloc, rest)? {
-        Some(words) => Ok(request_by(alloc, command.as_bytes(), words)),
-        None => Ok(None),
+    let operands = match row_of(alloc, request.operands.as_slice()) {
+        Ok(operands) => operands,
+        Err(Memory) => return Err(NoRequest::Memory),
+    };
+    match request_by(alloc, request.name.as_bytes(), operands) {
+        Some(request) => Ok(request),
+        None => Err(NoRequest::Unfit(None)),
+    }
+}
+
+/// What is wrong with operands that are as many as their command has.
+const OPERAND_FAULT: &str =
+    "error: fetch is for x509, for bundles, or for jwt and 1 to 64 audiences of at most 200 bytes; \
+COUNT is 1 to 1000; SERVICE has at most 200 bytes\n";
+
+/// Why these words fit nothing, for a person: which word is wrong, the help or the version; nothing where they fit.
+pub fn refusal(alloc: Global, words: &[String]) -> Result<String, Memory> {
+    match read_request(alloc, words) {
+        Ok(_) => Ok(String::new(alloc)),
+        Err(NoRequest::Memory) => Err(Memory),
+        Err(NoRequest::Unfit(Some(error))) => Ok(format!(in alloc; "{error}")?),
+        Err(NoRequest::Unfit(None)) => Ok(String::from_str(alloc, OPERAND_FAULT)?),
     }
 }

@@ -10,17 +10,21 @@ use wl_edge::{Heard, Link, LinkPlan, MemoryLink, MemorySink};
 use wl_octets::{Memory, Octets, Row};
 
 /// The server's SETTINGS, its acknowledgement of the client's, and the head of an answer.
-const BEGUN: &[u8] =
+pub(crate) const BEGUN: &[u8] =
     b"\x00\x00\x0c\x04\x00\x00\x00\x00\x00\x00\x03\x00\x00\x00\x10\x00\x06\x00\x00\x40\x00\
     \x00\x00\x00\x04\x01\x00\x00\x00\x00\
     \x00\x00\x14\x01\x04\x00\x00\x00\x01\x88\x0f\x10\x10application/grpc";
 
 /// DATA of an `X509SVIDResponse` with one SVID.
-const SVID: &[u8] =
+pub(crate) const SVID: &[u8] =
     b"\x00\x00\x20\x00\x00\x00\x00\x00\x01\x00\x00\x00\x00\x1b\x0a\x19\x0a\x0espiffe://a.b/w\x12\x01\x01\x1a\x01\x02\x22\x01\x03";
 
+/// DATA of an `X509BundlesResponse` with a CRL and two bundles.
+const BUNDLES: &[u8] =
+    b"\x00\x00\x2c\x00\x00\x00\x00\x00\x01\x00\x00\x00\x00\x27\x0a\x01\x09\x12\x10\x0a\x0bspiffe://a.\x12\x01\x03\x12\x10\x0a\x0bspiffe://b.\x12\x01\xab";
+
 /// DATA of a `JWTSVIDResponse` with one token.
-const TOKEN: &[u8] =
+pub(crate) const TOKEN: &[u8] =
     b"\x00\x00\x1a\x00\x00\x00\x00\x00\x01\x00\x00\x00\x00\x15\x0a\x13\x0a\x0espiffe://a.b/w\x12\x01t";
 
 /// DATA of a `HealthCheckResponse`: serving, not serving, unknown.
@@ -31,7 +35,7 @@ const NOT_SERVING: &[u8] = b"\x00\x00\x07\x00\x00\x00\x00\x00\x01\x00\x00\x00\x0
 const UNKNOWN: &[u8] = b"\x00\x00\x07\x00\x00\x00\x00\x00\x01\x00\x00\x00\x00\x02\x08\x03";
 
 /// The trailers of status 0.
-const FINE: &[u8] = b"\x00\x00\x0f\x01\x05\x00\x00\x00\x01\x00\x0bgrpc-status\x010";
+pub(crate) const FINE: &[u8] = b"\x00\x00\x0f\x01\x05\x00\x00\x00\x01\x00\x0bgrpc-status\x010";
 
 /// A refusal as the whole answer.
 const REFUSED: &[u8] = b"\x00\x00\x44\x01\x05\x00\x00\x00\x01\x88\x0f\x10\x10application/grpc\
@@ -51,7 +55,18 @@ fn slow_link(alloc: Global, idles: usize, parts: &[&[u8]]) -> Result<MemoryLink,
     MemoryLink::start(alloc, LinkPlan::smooth(alloc, gives, 10_000, 65_536))
 }
 
-fn link_of(alloc: Global, parts: &[&[u8]]) -> Result<MemoryLink, Memory> {
+/// A link that gives this in one piece and takes so many bytes.
+fn narrow_link(alloc: Global, parts: &[&[u8]], room: usize) -> Result<MemoryLink, Memory> {
+    let mut bytes = Octets::empty(alloc);
+    for part in parts {
+        bytes.push_slice(part)?;
+    }
+    let mut gives = Row::empty(alloc);
+    gives.push(Heard::Piece(bytes))?;
+    MemoryLink::start(alloc, LinkPlan::smooth(alloc, gives, 10, room))
+}
+
+pub(crate) fn link_of(alloc: Global, parts: &[&[u8]]) -> Result<MemoryLink, Memory> {
     slow_link(alloc, 0, parts)
 }
 
@@ -85,7 +100,7 @@ fn words_of(alloc: Global, text: &str) -> Result<Vec<String>, Memory> {
     Ok(words)
 }
 
-fn try_link<R: Abort, L: Link + Drop>(
+pub(crate) fn try_link<R: Abort, L: Link + Drop>(
     rt: &R,
     alloc: Global,
     words: &str,
@@ -102,7 +117,7 @@ fn try_link<R: Abort, L: Link + Drop>(
     Ok(())
 }
 
-fn try_run<R: Abort>(
+pub(crate) fn try_run<R: Abort>(
     rt: &R,
     alloc: Global,
     words: &str,
@@ -176,6 +191,26 @@ fn messages_are_counted(rt: HostRuntime) -> Result<(), Fail> {
 }
 
 #[test]
+fn bundles_are_fetched(rt: HostRuntime) -> Result<(), Fail> {
+    try_run(
+        &rt,
+        rt.alloc(),
+        "fetch bundles",
+        &[BEGUN, BUNDLES],
+        status::DONE,
+        b"bundle spiffe://a. bundle=03\nbundle spiffe://b. bundle=ab\n",
+    )?;
+    try_run(
+        &rt,
+        rt.alloc(),
+        "fetch bundles",
+        &[BEGUN, FINE],
+        status::DENIED,
+        b"status 0 \n",
+    )
+}
+
+#[test]
 fn tokens_await_their_status(rt: HostRuntime) -> Result<(), Fail> {
     let line = b"jwt spiffe://a.b/w t hint=\n";
     try_run(
@@ -202,6 +237,101 @@ fn tokens_await_their_status(rt: HostRuntime) -> Result<(), Fail> {
         status::DENIED,
         b"status 0 \n",
     )
+}
+
+#[test]
+fn one_message_comes_before_a_status(rt: HostRuntime) -> Result<(), Fail> {
+    let table: [(&str, &[&[u8]], &[u8]); 4] = [
+        (
+            "fetch jwt x",
+            &[BEGUN, TOKEN, TOKEN, FINE],
+            b"jwt spiffe://a.b/w t hint=\nfault client 14\n",
+        ),
+        (
+            "health",
+            &[BEGUN, SERVING, NOT_SERVING, FINE],
+            b"serving\nfault client 14\n",
+        ),
+        (
+            "health x",
+            &[BEGUN, SERVING, SERVING],
+            b"serving\nfault client 14\n",
+        ),
+        // What can't be read is a second message too.
+        (
+            "fetch jwt x",
+            &[BEGUN, TOKEN, SERVING],
+            b"jwt spiffe://a.b/w t hint=\nfault client 14\n",
+        ),
+    ];
+    for (words, parts, text) in table {
+        try_run(&rt, rt.alloc(), words, parts, status::CLIENT_FAULT, text)?;
+    }
+    Ok(())
+}
+
+#[test]
+fn texts_of_a_server_stay_in_their_lines(rt: HostRuntime) -> Result<(), Fail> {
+    // An id with a newline, a backslash and a byte above 126; a token with a newline; a text with a tab and a newline.
+    let table: [(&str, &[&[u8]], u8, &[u8]); 4] = [
+        (
+            "fetch x509",
+            &[
+                BEGUN,
+                b"\x00\x00\x12\x00\x00\x00\x00\x00\x01\x00\x00\x00\x00\x0d\x0a\x0b\x0a\x09x\nsvid \\y",
+            ],
+            status::DONE,
+            b"svid x\\x0asvid \\\\y chain= key= bundle= hint=\n",
+        ),
+        (
+            "fetch x509",
+            &[
+                BEGUN,
+                b"\x00\x00\x0c\x00\x00\x00\x00\x00\x01\x00\x00\x00\x00\x07\x0a\x05\x0a\x03~\xc3\xa9",
+            ],
+            status::DONE,
+            b"svid ~\\xc3\\xa9 chain= key= bundle= hint=\n",
+        ),
+        (
+            "fetch jwt x",
+            &[
+                BEGUN,
+                b"\x00\x00\x0f\x00\x00\x00\x00\x00\x01\x00\x00\x00\x00\x0a\x0a\x08\x0a\x01\x7f\x12\x03t\n\x00",
+                FINE,
+            ],
+            status::DONE,
+            b"jwt \\x7f t\\x0a\\x00 hint=\n",
+        ),
+        (
+            "fetch x509",
+            &[
+                b"\x00\x00\x35\x01\x05\x00\x00\x00\x01\x88\x0f\x10\x10application/grpc\
+    \x00\x0bgrpc-status\x017\x00\x0cgrpc-message\x03a\n\t",
+            ],
+            status::DENIED,
+            b"status 7 a\\x0a\\x09\n",
+        ),
+    ];
+    for (words, parts, status, text) in table {
+        try_run(&rt, rt.alloc(), words, parts, status, text)?;
+    }
+    Ok(())
+}
+
+#[test]
+fn lines_are_written_before_acknowledgements(rt: HostRuntime) -> Result<(), Fail> {
+    let alloc = rt.alloc();
+    let words = words_of(alloc, "fetch x509")?;
+    // The link takes the opening of the call and not one byte more, as where the server closes right after its answer.
+    let mut link = narrow_link(alloc, &[BEGUN, SVID], 160)?;
+    let mut sink = MemorySink::start(alloc, 100, 65_536, usize::MAX, Row::empty(alloc))?;
+    let got = control(&rt, alloc, words.as_slice(), &mut link, &mut sink);
+    assert_eq!(rt; got, status::WRITE_FAILED);
+    assert_eq!(rt;
+        sink.bytes(),
+        b"svid spiffe://a.b/w chain=01 key=02 bundle=03 hint=\n".as_slice()
+    );
+    Ok(())
 }
 
 #[test]
@@ -335,6 +465,7 @@ fn words_that_fit_nothing(rt: HostRuntime) -> Result<(), Fail> {
         "fetch",
         "fetch y",
         "fetch x509 x",
+        "fetch bundles x",
         "fetch jwt",
         "watch",
         "watch 0",
