@@ -1,0 +1,34 @@
+use Rattle.std.proofs.Common.{rules, ◌≡◌, ◌∙◌, ap, sym, subst, map, string_bytes, option_map, []}
+use Rattle.clap.specs.Words.{app_of}
+use Rattle.clap.specs.Kinds.{HasKind}
+use Rattle.clap.specs.Simple.{is_simple, subcommand_of}
+use Rattle.clap.specs.Faults.{fault_of, is_simple_and_free}
+use Rattle.agent_words.specs.Commands.{agentd}
+use Rattle.agent_words.specs.Asked.{asked}
+use Rattle.agent_words.proofs.Rows.{all_texts, asked_for, is_free, is_plain, refused}
+use Rattle.agent_words.proofs.read.Goals as goal
+
+pub returns-in_err-matches-clause-kinds : goal.returns-in_err-matches-clause-kinds
+returns-in_err-matches-clause-kinds c =
+    let command_is : app_of c.in_ok-agent_command.field-0 ≡ agentd = c.in_ok-agent_command.ensures in
+    let words = map string_bytes c.args.words.now in
+    let has : HasKind (fault_of (app_of c.in_ok-agent_command.field-0) words) c.in_err-matches.field-0.0 = c.in_err-matches.ensures.kinds (ap is_simple_and_free command_is ∙ is_free) in
+    let is : HasKind (fault_of agentd words) c.in_err-matches.field-0.0 = subst (λ a. HasKind (fault_of a words) c.in_err-matches.field-0.0) command_is has in
+    search (rules, is)
+
+pub returns-in_err-matches-clause-unfit : goal.returns-in_err-matches-clause-unfit
+returns-in_err-matches-clause-unfit c =
+    let command_is : app_of c.in_ok-agent_command.field-0 ≡ agentd = c.in_ok-agent_command.ensures in
+    let words = map string_bytes c.args.words.now in
+    let has : HasKind (fault_of (app_of c.in_ok-agent_command.field-0) words) c.in_err-matches.field-0.0 = c.in_err-matches.ensures.kinds (ap is_simple_and_free command_is ∙ is_free) in
+    let is = refused words (all_texts c.args.words.now) c.in_err-matches.field-0.0 (subst (λ a. HasKind (fault_of a words) c.in_err-matches.field-0.0) command_is has) in
+    search (rules, is)
+
+pub returns-clause-fits : goal.returns-clause-fits
+returns-clause-fits c =
+    let command_is : app_of c.in_ok-agent_command.field-0 ≡ agentd = c.in_ok-agent_command.ensures in
+    let words = map string_bytes c.args.words.now in
+    let none : fault_of (app_of c.in_ok-agent_command.field-0) words ≡ [] = c.in_ok-matches.ensures.kinds (ap is_simple_and_free command_is ∙ is_free) in
+    asked_for words (all_texts c.args.words.now) (ap (λ a. fault_of a words) (sym command_is) ∙ none) _
+    ((c.in_ok-matches.ensures.matches (ap is_simple command_is ∙ is_plain)).1 ∙ ap (λ a. subcommand_of a words) command_is) _
+    (ap (option_map asked) (sym c.in-Some.is) ∙ c.in_ok-request.ensures)
