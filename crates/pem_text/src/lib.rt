@@ -1,0 +1,10 @@
+//! PEM texts (RFC 7468).
+#![tactic(auto)]
+
+mod laws;
+mod lines;
+#[cfg(test)]
+mod tests;
+
+pub use laws::lines_join;
+pub use lines::put_pem;
