@@ -1,1 +1,3 @@
+pub mod Following
 pub mod Endings
+pub mod Steps

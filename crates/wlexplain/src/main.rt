@@ -1,9 +1,10 @@
 //! wlexplain: fault lines in, sentences out.
 //!
 //! It reads standard input to its end, and writes for each fault line of `agentd` one sentence with the place in words,
-//! and every other line as it is.
+//! and every other line as it is, each as soon as it is whole.
 #![tactic(auto)]
 
+mod lines;
 mod run;
 
 use run::explain;
