@@ -17,7 +17,8 @@ use Rattle.wl_config.specs.declared.config.SocketFact.{SocketFact}
 use Rattle.wl_config.specs.declared.fault.ConfigFault.{ConfigFault}
 use Rattle.wl_config.specs.Configs.{Configuration, Within}
 use Rattle.wl_worker.specs.declared.seat.SeatEnd.{SeatEnd}
-use Rattle.wl_worker.specs.Tended.{ListenedTo, FinishesAll, Tends}
+use Rattle.wl_worker.specs.Tended.{ListenedTo, FinishesAll}
+use Rattle.wl_served.specs.Sent.{Tells}
 use Rattle.wl_serve.specs.Views.{SeatView, PartsView, world_of}
 use Rattle.wl_serve.specs.Seating.{IsOpen, IsIdle, SeesOn, ServedTo, ServedFrom, with_pass}
 use Rattle.wl_serve.specs.Prepared.{IsSeat, AreSeats, IsPrepared}
@@ -122,7 +123,7 @@ module _ (vouched : Ask → List (List ℕ) → JwtToken → Type 0) (links tell
     pass = pass;
     seen = seen;
     mine = mine;
-    tends = λ l q is. subst (λ k. Tends vouched k w.room end (world_of v pass) (world_of w q)) (sym served.socket) (subst (λ k. Tends vouched v.socket k end (world_of v pass) (world_of w q)) (sym served.room) (served.tends l pass q refl is));
+    sent = λ l q is. subst (λ k. Tells vouched k w.room end (world_of v pass) (world_of w q)) (sym served.socket) (subst (λ k. Tells vouched v.socket k end (world_of v pass) (world_of w q)) (sym served.room) (served.sent l pass q refl is));
   }
 
   ran_to : (first : Publication) (n : ℕ) (fact : SocketFact) (v w : SeatView) (pass : Passing) → IsSeat tells n fact v → pass.seen ≡ first ∷ [] → pass.mine ≡ [] → (end : Option SeatEnd) → w.end ≡ end → IsSomeAnd end (ServedTo vouched links (with_pass pass v) w) → SeatRan vouched links tells first n fact w

@@ -8,7 +8,8 @@ use Rattle.wl_snapshot.specs.Snapshots.{Publication}
 use Rattle.wl_publish.specs.Listings.{Passing}
 use Rattle.wl_edge.specs.Edge.{Rose}
 use Rattle.wl_edge.specs.Listeners.{ListenerLog, links_given}
-use Rattle.wl_worker.specs.Tended.{ListenedTo, Tends}
+use Rattle.wl_worker.specs.Tended.{ListenedTo}
+use Rattle.wl_served.specs.Sent.{Tells}
 use Rattle.wl_worker.specs.declared.seat.SeatEnd.{SeatEnd}
 use Rattle.wl_worker.specs.declared.seat.SeatEnd.TheVariants.{ListenFault, WaitFault}
 use Rattle.wl_serve.specs.Views.{SeatView, world_of}
@@ -45,7 +46,8 @@ SeesOn before after = IsSomeAnd before (λ p. IsSomeAnd after (λ q. IsPrefix p.
 -- By which relation tokens are vouched for, and whether links tell their content.
 module _ (vouched : Ask → List (List ℕ) → JwtToken → Type 0) (links : Type 0) where
   -- A seat was served and has this end, which is what its listener's answers came to: a fault only where the count of what
-  -- failed rose. Where links tell their content, it tended each of them.
+  -- failed rose. Where links tell their content, it tended each of them,
+  -- and told each of their peers nothing but responses.
   pub record ServedTo (before after : SeatView) (end : SeatEnd) : Type 0 where
     pub socket : after.socket ≡ before.socket
     pub room : after.room ≡ before.room
@@ -53,7 +55,7 @@ module _ (vouched : Ask → List (List ℕ) → JwtToken → Type 0) (links : Ty
     pub listen : end ≡ ListenFault → Rose before.listener_faults after.listener_faults
     pub wait : end ≡ WaitFault → Rose before.ready_faults after.ready_faults
     pub finishes : ListenedTo end before.listener after.listener
-    pub tends : links → (p q : Passing) → before.pass ≡ Some p → after.pass ≡ Some q → Tends vouched before.socket before.room end (world_of before p) (world_of after q)
+    pub sent : links → (p q : Passing) → before.pass ≡ Some p → after.pass ≡ Some q → Tells vouched before.socket before.room end (world_of before p) (world_of after q)
 
   -- the same, with the end written into it
   abbrev pub Served : SeatView → SeatView → Type 0

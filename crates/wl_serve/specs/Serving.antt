@@ -17,7 +17,8 @@ use Rattle.wl_config.specs.declared.fault.ConfigFault.{ConfigFault}
 use Rattle.wl_config.specs.Configs.{Configuration}
 use Rattle.wl_entry.specs.declared.asks.Ask.{Ask}
 use Rattle.wl_entry.specs.declared.tokens.JwtToken.{JwtToken}
-use Rattle.wl_worker.specs.Tended.{FinishesAll, Tends}
+use Rattle.wl_worker.specs.Tended.{FinishesAll}
+use Rattle.wl_served.specs.Sent.{Tells}
 use Rattle.wl_worker.specs.declared.seat.SeatEnd.{SeatEnd}
 use Rattle.wl_worker.specs.declared.seat.SeatEnd.TheVariants as seat
 use Rattle.wl_serve.specs.Views.{SeatView, PartsView, world_of}
@@ -124,7 +125,7 @@ module _ (vouched : Ask → List (List ℕ) → JwtToken → Type 0) (links tell
     pub pass : Passing
     pub seen : pass.seen ≡ first ∷ []
     pub mine : pass.mine ≡ []
-    pub tends : links → (q : Passing) → v.pass ≡ Some q → Tends vouched v.socket v.room end (world_of unused pass) (world_of v q)
+    pub sent : links → (q : Passing) → v.pass ≡ Some q → Tells vouched v.socket v.room end (world_of unused pass) (world_of v q)
 
   -- The seat of a socket was served. It has its end, which is what its listener's answers came to, and as many links were
   -- finished as it gave; a fault only where the count of what failed rose.

@@ -1,11 +1,12 @@
 //! What a host prepares.
 
-ghost use Rattle.std.specs.Prelude.{◌≡◌, ◌≤◌, ℕ, IfOk, IsErrOf, length, map};
+ghost use Rattle.std.specs.Prelude.{◌≡◌, ◌<◌, ◌≤◌, ℕ, IfOk, IsErrOf, length, map};
 ghost use Rattle.wl_edge.specs.Edge.{Rose};
 ghost use Rattle.wl_serve.specs.Views.{PartsView};
 ghost use Rattle.wl_serve.specs.Prepared.{IsPrepared};
 
 use crate::seats::SeatShown;
+use crate::upkeep::Upkeep;
 use std::alloc::Global;
 use std::sync::Wait;
 use std::thread::Threads;
@@ -18,9 +19,7 @@ use wl_worker::Seat;
 /// upkeep needs.
 #[derive(Drop)]
 pub struct Parts<B: Binder> {
-    pub upstream: B::Up,
-    pub signer: B::Sign,
-    pub clock: B::Time,
+    pub upkeep: Upkeep<B::Up, B::Sign, B::Time>,
     pub gate: B::Door,
     pub seats: Vec<Seat<B::Listen, B::Sign, B::Att, B::Time, B::Poll>>,
     pub bells: Row<B::Ring>,
@@ -33,8 +32,8 @@ pub trait PartsShown {
 
 impl<B: Binder> PartsShown for Parts<B> {
     ghost shown = { λ p. record {
-      upstream = B.Up.told p.upstream;
-      upstream_faults = B.Up.faults p.upstream;
+      upstream = B.Up.told p.upkeep.upstream;
+      upstream_faults = B.Up.faults p.upkeep.upstream;
       seats = map ⟦<Seat<B::Listen, B::Sign, B::Att, B::Time, B::Poll> as SeatShown>⟧.shown p.seats.items;
     } };
 }
@@ -71,10 +70,11 @@ pub trait Binder {
         config: &Config,
     ) -> Result<Parts<Self>, EdgeFault>
         ensures prepared { IfOk result (λ p. IsPrepared tells config.now (record {
-          upstream = Self.Up.told p.upstream;
-          upstream_faults = Self.Up.faults p.upstream;
+          upstream = Self.Up.told p.upkeep.upstream;
+          upstream_faults = Self.Up.faults p.upkeep.upstream;
           seats = map ⟦<Seat<Self::Listen, Self::Sign, Self::Att, Self::Time, Self::Poll> as SeatShown>⟧.shown p.seats.items;
         })) }
+        ensures signers { IfOk result (λ p. 0 < length p.upkeep.signers.items) }
         ensures bells { IfOk result (λ p. length p.bells ≡ length p.seats.items) }
         ensures failed { IsErrOf result EdgeFault.Failed → Rose (faults self.old) (faults self.new) }
         ensures later { faults self.old ≤ faults self.new };

@@ -1,4 +1,4 @@
-//! Serving: what a host prepares is served, a thread for each socket and the upkeep beside them, until every seat has
+//! Serving: what a host prepares is served, a thread for each socket and upkeep beside them, until every seat has
 //! ended.
 //!
 //! [`serve`] reads a configuration, has a [`Binder`] prepare the [`Parts`], pulls the first document, and serves. What it
@@ -14,6 +14,7 @@ mod memory_ready;
 mod passes;
 mod seats;
 mod serving;
+mod upkeep;
 
 pub use binder::{Binder, Parts, PartsShown};
 pub use ending::ServeEnd;
@@ -22,3 +23,4 @@ pub use memory_host::{HostPlan, MemoryHost, SeatPlan};
 pub use memory_ready::CountedReady;
 pub use seats::SeatShown;
 pub use serving::serve;
+pub use upkeep::Upkeep;

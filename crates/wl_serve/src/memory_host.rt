@@ -1,12 +1,13 @@
 //! A host in memory.
 
-ghost use Rattle.std.specs.Prelude.{◌≡◌, ◌≤◌, ⊤};
+ghost use Rattle.std.specs.Prelude.{◌≡◌, ◌<◌, ◌≤◌, ⊤, IfOk, length};
 ghost use Rattle.wl_edge.specs.Edge.{Rose};
 
 use crate::binder::{Binder, Parts};
 use crate::making::{SeatMaker, make_seats};
 use crate::memory_ready::CountedReady;
-use std::alloc::Global;
+use crate::upkeep::Upkeep;
+use std::alloc::{AllocError, Global};
 use std::sync::Wait;
 use std::thread::Threads;
 use wl_config::{Config, SocketFact};
@@ -17,7 +18,7 @@ use wl_edge::{
 use wl_entry::{JwtToken, Signed};
 use wl_octets::{Octets, Row};
 use wl_selector::Selectors;
-use wl_worker::Seat;
+use wl_worker::{Seat, Signing};
 
 /// What the things of one seat answer.
 #[derive(Drop)]
@@ -35,7 +36,10 @@ pub struct SeatPlan {
 pub struct HostPlan<G> {
     pub documents: Script<Octets>,
     pub identities: Script<Signed>,
-    pub times: Row<u64>,
+    /// What the clocks of the puller, the keeper and the one signer give.
+    pub puller_times: Row<u64>,
+    pub keeper_times: Row<u64>,
+    pub signer_times: Row<u64>,
     pub gate: G,
     /// For each socket, that of the first one last.
     pub seats: Vec<SeatPlan>,
@@ -97,6 +101,23 @@ impl SeatMaker for SeatsLeft {
     }
 }
 
+/// One signer of identities, with its clock.
+fn one_signer(
+    alloc: Global,
+    identities: Script<Signed>,
+    times: Row<u64>,
+) -> Result<Vec<Signing<MemorySigner, MemoryClock>>, AllocError>
+    ensures { IfOk result (λ s. 0 < length s.items) }
+{
+    let tokens = Script::start(Row::empty(alloc), Row::empty(alloc));
+    let mut signers = Vec::new(alloc);
+    signers.push(Signing {
+        signer: MemorySigner::start(alloc, identities, tokens),
+        clock: MemoryClock::start(times),
+    })?;
+    Ok(signers)
+}
+
 impl<G> MemoryHost<G> {
     /// A host of this plan, if any.
     pub fn start(plan: Option<HostPlan<G>>) -> MemoryHost<G> {
@@ -147,7 +168,9 @@ impl<G: Gate + Sync + Drop> Binder for MemoryHost<G> {
         let HostPlan {
             documents,
             identities,
-            times,
+            puller_times,
+            keeper_times,
+            signer_times,
             gate,
             seats,
         } = plan;
@@ -157,11 +180,16 @@ impl<G: Gate + Sync + Drop> Binder for MemoryHost<G> {
             Err(EdgeFault::Failed) => return Err(self.failed()),
             Err(EdgeFault::Memory) => return Err(EdgeFault::Memory),
         };
-        let tokens = Script::start(Row::empty(alloc), Row::empty(alloc));
+        let Ok(signers) = one_signer(alloc, identities, signer_times) else {
+            return Err(EdgeFault::Memory);
+        };
         Ok(Parts {
-            upstream: MemoryUpstream::start(alloc, documents),
-            signer: MemorySigner::start(alloc, identities, tokens),
-            clock: MemoryClock::start(times),
+            upkeep: Upkeep {
+                upstream: MemoryUpstream::start(alloc, documents),
+                puller: MemoryClock::start(puller_times),
+                keeper: MemoryClock::start(keeper_times),
+                signers,
+            },
             gate,
             seats,
             bells,

@@ -1,17 +1,20 @@
 //! Seats are served at once.
 
+ghost use Rattle.std.specs.Fork.{AcceptsEach};
 ghost use Rattle.std.specs.Prelude.{◌≡◌, ◌<◌, ◌≤◌, ℕ, All, IsSome, length, slice_index_or};
 ghost use Rattle.wl_worker.specs.Upkeep.{PulledAgain};
 ghost use Rattle.wl_serve.specs.Views.{SeatView};
 ghost use Rattle.wl_serve.specs.Seating.{IsReady, Served};
 
+use crate::upkeep::keep_up;
 use at_once::for_each_beside;
 use std::alloc::Global;
 use std::sync::{Mutex, Wait};
 use std::thread::Threads;
 use wl_desk::Desk;
 use wl_edge::{Attestor, Bell, Clock, Gate, Listener, Ready, Signer, Upstream};
-use wl_worker::{Seat, maintain, serve_seat};
+use wl_served::served_responses_are_answers;
+use wl_worker::{Seat, TicketQueue, serve_seat};
 
 /// What contracts see of a seat.
 pub trait SeatShown {
@@ -50,6 +53,8 @@ fn tend<L: Listener, S: Signer, A: Attestor, C: Clock, P: Ready<L::L>, G: Gate, 
         (⟦<Seat<L, S, A, C, P> as SeatShown>⟧.shown seat.new) }
 {
     let end = serve_seat(rt, alloc, desk, seat, gate);
+    // a law: what a seat's links took are responses
+    served_responses_are_answers();
     seat.end = Some(end);
 }
 
@@ -62,21 +67,28 @@ pub(crate) fn serve_all<
     P: Ready<L::L> + Send,
     U: Upstream,
     G: Gate + Sync,
-    B: Bell,
+    B: Bell + Sync,
+    T: Send,
+    W: Fn(usize, &mut T) + Sync,
     R: Threads + Wait + Sync,
 >(
     rt: &R,
     alloc: Global,
     desk: &Mutex<Desk<S::V>>,
+    queue: &TicketQueue,
     gate: &G,
     bells: &[B],
     upstream: &mut U,
-    signer: &mut S,
-    clock: &mut C,
+    puller: &mut C,
+    keeper: &mut C,
+    sign: &W,
+    signers: &mut [T],
     seats: &mut [Seat<L, S, A, C, P>],
 )
     requires some { 0 < length seats.old }
     requires ready { All (λ s. IsReady (⟦<Seat<L, S, A, C, P> as SeatShown>⟧.shown s)) seats.old }
+    requires signers { 0 < length signers.old }
+    requires each { AcceptsEach W.Fn sign.now signers.old }
     ensures pulled { PulledAgain (U.told upstream.old) (U.told upstream.new) }
     ensures pull_faults { U.faults upstream.old ≤ U.faults upstream.new }
     ensures count { length seats.new ≡ length seats.old }
@@ -130,7 +142,13 @@ pub(crate) fn serve_all<
               end = seat.exit.now.end;
             }) }
         { tend(rt, alloc, desk, seat, gate) },
-        &mut || maintain(rt, alloc, desk, upstream, signer, clock, gate, bells),
+        &mut ||
+            requires { (0 < length signers.now) × AcceptsEach W.Fn sign.now signers.now }
+        {
+            keep_up(
+                rt, alloc, desk, queue, gate, bells, upstream, puller, keeper, sign, signers,
+            )
+        },
         seats,
     );
 }

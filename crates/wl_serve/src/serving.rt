@@ -11,6 +11,7 @@ use crate::binder::{Binder, Parts, PartsShown};
 use crate::ending::{ServeEnd, end_of_all};
 use crate::passes::{first_passes, give_passes};
 use crate::seats::{SeatShown, serve_all};
+use crate::upkeep::Upkeep;
 use std::alloc::Global;
 use std::sync::{Mutex, Wait};
 use std::thread::Threads;
@@ -20,7 +21,7 @@ use wl_document::DocFault;
 use wl_edge::{Attestor, Bell, Clock, EdgeFault, Gate, Listener, Ready, Signer, Upstream};
 use wl_manager::Manager;
 use wl_octets::{Memory, Octets};
-use wl_worker::Seat;
+use wl_worker::{Seat, Signing, TicketQueue, sign_asks};
 
 /// Serves the seats, each of which has its pass, and ends the desk with them.
 fn with_desk<
@@ -31,7 +32,7 @@ fn with_desk<
     P: Ready<L::L> + Send,
     U: Upstream,
     G: Gate + Sync,
-    B: Bell,
+    B: Bell + Sync,
     R: Threads + Wait + Sync,
 >(
     rt: &R,
@@ -39,23 +40,38 @@ fn with_desk<
     desk: Desk<S::V>,
     gate: &G,
     bells: &[B],
-    upstream: &mut U,
-    signer: &mut S,
-    clock: &mut C,
+    upkeep: &mut Upkeep<U, S, C>,
     seats: &mut [Seat<L, S, A, C, P>],
 )
     requires some { 0 < length seats.old }
     requires ready { AllByRecursion IsReady (map ⟦<Seat<L, S, A, C, P> as SeatShown>⟧.shown seats.old) }
-    ensures pulled { PulledAgain (U.told upstream.old) (U.told upstream.new) }
-    ensures pull_faults { U.faults upstream.old ≤ U.faults upstream.new }
+    requires signers { 0 < length upkeep.old.signers.items }
+    ensures pulled { PulledAgain (U.told upkeep.old.upstream) (U.told upkeep.new.upstream) }
+    ensures pull_faults { U.faults upkeep.old.upstream ≤ U.faults upkeep.new.upstream }
     ensures served { AllZip (Served S.V.token ((l : L.L) → IsSome (L.L.told l)))
         (map ⟦<Seat<L, S, A, C, P> as SeatShown>⟧.shown seats.old)
         (map ⟦<Seat<L, S, A, C, P> as SeatShown>⟧.shown seats.new) }
 {
     let desk = Mutex::new(desk);
+    let queue = TicketQueue::start(alloc);
     serve_all(
-        rt, alloc, &desk, gate, bells, upstream, signer, clock, seats,
+        rt,
+        alloc,
+        &desk,
+        &queue,
+        gate,
+        bells,
+        &mut upkeep.upstream,
+        &mut upkeep.puller,
+        &mut upkeep.keeper,
+        &|_, signing: &mut Signing<S, C>| {
+            let Signing { signer, clock } = signing;
+            sign_asks(rt, alloc, &desk, &queue, signer, clock, gate, bells)
+        },
+        upkeep.signers.as_mut_slice(),
+        seats,
     );
+    queue.end();
     desk.into_inner().end(rt);
 }
 
@@ -68,7 +84,7 @@ fn serve_manager<
     P: Ready<L::L> + Send,
     U: Upstream,
     G: Gate + Sync,
-    B: Bell,
+    B: Bell + Sync,
     R: Threads + Wait + Sync,
 >(
     rt: &R,
@@ -76,15 +92,14 @@ fn serve_manager<
     manager: Manager<S::V>,
     gate: &G,
     bells: &[B],
-    upstream: &mut U,
-    signer: &mut S,
-    clock: &mut C,
+    upkeep: &mut Upkeep<U, S, C>,
     seats: &mut [Seat<L, S, A, C, P>],
 ) -> Result<(), Memory>
     requires some { 0 < length seats.old }
     requires few { length seats.old ≤ 64 }
     requires idle { AllByRecursion IsIdle (map ⟦<Seat<L, S, A, C, P> as SeatShown>⟧.shown seats.old) }
-    ensures pulled { OnOk result (PulledAgain (U.told upstream.old) (U.told upstream.new)) }
+    requires signers { 0 < length upkeep.old.signers.items }
+    ensures pulled { OnOk result (PulledAgain (U.told upkeep.old.upstream) (U.told upkeep.new.upstream)) }
     ensures served { OnOk result (AllZip
         (ServedFrom S.V.token ((l : L.L) → IsSome (L.L.told l)) manager.stored.published)
         (map ⟦<Seat<L, S, A, C, P> as SeatShown>⟧.shown seats.old)
@@ -95,7 +110,7 @@ fn serve_manager<
     let (publisher, passes) = first_passes(rt, alloc, &manager, count)?;
     give_passes(passes, seats);
     let desk = Desk::start(manager, publisher, count);
-    with_desk(rt, alloc, desk, gate, bells, upstream, signer, clock, seats);
+    with_desk(rt, alloc, desk, gate, bells, upkeep, seats);
     Ok(())
 }
 
@@ -108,28 +123,28 @@ fn serve_first<
     P: Ready<L::L> + Send,
     U: Upstream,
     G: Gate + Sync,
-    B: Bell,
+    B: Bell + Sync,
     R: Threads + Wait + Sync,
 >(
     rt: &R,
     alloc: Global,
     gate: &G,
     bells: &[B],
-    upstream: &mut U,
-    signer: &mut S,
-    clock: &mut C,
+    upkeep: &mut Upkeep<U, S, C>,
     seats: &mut [Seat<L, S, A, C, P>],
 ) -> ServeEnd
     requires some { 0 < length seats.old }
     requires few { length seats.old ≤ 64 }
     requires idle { AllByRecursion IsIdle (map ⟦<Seat<L, S, A, C, P> as SeatShown>⟧.shown seats.old) }
+    requires signers { 0 < length upkeep.old.signers.items }
     ensures { SatTells S.V.token ((l : L.L) → IsSome (L.L.told l))
-        (U.told upstream.old) (U.told upstream.new) (U.faults upstream.old) (U.faults upstream.new)
+        (U.told upkeep.old.upstream) (U.told upkeep.new.upstream)
+        (U.faults upkeep.old.upstream) (U.faults upkeep.new.upstream)
         (map ⟦<Seat<L, S, A, C, P> as SeatShown>⟧.shown seats.old)
         (map ⟦<Seat<L, S, A, C, P> as SeatShown>⟧.shown seats.new) result }
 {
     let mut document = Octets::empty(alloc);
-    match upstream.pull(&mut document) {
+    match upkeep.upstream.pull(&mut document) {
         Ok(()) => {}
         Err(EdgeFault::Failed) => return ServeEnd::NoDocument,
         Err(EdgeFault::Memory) => return ServeEnd::Memory,
@@ -139,9 +154,7 @@ fn serve_first<
         Err(DocFault::Memory) => return ServeEnd::Memory,
         Err(fault) => return ServeEnd::Document(fault),
     };
-    match serve_manager(
-        rt, alloc, manager, gate, bells, upstream, signer, clock, seats,
-    ) {
+    match serve_manager(rt, alloc, manager, gate, bells, upkeep, seats) {
         Ok(()) => end_of_all(seats),
         Err(Memory) => ServeEnd::Memory,
     }
@@ -156,6 +169,7 @@ fn serve_parts<B: Binder, R: Threads + Wait + Sync>(
     requires some { 0 < length parts.old.seats.items }
     requires few { length parts.old.seats.items ≤ 64 }
     requires idle { AllByRecursion IsIdle (⟦<Parts<B> as PartsShown>⟧.shown parts.old).seats }
+    requires signers { 0 < length parts.old.upkeep.signers.items }
     ensures { SatTells B.Sign.V.token ((l : B.Listen.L) → IsSome (B.Listen.L.told l))
         (⟦<Parts<B> as PartsShown>⟧.shown parts.old).upstream
         (⟦<Parts<B> as PartsShown>⟧.shown parts.new).upstream
@@ -169,15 +183,13 @@ fn serve_parts<B: Binder, R: Threads + Wait + Sync>(
         alloc,
         &parts.gate,
         parts.bells.as_slice(),
-        &mut parts.upstream,
-        &mut parts.signer,
-        &mut parts.clock,
+        &mut parts.upkeep,
         parts.seats.as_mut_slice(),
     )
 }
 
 /// Reads a configuration, has the host prepare what it names, pulls and judges the first document, and serves each seat
-/// in a thread of its own, with the upkeep beside them, until all have ended. The store is strict. What was prepared is
+/// in a thread of its own, with upkeep beside them, until all have ended. The store is strict. What was prepared is
 /// kept, for its counts and lists to be seen.
 ///
 /// It may wait for as long as links stand, and returns where every listener came to its end or a seat failed.

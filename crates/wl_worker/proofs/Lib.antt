@@ -1,5 +1,6 @@
 pub mod Asking
 pub mod Owners
+pub mod Lasting
 pub mod Pulling
 pub mod Showing
 pub mod Gaining

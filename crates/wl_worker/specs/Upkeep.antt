@@ -1,13 +1,16 @@
 -- Upkeep: what taking a document and asking for identities come to (own rules).
-use Rattle.std.specs.Prelude.{◌≡◌, ◌⊎◌, ⊤, ℕ, ◌+◌, ◌≤◌, Bool, true, false, List, [], ◌∷◌, ◌++◌, length, count_by, Option, Some, None, IfSome, Err, IsOkAnd}
-use Rattle.std.specs.List.{Contains}
+use Rattle.std.specs.Prelude.{◌≡◌, ⊤, ℕ, ◌<◌, ◌≤◌, List, [], ◌++◌, Option, Some, None, IfSome, Err, IsOkAnd}
+use Rattle.std.specs.List.{Contains, AllByRecursion}
+use Rattle.wl_entry.specs.declared.asks.Ask.{Ask}
+use Rattle.wl_entry.specs.declared.signing.Signed.{Signed}
+use Rattle.wl_entry.specs.declared.signing.Svid.{Svid}
 use Rattle.wl_document.specs.declared.fault.DocFault.{DocFault}
 use Rattle.wl_document.specs.States.{State}
 use Rattle.wl_document.specs.Documents.{document_state}
 use Rattle.wl_snapshot.specs.Snapshots.{Publication}
 use Rattle.wl_publish.specs.Lists.{IsLast}
-use Rattle.wl_publish.specs.Listings.{Listing}
 use Rattle.wl_edge.specs.Calls.{Gains}
+use Rattle.wl_edge.specs.Clocks.{Ticks}
 use Rattle.wl_edge.specs.Edge.{Rose}
 use Rattle.wl_edge.specs.Upstreams.{UpstreamLog, with_pull, one_more}
 use Rattle.wl_edge.specs.declared.upstream.PullCall.{PullCall}
@@ -16,8 +19,10 @@ use Rattle.wl_edge.specs.declared.signer.SignerCall.TheVariants.{X509, Jwt}
 use Rattle.wl_worker.specs.Counts.{RoseBy}
 use Rattle.wl_worker.specs.declared.documents.Synced.{Synced}
 use Rattle.wl_worker.specs.declared.documents.Synced.TheVariants as synced
-use Rattle.wl_worker.specs.declared.identities.Asked.{Asked}
-use Rattle.wl_worker.specs.declared.identities.Asked.TheVariants as asked
+use Rattle.wl_worker.specs.declared.signing.Asked.{Asked}
+use Rattle.wl_worker.specs.declared.signing.Asked.TheVariants as asked
+use Rattle.wl_worker.specs.declared.keeper.Kept.{Kept}
+use Rattle.wl_worker.specs.declared.keeper.Kept.TheVariants as kept
 
 -- ---- documents
 
@@ -72,63 +77,40 @@ pub record Syncs {V : Type 0} (old new : Option UpstreamLog) (before now : ℕ) 
 
 -- ---- identities
 
--- the signer answered an identity
-abbrev pub is_identity : SignerCall → Bool
-is_identity (X509 ask (Some signed)) = true
-is_identity (X509 ask None) = false
-is_identity (Jwt ask audience answer) = false
-
--- how many identities these calls answered
-abbrev pub identities : List SignerCall → ℕ
-identities calls = count_by is_identity calls
-
 -- The call's identity is, with its ask, an SVID of the list's last publication.
 abbrev pub IsShown : List Publication → SignerCall → Type 0
 IsShown list (X509 ask (Some signed)) = (p : Publication) × IsLast list p × Contains p.svids (record { ask = ask; signed = signed })
 IsShown list (X509 ask None) = ⊥
 IsShown list (Jwt ask audience answer) = ⊥
 
--- The notes belong, in order, to different ones of these calls, each of which answered what its note shows.
-abbrev pub BelongTo : List Listing → List SignerCall → Type 0
-BelongTo [] calls = ⊤
-BelongTo (note ∷ notes) [] = ⊥
-BelongTo (note ∷ notes) (call ∷ calls) = (IsShown note.list call × BelongTo notes calls) ⊎ BelongTo (note ∷ notes) calls
-
--- what came of one ticket: the signer was asked once, and its answer was kept, or was not, or it failed
-abbrev pub AskGives : {V : Type 0} → Option (List SignerCall) → Option (List SignerCall) → ℕ → ℕ → Asked V → Type 0
-AskGives {V} old new before now (asked.Kept note) = (call : SignerCall) × Gains old new call × IsShown note.list call
-AskGives {V} old new before now asked.Refused = (call : SignerCall) × Gains old new call × (is_identity call ≡ true)
-AskGives {V} old new before now asked.Failed = (call : SignerCall) × Gains old new call × (is_identity call ≡ false) × Rose before now
-AskGives {V} old new before now asked.Memory = (calls : List SignerCall) × IfSome old (λ told. new ≡ Some (told ++ calls))
+-- What came of one ask: the signer was asked this very ask once, and its answer was kept, or was not, or it failed. Where
+-- memory ran out no more is said than that the list only grew.
+abbrev pub AskGives : {V : Type 0} → Ask → Option (List SignerCall) → Option (List SignerCall) → ℕ → ℕ → Asked V → Type 0
+AskGives {V} ask old new before now (asked.Kept note) = (signed : Signed) × Gains old new (X509 ask (Some signed)) × IsShown note.list (X509 ask (Some signed))
+AskGives {V} ask old new before now asked.Refused = (signed : Signed) × Gains old new (X509 ask (Some signed))
+AskGives {V} ask old new before now (asked.Failed ticket) = (ticket.ask ≡ ask) × Gains old new (X509 ask None) × Rose before now
+AskGives {V} ask old new before now (asked.Starved ticket) = (ticket.ask ≡ ask) × (new ≡ old)
+AskGives {V} ask old new before now asked.Memory = (signed : Signed) × Gains old new (X509 ask (Some signed))
 
 -- the same, with the count of the signer's faults, which never falls
-pub record Asks {V : Type 0} (old new : Option (List SignerCall)) (before now : ℕ) (answer : Asked V) : Type 0 where
-  pub gives : AskGives old new before now answer
+pub record Asks {V : Type 0} (ask : Ask) (old new : Option (List SignerCall)) (before now : ℕ) (answer : Asked V) : Type 0 where
+  pub gives : AskGives ask old new before now answer
   pub later : before ≤ now
 
--- What was asked of a signer so far, one call for each ticket: those that were kept, each with its note, those that were
--- not, and those that failed, for each of which the signer's count rose.
-pub record AskedSoFar (old new : Option (List SignerCall)) (before now : ℕ) (kept : List Listing) (refused failed : ℕ) : Type 0 where
-  pub calls : List SignerCall
-  pub told : IfSome old (λ earlier. new ≡ Some (earlier ++ calls))
-  pub belong : BelongTo kept calls
-  pub answered : length kept + refused ≡ identities calls
-  pub one_each : length kept + (refused + failed) ≡ length calls
-  pub rose : RoseBy failed before now
-  pub later : before ≤ now
+-- a signer's list only grew
+abbrev pub AskedOn : Option (List SignerCall) → Option (List SignerCall) → Type 0
+AskedOn old new = IfSome old (λ told. (calls : List SignerCall) × (new ≡ Some (told ++ calls)))
 
--- All tickets were asked for.
-pub record AllAsked (tickets : ℕ) (calls : List SignerCall) (kept : List Listing) (refused failed : ℕ) : Type 0 where
-  pub answered : length kept + refused ≡ identities calls
-  pub sum : length kept + (refused + failed) ≡ tickets
-  pub one_each : length calls ≡ tickets
+-- ---- what has ended
 
--- A rotation: what the signer was asked, to which of its answers the notes belong, and that not more calls are counted as
--- failed than its count rose. Unless memory ran out all tickets were asked for.
-pub record Rotates (old new : Option (List SignerCall)) (before now tickets : ℕ) (kept : List Listing) (refused failed : ℕ) (memory : Bool) : Type 0 where
-  pub calls : List SignerCall
-  pub told : IfSome old (λ earlier. new ≡ Some (earlier ++ calls))
-  pub belong : BelongTo kept calls
-  pub rose : RoseBy failed before now
-  pub later : before ≤ now
-  pub whole : memory ≡ false → AllAsked tickets calls kept refused failed
+-- No SVID of the list's last publication ends at this time or before it.
+abbrev pub NoneEnded : ℕ → List Publication → Type 0
+NoneEnded now list = (p : Publication) × IsLast list p × AllByRecursion (λ (v : Svid). now < v.signed.not_after) p.svids
+
+abbrev pub KeepGives : {V : Type 0} → ℕ → Kept V → Type 0
+KeepGives {V} now (kept.Done note tickets) = NoneEnded now note.list
+KeepGives {V} now kept.Memory = ⊤
+
+-- One look at the desk, at a time that the clock gave.
+abbrev pub Keeps : {V : Type 0} → Option (List ℕ) → Option (List ℕ) → Kept V → Type 0
+Keeps {V} old new answer = (now : ℕ) × Ticks old new now × KeepGives now answer

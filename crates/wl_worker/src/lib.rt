@@ -4,8 +4,9 @@
 //! publication, takes its turn, answers the asks for tokens, and sends. What its link takes is the talk
 //! over the trace of these rounds; the worker adds no meaning to it.
 //!
-//! Upkeep takes the present document and asks for the identities that are due, again and again until no seat
-//! serves. It keeps nothing of its own: what it changes is the desk, under the desk's lock.
+//! Upkeep is a keeper, which lets go of what has ended and claims what is due, a puller, which takes documents, and
+//! signers, which ask for identities, each again and again until no seat serves. What they change is the desk, under
+//! its lock, which none of them holds while it waits for the outside.
 #![tactic(auto)]
 
 mod connection;
@@ -13,15 +14,17 @@ mod documents;
 mod ended;
 mod flush;
 mod hearing;
-mod identities;
+mod keeper;
 mod laws;
 mod naming;
 mod outcomes;
 mod places;
+mod queue;
 mod seat;
 mod seat_rounds;
 mod seating;
 mod served;
+mod signing;
 mod step;
 mod stepping;
 mod upkeep;
@@ -29,8 +32,10 @@ mod upkeep;
 pub use connection::serve_connection;
 pub use documents::{Synced, sync_once};
 pub use ended::{Ended, RoundEnd};
-pub use identities::{Rotated, rotate_once};
+pub use keeper::{Kept, keep_once};
 pub use laws::rounds_are_determined;
+pub use queue::{QueuedTicket, TicketQueue};
 pub use seat::{Seat, SeatEnd, serve_seat};
 pub use served::Served;
-pub use upkeep::maintain;
+pub use signing::{Asked, Signing, sign_once};
+pub use upkeep::{keep_time, pull_documents, sign_asks};

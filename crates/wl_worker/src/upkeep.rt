@@ -1,41 +1,67 @@
-//! Upkeep goes on beside the seats.
+//! Upkeep goes on beside the seats: a keeper, a puller and signers, each in a thread of its own. None of them holds the
+//! desk's lock while it waits for the outside.
 
-ghost use Rattle.std.specs.Prelude.{◌≡◌, ◌≤◌, ◌<◌};
-ghost use Rattle.wl_worker.specs.Upkeep.{PulledAgain};
+ghost use Rattle.std.specs.Prelude.{◌≡◌, ◌≤◌};
+ghost use Rattle.wl_worker.specs.Upkeep.{AskedOn, PulledAgain};
 
-use crate::documents::sync_once;
-use crate::identities::rotate_once;
+use crate::documents::{Synced, sync_once};
+use crate::keeper::{Kept, keep_once};
+use crate::queue::{QueuedTicket, TicketQueue};
+use crate::signing::{Asked, sign_once};
 use std::alloc::Global;
 use std::sync::{Mutex, Wait};
 use wl_desk::Desk;
-use wl_edge::{BEFORE_UPKEEP, Bell, Clock, Gate, Signer, Upstream};
+use wl_edge::{BEFORE_KEEPING, BEFORE_SIGNING, BEFORE_UPKEEP, Bell, Clock, Gate, Signer, Upstream};
 use wl_entry::Voucher;
-use wl_octets::Memory;
+use wl_octets::{Octets, Row};
+use wl_publish::Note;
+use wl_store::Ticket;
 
-/// Takes the present document and asks for what is due, round for round, at least once, until no seat serves.
-/// Point 2 of the gate is passed before each round. After new publications all bells are rung. Faults and
-/// want of memory end nothing: the next round tries again.
-pub fn maintain<U: Upstream, S: Signer, C: Clock, G: Gate, B: Bell, R: Wait>(
+/// Lets go of what has ended and puts what is due into the queue, round for round, at least once, until no seat serves;
+/// then it closes the queue. Point 3 of the gate is passed before each round. Bells ring after a new publication.
+pub fn keep_time<V: Voucher, C: Clock, G: Gate, B: Bell, R: Wait>(
     rt: &R,
     alloc: Global,
-    desk: &Mutex<Desk<S::V>>,
+    desk: &Mutex<Desk<V>>,
+    queue: &TicketQueue,
+    clock: &mut C,
+    gate: &G,
+    bells: &[B],
+) {
+    let mut rung = None;
+    for _ in rt.forever() {
+        gate.pass(BEFORE_KEEPING);
+        rung = keep_round(rt, alloc, desk, queue, clock, bells, rung);
+        if desk.lock(rt).seats() == 0 {
+            queue.close(rt);
+            return;
+        }
+    }
+    unreachable!()
+}
+
+/// Takes the present document, round for round, at least once, until no seat serves. What a document makes due is put
+/// into the queue at once. Point 2 of the gate is passed before each round. Bells ring after a new publication. Faults
+/// and out of memory end nothing: the next round tries again.
+pub fn pull_documents<V: Voucher, U: Upstream, C: Clock, G: Gate, B: Bell, R: Wait>(
+    rt: &R,
+    alloc: Global,
+    desk: &Mutex<Desk<V>>,
+    queue: &TicketQueue,
     upstream: &mut U,
-    signer: &mut S,
     clock: &mut C,
     gate: &G,
     bells: &[B],
 )
     ensures pulled { PulledAgain (U.told upstream.old) (U.told upstream.new) }
-    ensures pull_faults { U.faults upstream.old ≤ U.faults upstream.new }
-    ensures sign_faults { S.faults signer.old ≤ S.faults signer.new }
+    ensures faults { U.faults upstream.old ≤ U.faults upstream.new }
 {
-    let mut rung = last_number(rt, desk);
+    let mut rung = None;
     for _ in rt.forever() {
         gate.pass(BEFORE_UPKEEP);
-        let _ = sync_once(rt, alloc, desk, upstream);
-        rung = ring_news(rt, desk, bells, rung);
-        let _ = rotate_once(rt, alloc, desk, signer, clock);
-        rung = ring_news(rt, desk, bells, rung);
+        let synced = sync_once(rt, alloc, desk, upstream);
+        rung = ring_synced(bells, rung, synced);
+        rung = keep_round(rt, alloc, desk, queue, clock, bells, rung);
         if desk.lock(rt).seats() == 0 {
             return;
         }
@@ -43,23 +69,151 @@ pub fn maintain<U: Upstream, S: Signer, C: Clock, G: Gate, B: Bell, R: Wait>(
     unreachable!()
 }
 
-/// The number of the last publication.
-fn last_number<V: Voucher, R: Wait>(rt: &R, desk: &Mutex<Desk<V>>) -> u64 {
-    match desk.lock(rt).note(rt) {
-        Ok(note) => note.number(),
-        Err(Memory) => unreachable!(),
+/// Asks for one identity after the other from the queue, until it is closed. Point 4 of the gate is passed before each.
+/// An ask that failed is put back; bells ring after each identity that was kept.
+pub fn sign_asks<S: Signer, C: Clock, G: Gate, B: Bell, R: Wait>(
+    rt: &R,
+    alloc: Global,
+    desk: &Mutex<Desk<S::V>>,
+    queue: &TicketQueue,
+    signer: &mut S,
+    clock: &mut C,
+    gate: &G,
+    bells: &[B],
+)
+    ensures told { AskedOn (S.calls signer.old) (S.calls signer.new) }
+    ensures faults { S.faults signer.old ≤ S.faults signer.new }
+{
+    for _ in rt.forever() {
+        gate.pass(BEFORE_SIGNING);
+        match queue.next(rt) {
+            Some(queued) => sign_next(rt, alloc, desk, queue, signer, clock, bells, queued),
+            None if queue.is_closed(rt) => return,
+            None => {}
+        }
+    }
+    unreachable!()
+}
+
+/// One look at the desk. It answers the number of the last publication, up to which the bells have rung.
+fn keep_round<V: Voucher, C: Clock, B: Bell, R: Wait>(
+    rt: &R,
+    alloc: Global,
+    desk: &Mutex<Desk<V>>,
+    queue: &TicketQueue,
+    clock: &mut C,
+    bells: &[B],
+    rung: Option<u64>,
+) -> Option<u64> {
+    queue.tell_time(rt, clock.now());
+    match keep_once(rt, alloc, desk, clock) {
+        Kept::Done(note, tickets) => {
+            let last = ring_news(bells, rung, &note);
+            put_all(rt, desk, queue, tickets);
+            last
+        }
+        Kept::Memory => rung,
     }
 }
 
-/// Rings all bells where there is a publication after the one with this number, and answers the number of the
-/// last.
-fn ring_news<V: Voucher, B: Bell, R: Wait>(
+/// Puts tickets into the queue. Those for which there is no memory go back to the desk, and are claimed again.
+fn put_all<V: Voucher, R: Wait>(
     rt: &R,
     desk: &Mutex<Desk<V>>,
+    queue: &TicketQueue,
+    tickets: Row<Ticket>,
+) {
+    let mut left = tickets.into_vec();
+    left.reverse();
+    'left: while let Some(ticket) = left.pop() {
+        if let Some(ticket) = queue.put(rt, ticket) {
+            desk.lock(rt).failed(ticket);
+        }
+    }
+    left.destroy_empty();
+}
+
+/// Asks for the identity of one ticket. Where no entry has its ask any more the ticket goes back without that.
+fn sign_next<S: Signer, C: Clock, B: Bell, R: Wait>(
+    rt: &R,
+    alloc: Global,
+    desk: &Mutex<Desk<S::V>>,
+    queue: &TicketQueue,
+    signer: &mut S,
+    clock: &mut C,
     bells: &[B],
-    rung: u64,
-) -> u64 {
-    let last = last_number(rt, desk);
+    queued: QueuedTicket,
+)
+    ensures told { AskedOn (S.calls signer.old) (S.calls signer.new) }
+    ensures faults { S.faults signer.old ≤ S.faults signer.new }
+{
+    let QueuedTicket { ticket, pause } = queued;
+    if !desk.lock(rt).lists(&ticket.ask) {
+        desk.lock(rt).failed(ticket);
+        return;
+    }
+    let entry_id = ticket.ask.entry_id.copy(alloc).ok();
+    let asked = sign_once(rt, alloc, desk, signer, clock, ticket);
+    pace(rt, queue, entry_id, &asked, clock.now());
+    settle(rt, desk, queue, bells, asked, pause, clock.now());
+}
+
+/// An entry whose answer was not kept is slowed down, until one is kept.
+fn pace<V: Voucher, R: Wait>(
+    rt: &R,
+    queue: &TicketQueue,
+    entry_id: Option<Octets>,
+    asked: &Asked<V>,
+    now: u64,
+) {
+    let Some(entry_id) = entry_id else { return };
+    match asked {
+        Asked::Kept(_) => queue.speed_up(rt, &entry_id),
+        Asked::Refused => queue.slow_down(rt, entry_id, now),
+        Asked::Failed(_) | Asked::Starved(_) | Asked::Memory => {}
+    }
+}
+
+/// What is to be done after an ask, at this time: bells ring after an identity that was kept, and an ask that failed is
+/// put back for so many seconds.
+fn settle<V: Voucher, B: Bell, R: Wait>(
+    rt: &R,
+    desk: &Mutex<Desk<V>>,
+    queue: &TicketQueue,
+    bells: &[B],
+    asked: Asked<V>,
+    pause: u64,
+    now: u64,
+) {
+    match asked {
+        Asked::Kept(note) => {
+            drop(note);
+            ring_all(bells);
+        }
+        Asked::Refused | Asked::Memory => {}
+        Asked::Failed(ticket) | Asked::Starved(ticket) => {
+            if let Some(ticket) = queue.put_back(rt, ticket, pause, now) {
+                desk.lock(rt).failed(ticket);
+            }
+        }
+    }
+}
+
+/// Rings where a document made a publication after the one with this number.
+fn ring_synced<V: Voucher, B: Bell>(
+    bells: &[B],
+    rung: Option<u64>,
+    synced: Synced<V>,
+) -> Option<u64> {
+    match synced {
+        Synced::Done(note) | Synced::Refused(_, note) => ring_news(bells, rung, &note),
+        Synced::Failed | Synced::Memory => rung,
+    }
+}
+
+/// Rings all bells where the note's last publication is another than the one with this number, and answers its number.
+fn ring_news<V: Voucher, B: Bell>(bells: &[B], rung: Option<u64>, note: &Note<V>) -> Option<u64> {
+    let last = Some(note.number());
     if last != rung {
         ring_all(bells);
     }

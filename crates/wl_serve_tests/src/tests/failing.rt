@@ -8,7 +8,7 @@ use std::rt::Clock;
 use std::sync::Wait;
 use std::test::Fail;
 use std::thread::Threads;
-use wl_edge::BEFORE_UPKEEP;
+use wl_edge::BEFORE_SIGNING;
 use wl_serve::ServeEnd;
 use wl_serve::ServeEnd::{Done, HostFault, NoDocument};
 
@@ -85,14 +85,19 @@ fn trial(failing: Failing, numbers: &'static [u64]) -> Trial {
     trial
 }
 
-/// The end, and how many links took their message. Each turn is held until upkeep was begun three times, so that
-/// identities are signed though a call of the signer fails.
+/// How often the signer begins to wait for an ask until the identity is signed, the first ask of which may fail.
+fn asks_until_signed(trial: &Trial) -> u64 {
+    if trial.signs == [0].as_slice() { 3 } else { 2 }
+}
+
+/// The end, and how many links took their message. Each turn is held until the identity is signed.
 fn came_to<R: Threads + Wait + Sync + Clock>(
     rt: &R,
     alloc: Global,
     trial: &Trial,
 ) -> Result<(ServeEnd, usize), Stop> {
-    let (end, kept) = served(rt, alloc, trial, Holding::start(rt, BEFORE_UPKEEP, 3))?;
+    let gate = Holding::start(rt, BEFORE_SIGNING, asks_until_signed(trial));
+    let (end, kept) = served(rt, alloc, trial, gate)?;
     Ok((end, takers_at(&kept, 0, LEAF_IN_MESSAGE).unwrap_or(0)))
 }
 

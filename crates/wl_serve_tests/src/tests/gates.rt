@@ -4,7 +4,7 @@ use std::rt::Clock;
 use std::sync::atomic::{AtomicU64, Ordering};
 use std::thread;
 use std::time::Duration;
-use wl_edge::{BEFORE_TURN, Gate};
+use wl_edge::{BEFORE_SIGNING, BEFORE_TURN, Gate};
 
 /// How many times a held turn looks at most, a thousandth of a second apart.
 const LOOKS: u64 = 10_000;
@@ -60,13 +60,13 @@ impl<'a, R: Clock> Gate for Holding<'a, R> {
     }
 }
 
-/// Holds each turn until upkeep was begun twice, so that identities are signed, and the first turn until so many turns
-/// were due, its own among them.
+/// Holds each turn until the signer waits for a second ask, so that the identity is signed, and the first turn until so
+/// many turns were due, its own among them.
 #[derive(Drop)]
 pub struct HoldingFirst<'a, R> {
     pub rt: &'a R,
     pub wanted: u64,
-    pub upkeep: AtomicU64,
+    pub asks: AtomicU64,
     pub turns: AtomicU64,
     /// Whether the first turn was let go although no other had come.
     pub given_up: AtomicU64,
@@ -77,7 +77,7 @@ impl<'a, R: Clock> HoldingFirst<'a, R> {
         HoldingFirst {
             rt,
             wanted,
-            upkeep: AtomicU64::new(0),
+            asks: AtomicU64::new(0),
             turns: AtomicU64::new(0),
             given_up: AtomicU64::new(0),
         }
@@ -86,11 +86,13 @@ impl<'a, R: Clock> HoldingFirst<'a, R> {
 
 impl<'a, R: Clock> Gate for HoldingFirst<'a, R> {
     fn pass(&self, point: u32) {
+        if point == BEFORE_SIGNING {
+            self.asks.fetch_add(1, Ordering::SeqCst);
+        }
         if point != BEFORE_TURN {
-            self.upkeep.fetch_add(1, Ordering::SeqCst);
             return;
         }
-        let signed = comes_to(self.rt, &self.upkeep, 2);
+        let signed = comes_to(self.rt, &self.asks, 2);
         let first = self.turns.fetch_add(1, Ordering::SeqCst) == 0;
         if !signed || first && !comes_to(self.rt, &self.turns, self.wanted) {
             self.given_up.fetch_add(1, Ordering::SeqCst);

@@ -184,7 +184,9 @@ where
     Ok(MemoryHost::start(Some(HostPlan {
         documents: documents(alloc, trial)?,
         identities: identities(alloc, trial)?,
-        times: numbers(alloc, &[100])?,
+        puller_times: numbers(alloc, &[100])?,
+        keeper_times: numbers(alloc, &[100, 100, 101])?,
+        signer_times: numbers(alloc, &[100])?,
         gate,
         seats: seats.into_vec(),
     })))

@@ -28,6 +28,19 @@ fn given_up<'a, R: Clock + Sync>(
     Some(kept.as_ref()?.gate.given_up.load(Ordering::SeqCst))
 }
 
+/// How many of the bells rang, which are as many as sockets.
+fn rung<'a, R: Clock + Sync>(kept: &Option<Parts<MemoryHost<HoldingFirst<'a, R>>>>) -> usize {
+    match kept {
+        Some(parts) => parts
+            .bells
+            .as_slice()
+            .iter()
+            .filter(|bell| bell.rings() > 0)
+            .count(),
+        None => 0,
+    }
+}
+
 #[test]
 fn one_call_is_held_until_the_other_is_answered(rt: HostRuntime) -> Result<(), Fail> {
     let gate = HoldingFirst::start(&rt, TURNS + 1);
@@ -36,5 +49,7 @@ fn one_call_is_held_until_the_other_is_answered(rt: HostRuntime) -> Result<(), F
     for seat in 0..2 {
         assert_eq!(rt; takers_at(&kept, seat, LEAF_IN_MESSAGE), Some(1));
     }
+    // the identity was published while both sockets were served
+    assert_eq!(rt; rung(&kept), 2);
     Ok(())
 }

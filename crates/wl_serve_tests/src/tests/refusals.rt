@@ -7,7 +7,7 @@ use std::rt::Clock;
 use std::sync::Wait;
 use std::test::Fail;
 use std::thread::Threads;
-use wl_edge::{BEFORE_UPKEEP, MemoryLink};
+use wl_edge::{BEFORE_SIGNING, MemoryLink};
 use wl_serve::{MemoryHost, Parts, ServeEnd};
 
 /// What was prepared with a gate that holds turns.
@@ -18,7 +18,7 @@ fn serve_calls<'a, R: Threads + Wait + Sync + Clock>(
     rt: &'a R,
     alloc: Global,
 ) -> Result<(ServeEnd, Kept<'a, R>), Stop> {
-    served(rt, alloc, &CALLS, Holding::start(rt, BEFORE_UPKEEP, 3))
+    served(rt, alloc, &CALLS, Holding::start(rt, BEFORE_SIGNING, 2))
 }
 
 /// The links that were finished.

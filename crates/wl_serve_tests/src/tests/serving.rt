@@ -10,7 +10,7 @@ use std::test::Fail;
 use std::thread::Threads;
 use wl_config::ConfigFault;
 use wl_document::DocFault;
-use wl_edge::{BEFORE_UPKEEP, Gate, OpenGate};
+use wl_edge::{BEFORE_SIGNING, Gate, OpenGate};
 use wl_serve::{MemoryHost, Parts, ServeEnd};
 use wl_worker::SeatEnd;
 
@@ -123,14 +123,14 @@ pub fn takers_at<G: Gate + Sync + Drop>(
     Some(links.iter().filter(|link| holds(link.took(), part)).count())
 }
 
-/// How many links took this, where each turn is held until upkeep was begun twice, so that identities are signed.
+/// How many links took this, where each turn is held until the signer waits for a second ask, so that the identity is signed.
 fn takers_of<R: Threads + Wait + Sync + Clock>(
     rt: &R,
     alloc: Global,
     trial: &Trial,
     part: &[u8],
 ) -> Result<Option<usize>, Stop> {
-    let (_, kept) = served(rt, alloc, trial, Holding::start(rt, BEFORE_UPKEEP, 2))?;
+    let (_, kept) = served(rt, alloc, trial, Holding::start(rt, BEFORE_SIGNING, 2))?;
     Ok(takers_at(&kept, 0, part))
 }
 

@@ -1,18 +1,27 @@
-//! Documents, identities, and rounds of both.
+//! Documents, identities, and the loops of upkeep.
 
 use super::documents::{DOC, FOREIGN, TWO};
 use super::gates::{Closing, Starved};
 use std::alloc::Global;
+use std::rt::Clock;
 use std::sync::atomic::{AtomicU64, Ordering};
 use std::sync::{Mutex, Wait};
 use std::test::Fail;
+use std::thread::{Threads, join_mut};
 use wl_desk::{Desk, last_edition};
-use wl_edge::{MemoryBell, MemoryClock, MemorySigner, MemoryUpstream, Script, Signer, SignerCall};
+use wl_edge::{
+    BEFORE_KEEPING, BEFORE_UPKEEP, MemoryBell, MemoryClock, MemorySigner, MemoryUpstream, OpenGate,
+    Script, Signer, SignerCall,
+};
 use wl_entry::{Free, Signed};
 use wl_manager::Manager;
 use wl_octets::{Memory, Octets, Row};
 use wl_publish::start;
-use wl_worker::{Rotated, Synced, maintain, rotate_once, sync_once};
+use wl_store::Ticket;
+use wl_worker::{
+    Asked, Kept, Synced, TicketQueue, keep_once, keep_time, pull_documents, sign_asks, sign_once,
+    sync_once,
+};
 
 /// A desk of this document, for so many seats.
 fn open<R: Wait>(rt: &R, alloc: Global, document: &[u8], seats: u32) -> Result<Desk<Free>, Fail> {
@@ -62,18 +71,93 @@ fn sync_words(alloc: Global, synced: Synced<Free>) -> Result<String, Fail> {
     })
 }
 
-/// What a rotation came to: tickets, the numbers of the notes, refused, failed, memory.
-fn rotation_words(alloc: Global, rotated: Rotated<Free>) -> Result<String, Fail> {
-    let mut words = format!(in alloc; "{} kept", rotated.tickets)?;
-    for note in rotated.kept.as_slice() {
-        words.push_str(format!(in alloc; " {}", note.number())?.as_str())?;
+/// What came of the tickets of a look.
+#[derive(Clone, Copy, Debug, Default, PartialEq, Eq)]
+struct Counts {
+    number: u64,
+    kept: u32,
+    refused: u32,
+    failed: u32,
+    starved: u32,
+}
+
+/// Asks for one ticket; one that failed goes back to the desk.
+fn ask<R: Wait, S: Signer<V = Free>>(
+    rt: &R,
+    alloc: Global,
+    desk: &Mutex<Desk<Free>>,
+    signer: &mut S,
+    clock: &mut MemoryClock,
+    ticket: Ticket,
+    counts: &mut Counts,
+) {
+    match sign_once(rt, alloc, desk, signer, clock, ticket) {
+        Asked::Kept(note) => {
+            counts.number = note.number();
+            counts.kept = counts.kept.saturating_add(1);
+        }
+        Asked::Refused | Asked::Memory => counts.refused = counts.refused.saturating_add(1),
+        Asked::Failed(ticket) => {
+            counts.failed = counts.failed.saturating_add(1);
+            desk.lock(rt).failed(ticket);
+        }
+        Asked::Starved(ticket) => {
+            counts.starved = counts.starved.saturating_add(1);
+            desk.lock(rt).failed(ticket);
+        }
     }
-    let rest = format!(in alloc;
-        " refused {} failed {} {}",
-        rotated.refused, rotated.failed, rotated.memory
-    )?;
-    words.push_str(rest.as_str())?;
-    Ok(words)
+}
+
+/// A look of the keeper, and an ask for each of its tickets.
+fn rotation<R: Wait, S: Signer<V = Free>>(
+    rt: &R,
+    alloc: Global,
+    desk: &Mutex<Desk<Free>>,
+    signer: &mut S,
+    clock: &mut MemoryClock,
+) -> Counts {
+    let mut counts = Counts::default();
+    match keep_once(rt, alloc, desk, clock) {
+        Kept::Done(note, tickets) => {
+            counts.number = note.number();
+            let mut left = tickets.into_vec();
+            left.reverse();
+            'left: while let Some(ticket) = left.pop() {
+                ask(rt, alloc, desk, signer, clock, ticket, &mut counts);
+            }
+            left.destroy_empty();
+        }
+        Kept::Memory => {}
+    }
+    counts
+}
+
+/// Three rotations, at these times: a look and each of its asks read the clock.
+fn rotations<R: Wait, S: Signer<V = Free>>(
+    rt: &R,
+    alloc: Global,
+    document: &[u8],
+    signer: &mut S,
+    times: &[u64],
+) -> Result<[Counts; 3], Fail> {
+    let mut clock = MemoryClock::start(numbers(alloc, times)?);
+    let desk = Mutex::new(open(rt, alloc, document, 0)?);
+    let first = rotation(rt, alloc, &desk, signer, &mut clock);
+    let second = rotation(rt, alloc, &desk, signer, &mut clock);
+    let third = rotation(rt, alloc, &desk, signer, &mut clock);
+    desk.into_inner().end(rt);
+    Ok([first, second, third])
+}
+
+/// How many were kept and not.
+fn counted(number: u64, kept: u32, refused: u32, failed: u32, starved: u32) -> Counts {
+    Counts {
+        number,
+        kept,
+        refused,
+        failed,
+        starved,
+    }
 }
 
 /// So many syncs, in words.
@@ -88,24 +172,6 @@ fn syncs<R: Wait>(
     for _ in 0..count {
         let synced = sync_once(rt, alloc, desk, upstream);
         said.push_str(sync_words(alloc, synced)?.as_str())?;
-        said.push_str("; ")?;
-    }
-    Ok(said)
-}
-
-/// So many rotations at 100, in words.
-fn rotations<R: Wait, S: Signer<V = Free>>(
-    rt: &R,
-    alloc: Global,
-    desk: &Mutex<Desk<Free>>,
-    signer: &mut S,
-    count: u32,
-) -> Result<String, Fail> {
-    let mut clock = MemoryClock::start(numbers(alloc, &[100])?);
-    let mut said = String::new(alloc);
-    for _ in 0..count {
-        let rotated = rotate_once(rt, alloc, desk, signer, &mut clock);
-        said.push_str(rotation_words(alloc, rotated)?.as_str())?;
         said.push_str("; ")?;
     }
     Ok(said)
@@ -137,13 +203,13 @@ fn entry_asked(call: &SignerCall) -> &[u8] {
 fn a_signer_fails_once(rt: HostRuntime) -> Result<(), Fail> {
     let alloc = rt.alloc();
     let mut signer = signer(alloc, &[(100, 200)], 0)?;
-    let desk = Mutex::new(open(&rt, alloc, TWO, 0)?);
-    let said = rotations(&rt, alloc, &desk, &mut signer, 3);
-    desk.into_inner().end(&rt);
-    assert_eq!(rt;
-        said?.as_str(),
-        "2 kept 1 refused 0 failed 1 false; 1 kept 2 refused 0 failed 0 false; 0 kept refused 0 failed 0 false; "
-    );
+    let came = rotations(&rt, alloc, TWO, &mut signer, &[100])?;
+    let due = [
+        counted(1, 1, 0, 1, 0),
+        counted(2, 1, 0, 0, 0),
+        counted(2, 0, 0, 0, 0),
+    ];
+    assert_eq!(rt; came, due);
     let asked = [b"e1".as_slice(), b"e2", b"e1"];
     assert_eq!(rt; signer.calls().len(), 3);
     for (call, entry) in signer.calls().iter().zip(asked) {
@@ -156,93 +222,122 @@ fn a_signer_fails_once(rt: HostRuntime) -> Result<(), Fail> {
 fn an_identity_that_is_over_is_refused(rt: HostRuntime) -> Result<(), Fail> {
     let alloc = rt.alloc();
     let mut signer = signer(alloc, &[(0, 50), (100, 200)], 9)?;
-    let desk = Mutex::new(open(&rt, alloc, TWO, 0)?);
-    let said = rotations(&rt, alloc, &desk, &mut signer, 2);
-    desk.into_inner().end(&rt);
-    assert_eq!(rt;
-        said?.as_str(),
-        "2 kept 1 refused 1 failed 0 false; 1 kept 2 refused 0 failed 0 false; "
-    );
+    let came = rotations(&rt, alloc, TWO, &mut signer, &[100])?;
+    let due = [
+        counted(1, 1, 1, 0, 0),
+        counted(2, 1, 0, 0, 0),
+        counted(2, 0, 0, 0, 0),
+    ];
+    assert_eq!(rt; came, due);
     Ok(())
 }
 
-/// A rotation with a signer that has no memory, and one with a signer that has.
-fn starved_and_fed<R: Wait>(
+#[test]
+fn a_ticket_comes_back_where_memory_runs_out(rt: HostRuntime) -> Result<(), Fail> {
+    let came = rotations(&rt, rt.alloc(), TWO, &mut Starved, &[100])?;
+    assert_eq!(rt; came, [counted(0, 0, 0, 0, 2); 3]);
+    Ok(())
+}
+
+/// An identity until 200 is shown at 199 and no more at 200, whatever the signer does.
+#[test]
+fn what_has_ended_is_gone_at_the_next_look(rt: HostRuntime) -> Result<(), Fail> {
+    let alloc = rt.alloc();
+    // the second ask, at 199, and each later one fails or is too old
+    let mut signer = signer(alloc, &[(100, 200)], 1)?;
+    // a look and an answer at 100; a look at 199; a look and an answer at 200
+    let came = rotations(&rt, alloc, DOC, &mut signer, &[100, 100, 199, 200])?;
+    let due = [
+        counted(1, 1, 0, 0, 0),
+        counted(1, 0, 0, 1, 0),
+        counted(2, 0, 1, 0, 0),
+    ];
+    assert_eq!(rt; came, due);
+    Ok(())
+}
+
+/// What is beside a desk.
+#[derive(Drop)]
+struct Beside {
+    upstream: MemoryUpstream,
+    signer: MemorySigner,
+    clock: MemoryClock,
+    keeper: MemoryClock,
+    bells: [MemoryBell; 2],
+}
+
+impl Beside {
+    /// An upstream of DOC and then TWO, a signer whose call of this number fails, and a keeper whose second look is a
+    /// second later.
+    fn start(alloc: Global, failing: u64) -> Result<Beside, Fail> {
+        Ok(Beside {
+            upstream: upstream(alloc, &[DOC, TWO], 9)?,
+            signer: signer(alloc, &[(100, 200)], failing)?,
+            clock: MemoryClock::start(numbers(alloc, &[100])?),
+            keeper: MemoryClock::start(numbers(alloc, &[100, 100, 101])?),
+            bells: [MemoryBell::start(), MemoryBell::start()],
+        })
+    }
+}
+
+/// The keeper and a signer, until the signer has waited so often; then the seat ends. Whether it came to that.
+fn keep_and_sign<R: Threads + Wait + Clock + Sync>(
     rt: &R,
     alloc: Global,
     desk: &Mutex<Desk<Free>>,
-) -> Result<String, Fail> {
-    let mut said = rotations(rt, alloc, desk, &mut Starved, 1)?;
-    let mut signer = signer(alloc, &[(100, 200)], 9)?;
-    said.push_str(rotations(rt, alloc, desk, &mut signer, 1)?.as_str())?;
-    Ok(said)
+    beside: &mut Beside,
+    asks: u64,
+) -> bool {
+    let gate = Closing::start(rt, desk, BEFORE_KEEPING, asks);
+    let queue = TicketQueue::start(alloc);
+    let (signer, clock, bells) = (&mut beside.signer, &mut beside.clock, &beside.bells);
+    let keeper = &mut beside.keeper;
+    join_mut(
+        rt,
+        &mut || sign_asks(rt, alloc, desk, &queue, signer, clock, &gate, bells),
+        &mut || keep_time(rt, alloc, desk, &queue, keeper, &gate, bells),
+    );
+    queue.end();
+    gate.came.load(Ordering::SeqCst) == 1
 }
 
 #[test]
-fn tickets_come_back_where_memory_runs_out(rt: HostRuntime) -> Result<(), Fail> {
+fn a_failed_ask_is_asked_again_after_a_pause(rt: HostRuntime) -> Result<(), Fail> {
     let alloc = rt.alloc();
-    let desk = Mutex::new(open(&rt, alloc, TWO, 0)?);
-    let said = starved_and_fed(&rt, alloc, &desk);
+    let mut beside = Beside::start(alloc, 0)?;
+    let desk = Mutex::new(open(&rt, alloc, TWO, 1)?);
+    // before e1, which fails; before e2; before e1 again; and once more
+    let came = keep_and_sign(&rt, alloc, &desk, &mut beside, 4);
     desk.into_inner().end(&rt);
-    assert_eq!(rt;
-        said?.as_str(),
-        "2 kept refused 0 failed 0 true; 2 kept 1 2 refused 0 failed 0 false; "
-    );
-    Ok(())
-}
-
-/// Upkeep until the one seat ends, which is in the round of this number, and how often the point was passed.
-fn maintained<R: Wait>(
-    rt: &R,
-    alloc: Global,
-    desk: &Mutex<Desk<Free>>,
-    upstream: &mut MemoryUpstream,
-    bells: &[MemoryBell],
-    last: u64,
-) -> Result<u64, Fail> {
-    let mut signer = signer(alloc, &[(100, 200)], 9)?;
-    let mut clock = MemoryClock::start(numbers(alloc, &[100])?);
-    let gate = Closing {
-        rt,
-        desk,
-        passes: AtomicU64::new(0),
-        last,
-    };
-    maintain(
-        rt,
-        alloc,
-        desk,
-        upstream,
-        &mut signer,
-        &mut clock,
-        &gate,
-        bells,
-    );
-    Ok(gate.passes.load(Ordering::SeqCst))
-}
-
-#[test]
-fn upkeep_rings_after_publications_until_no_seat_serves(rt: HostRuntime) -> Result<(), Fail> {
-    let alloc = rt.alloc();
-    let mut upstream = upstream(alloc, &[DOC, TWO], 9)?;
-    let bells = [MemoryBell::start(), MemoryBell::start()];
-    let desk = Mutex::new(open(&rt, alloc, DOC, 1)?);
-    let passes = maintained(&rt, alloc, &desk, &mut upstream, &bells, 3);
-    desk.into_inner().end(&rt);
-    assert_eq!(rt; passes?, 3);
-    assert_eq!(rt; upstream.number(), 3);
-    // e1 was signed, then e2 came, then e2 was signed.
-    assert_eq!(rt; (bells[0].rings(), bells[1].rings()), (3, 3));
+    assert!(rt; came);
+    assert_eq!(rt; beside.signer.calls().len(), 3);
+    for (call, entry) in beside
+        .signer
+        .calls()
+        .iter()
+        .zip([b"e1".as_slice(), b"e2", b"e1"])
+    {
+        assert_eq!(rt; entry_asked(call), entry);
+    }
+    // the keeper rings at its first look, and the signer after each identity
+    assert!(rt; beside.bells[0].rings() >= 3 && beside.bells[1].rings() >= 3);
     Ok(())
 }
 
 #[test]
-fn upkeep_makes_one_round_where_no_seat_serves(rt: HostRuntime) -> Result<(), Fail> {
+fn documents_are_pulled_until_no_seat_serves(rt: HostRuntime) -> Result<(), Fail> {
     let alloc = rt.alloc();
-    let mut upstream = upstream(alloc, &[DOC], 9)?;
-    let desk = Mutex::new(open(&rt, alloc, DOC, 0)?);
-    let passes = maintained(&rt, alloc, &desk, &mut upstream, &[], 9);
-    desk.into_inner().end(&rt);
-    assert_eq!(rt; (passes?, upstream.number()), (1, 1));
+    for (seats, pulls) in [(0, 1), (1, 3)] {
+        let mut beside = Beside::start(alloc, 9)?;
+        let desk = Mutex::new(open(&rt, alloc, DOC, seats)?);
+        let gate = Closing::start(&rt, &desk, BEFORE_UPKEEP, 3);
+        let queue = TicketQueue::start(alloc);
+        let (upstream, clock, bells) = (&mut beside.upstream, &mut beside.clock, &beside.bells);
+        pull_documents(&rt, alloc, &desk, &queue, upstream, clock, &gate, bells);
+        drop(gate);
+        queue.end();
+        desk.into_inner().end(&rt);
+        assert_eq!(rt; beside.upstream.number(), pulls);
+    }
     Ok(())
 }

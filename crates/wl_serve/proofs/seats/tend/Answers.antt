@@ -1,3 +1,4 @@
+use Rattle.wl_served.proofs.Sending.{seat_tells}
 use Rattle.wl_serve.proofs.seats.tend.Goals as goal
 
 pub returns : goal.returns
@@ -8,5 +9,7 @@ returns g c = record {
   listen = c.serve_seat-end.ensures.listen_fault;
   wait = c.serve_seat-end.ensures.wait_fault;
   finishes = c.serve_seat-end.ensures.finishes;
-  tends = c.serve_seat-end.ensures.tends;
+  sent = λ l p q before after.
+      let laws = c.served_responses_are_answers.ensures in
+      seat_tells (record { steps = laws.steps; answers = laws.answers; turns = laws.turns; read = laws.read; selectors = laws.selectors; numbers = laws.numbers }) _ _ _ _ _ _ (c.serve_seat-end.ensures.tends l p q before after);
 }

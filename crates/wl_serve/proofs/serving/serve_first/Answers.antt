@@ -7,8 +7,8 @@ use Rattle.wl_serve.proofs.serving.serve_first.Goals as goal
 pub returns-in-Ok-serve_manager : goal.returns-in-Ok-serve_manager
 returns-in-Ok-serve_manager g c =
     sat_tells _ _ _ _ _ _ _ _
-    (sat_from _ _ (g.U.Upstream.told c.args.upstream.now) (g.U.Upstream.told c.pull.new.self) (g.U.Upstream.told c.serve_manager.new.upstream)
-    (g.U.Upstream.faults c.args.upstream.now) (g.U.Upstream.faults c.pull.new.self)
+    (sat_from _ _ (g.U.Upstream.told c.args.upkeep.now.upstream) (g.U.Upstream.told c.pull.new.self) (g.U.Upstream.told c.serve_manager.new.upkeep.upstream)
+    (g.U.Upstream.faults c.args.upkeep.now.upstream) (g.U.Upstream.faults c.pull.new.self)
     c.empty-document.result c.pull.new.into c.as_slice.result.now c.empty-document.ensures c.as_slice.ensures c.in-Ok.ensures.gives
     c.in-Ok-start_strict.manager c.in-Ok-start_strict.ensures.ok c.in-Ok-serve_manager.ensures.pulled _ _ c.in-Ok-serve_manager.ensures.served)
     c.end_of_all.result (c.end_of_all.ensures ∙ ap end_of (ends_shown c.serve_manager.new.seats (λ s. record { socket = s.socket; room = s.room; listener = g.L.Listener.told s.listener; listener_faults = g.L.Listener.faults s.listener; ready_faults = g.P.Ready.faults s.ready; attestor = g.A.Attestor.calls s.attestor; attestor_faults = g.A.Attestor.faults s.attestor; signer = g.S.Signer.calls s.signer; signer_faults = g.S.Signer.faults s.signer; clock = g.C.Clock.answers s.clock; pass = s.pass; end = s.end })))

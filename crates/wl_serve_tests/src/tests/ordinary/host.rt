@@ -119,10 +119,10 @@ fn identities(alloc: Global) -> Result<Script<Signed>, Memory> {
     Ok(Script::start(answers, Row::empty(alloc)))
 }
 
-/// The beginning of the first identities for the claim and each of them, then that of the next ones.
-fn times(alloc: Global) -> Result<Row<u64>, Memory> {
+/// The beginning of the first identities for each of them, then that of the next ones.
+fn signer_times(alloc: Global) -> Result<Row<u64>, Memory> {
     let mut times = Vec::new(alloc);
-    for _ in 0..=ENTRIES {
+    for _ in 0..ENTRIES {
         times.push(FIRST.from)?;
     }
     times.push(NEXT.from)?;
@@ -168,7 +168,10 @@ pub fn serve_node<'a, R: Threads + Wait + Sync + Clock>(
     let mut host = MemoryHost::start(Some(HostPlan {
         documents: documents(alloc)?,
         identities: identities(alloc)?,
-        times: times(alloc)?,
+        puller_times: numbers(alloc, &[FIRST.from])?,
+        // two answers for each look
+        keeper_times: numbers(alloc, &[FIRST.from, FIRST.from, NEXT.from])?,
+        signer_times: signer_times(alloc)?,
         gate: Rows::start(rt),
         seats: seats(alloc)?,
     }));

@@ -1,12 +1,11 @@
 use Rattle.std.specs.Prelude.{◌≤◌}
 use Rattle.wl_worker.specs.Upkeep.{PulledLater}
-use Rattle.wl_worker.proofs.upkeep.maintain.Given as goal
+use Rattle.wl_worker.proofs.upkeep.pull_documents.Given as goal
 
 abbrev pub invariant-loop : goal.invariant-loop
 invariant-loop g l =
     record {
       can : (goal.iterator-loop g).can_next l.iterator' × (goal.iterator-loop g).is_finite l.iterator';
       pulled : PulledLater (g.U.Upstream.told l.fn.upstream) (g.U.Upstream.told l.upstream);
-      pull_faults : g.U.Upstream.faults l.fn.upstream ≤ g.U.Upstream.faults l.upstream;
-      sign_faults : g.S.Signer.faults l.fn.signer ≤ g.S.Signer.faults l.signer;
+      faults : g.U.Upstream.faults l.fn.upstream ≤ g.U.Upstream.faults l.upstream;
     }

@@ -1,6 +1,6 @@
 use Rattle.wl_store.specs.Stores.{has_ticket}
 use Rattle.wl_worker.proofs.Showing.{kept_note}
-use Rattle.wl_worker.proofs.identities.install.Goals as goal
+use Rattle.wl_worker.proofs.signing.install.Goals as goal
 
 pub returns-in-Kept-default : goal.returns-in-Kept-default
 returns-in-Kept-default g c =

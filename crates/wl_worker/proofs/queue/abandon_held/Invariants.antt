@@ -1,0 +1,5 @@
+use Rattle.std.proofs.Common.{length}
+use Rattle.wl_worker.proofs.queue.abandon_held.Given as goal
+
+abbrev pub decreases-left : goal.decreases-left
+decreases-left l = length l.left.items

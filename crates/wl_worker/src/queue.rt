@@ -1,0 +1,252 @@
+//! The tickets that wait for a signer.
+
+use std::alloc::{AllocFailed, Global};
+use std::collections::VecDeque;
+use std::sync::{Condvar, Mutex, Wait};
+use wl_octets::Octets;
+use wl_store::Ticket;
+
+/// How many seconds an ask waits after its first failure.
+const FIRST_PAUSE: u64 = 1;
+
+/// How many seconds an ask waits after a failure at most.
+const LONGEST_PAUSE: u64 = 60;
+
+/// A ticket, and how many seconds it is to wait after its next failure.
+pub struct QueuedTicket {
+    pub(crate) ticket: Ticket,
+    pub(crate) pause: u64,
+}
+
+/// A ticket that waits until this second.
+struct Held {
+    until: u64,
+    queued: QueuedTicket,
+}
+
+/// How soon an entry may be asked for again, since an answer for it was not kept.
+#[derive(Drop)]
+struct Pace {
+    entry_id: Octets,
+    until: u64,
+    /// The seconds that it waits after the next such answer.
+    pause: u64,
+}
+
+/// The tickets that wait, as they stand under the lock.
+struct Tickets {
+    /// Those that may be asked for now, the oldest first.
+    due: VecDeque<QueuedTicket>,
+    /// Those whose ask failed, or whose entry is slowed down.
+    held: Vec<Held>,
+    paces: Vec<Pace>,
+    /// The time, as the keeper last read it.
+    now: u64,
+    over: bool,
+}
+
+impl Tickets {
+    /// The second from which on this entry may be asked for.
+    fn earliest(&self, entry_id: &Octets) -> u64 {
+        match self.paces.iter().find(|pace| pace.entry_id == *entry_id) {
+            Some(pace) => pace.until,
+            None => 0,
+        }
+    }
+
+    /// Puts a ticket at the end, or where its entry is slowed down among those that are held. It comes back where memory
+    /// ran out.
+    fn put(&mut self, ticket: Ticket) -> Option<Ticket> {
+        let until = self.earliest(&ticket.ask.entry_id);
+        let queued = QueuedTicket {
+            ticket,
+            pause: FIRST_PAUSE,
+        };
+        if until > self.now {
+            return self.hold(Held { until, queued });
+        }
+        match self.due.push_back(queued) {
+            Ok(()) => None,
+            Err(AllocFailed { value }) => Some(ticket_of(value)),
+        }
+    }
+
+    /// Holds a ticket. It comes back where memory ran out.
+    fn hold(&mut self, held: Held) -> Option<Ticket> {
+        match self.held.push(held) {
+            Ok(()) => None,
+            Err(AllocFailed { value }) => {
+                let Held { until: _, queued } = value;
+                Some(ticket_of(queued))
+            }
+        }
+    }
+
+    /// The pace of this entry leaves.
+    fn take_pace(&mut self, entry_id: &Octets) -> Option<Pace> {
+        let at = self
+            .paces
+            .iter()
+            .position(|pace| pace.entry_id == *entry_id)?;
+        Some(self.paces.swap_remove(at))
+    }
+
+    /// Whether there is one that may be asked for.
+    fn is_ready(&self) -> bool {
+        !self.due.is_empty() || self.held.iter().any(|held| held.until <= self.now)
+    }
+
+    /// One that may be asked for: the oldest, or else one whose pause is over.
+    fn take(&mut self) -> Option<QueuedTicket> {
+        match self.due.pop_front() {
+            Some(queued) => Some(queued),
+            None => self.take_held(),
+        }
+    }
+
+    /// One whose pause is over.
+    fn take_held(&mut self) -> Option<QueuedTicket> {
+        let at = self.held.iter().position(|held| held.until <= self.now)?;
+        let Held { until: _, queued } = self.held.swap_remove(at);
+        Some(queued)
+    }
+}
+
+/// Tickets on their way from the keeper to the signers. `next` waits for one; the other calls wait for the lock alone.
+pub struct TicketQueue {
+    tickets: Mutex<Tickets>,
+    moved: Condvar,
+}
+
+impl TicketQueue {
+    /// A queue of no tickets.
+    pub fn start(alloc: Global) -> TicketQueue {
+        TicketQueue {
+            tickets: Mutex::new(Tickets {
+                due: VecDeque::new(alloc),
+                held: Vec::new(alloc),
+                paces: Vec::new(alloc),
+                now: 0,
+                over: false,
+            }),
+            moved: Condvar::new(),
+        }
+    }
+
+    /// Puts a ticket at the end. It comes back where memory ran out.
+    pub fn put<R: Wait>(&self, rt: &R, ticket: Ticket) -> Option<Ticket> {
+        let back = self.tickets.lock(rt).put(ticket);
+        self.moved.notify_one();
+        back
+    }
+
+    /// Puts back a ticket whose ask failed at this second: it waits for its pause, and twice as long the next time. It comes
+    /// back where memory ran out.
+    pub fn put_back<R: Wait>(
+        &self,
+        rt: &R,
+        ticket: Ticket,
+        pause: u64,
+        now: u64,
+    ) -> Option<Ticket> {
+        let held = Held {
+            until: now.saturating_add(pause),
+            queued: QueuedTicket {
+                ticket,
+                pause: pause.saturating_mul(2).min(LONGEST_PAUSE),
+            },
+        };
+        self.tickets.lock(rt).hold(held)
+    }
+
+    /// Says that an answer for this entry was not kept at this second: its next ticket waits for a second, and twice as long
+    /// after each further one.
+    pub fn slow_down<R: Wait>(&self, rt: &R, entry_id: Octets, now: u64) {
+        let mut tickets = self.tickets.lock(rt);
+        let pause = match tickets.take_pace(&entry_id) {
+            Some(pace) => pace.pause,
+            None => FIRST_PAUSE,
+        };
+        // out of memory it is not slowed down
+        let _ = tickets.paces.push(Pace {
+            entry_id,
+            until: now.saturating_add(pause),
+            pause: pause.saturating_mul(2).min(LONGEST_PAUSE),
+        });
+    }
+
+    /// Says that an answer for this entry was kept.
+    pub fn speed_up<R: Wait>(&self, rt: &R, entry_id: &Octets) {
+        let _ = self.tickets.lock(rt).take_pace(entry_id);
+    }
+
+    /// Says what time it is to those who wait, so that pauses end.
+    pub fn tell_time<R: Wait>(&self, rt: &R, now: u64) {
+        let mut tickets = self.tickets.lock(rt);
+        tickets.now = now;
+        // an entry that was slowed down long ago may be gone
+        tickets
+            .paces
+            .retain(|pace| pace.until.saturating_add(LONGEST_PAUSE) > now);
+        drop(tickets);
+        self.moved.notify_all();
+    }
+
+    /// Says to all who wait that there will be no more.
+    pub fn close<R: Wait>(&self, rt: &R) {
+        self.tickets.lock(rt).over = true;
+        self.moved.notify_all();
+    }
+
+    /// Whether there will be no more.
+    pub fn is_closed<R: Wait>(&self, rt: &R) -> bool {
+        self.tickets.lock(rt).over
+    }
+
+    /// Waits for a ticket. After `close` there is none.
+    pub fn next<R: Wait>(&self, rt: &R) -> Option<QueuedTicket> {
+        let mut tickets = self.moved.wait_while(rt, self.tickets.lock(rt), |tickets| {
+            !tickets.over && !tickets.is_ready()
+        });
+        if tickets.over {
+            return None;
+        }
+        tickets.take()
+    }
+
+    /// Gives up the tickets that are left; what is in flight stays as it is.
+    pub fn end(self) {
+        let TicketQueue { tickets, moved: _ } = self;
+        let Tickets {
+            due,
+            held,
+            paces: _,
+            now: _,
+            over: _,
+        } = tickets.into_inner();
+        abandon_due(due);
+        abandon_held(held);
+    }
+}
+
+/// The ticket alone.
+fn ticket_of(queued: QueuedTicket) -> Ticket {
+    let QueuedTicket { ticket, pause: _ } = queued;
+    ticket
+}
+
+fn abandon_due(due: VecDeque<QueuedTicket>) {
+    let mut left = due;
+    'left: while let Some(queued) = left.pop_front() {
+        ticket_of(queued).abandon();
+    }
+    left.destroy_empty();
+}
+
+fn abandon_held(held: Vec<Held>) {
+    let mut left = held;
+    'left: while let Some(Held { until: _, queued }) = left.pop() {
+        ticket_of(queued).abandon();
+    }
+    left.destroy_empty();
+}
