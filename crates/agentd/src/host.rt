@@ -1,6 +1,6 @@
 //! The real host: what a configuration names, over the operating system.
 
-ghost use Rattle.std.specs.Prelude.{◌≡◌, ◌≤◌, IfOk};
+ghost use Rattle.std.specs.Prelude.{◌≡◌, ◌<◌, ◌≤◌, IfOk, length};
 ghost use Rattle.wl_edge.specs.Edge.{Rose};
 
 use std::alloc::Global;
@@ -16,9 +16,9 @@ use wl_edge_real::{
     BindFault, RealBell, RealClock, RealGate, RealListener, RealReady, RealUpstream, bind,
 };
 use wl_octets::{Memory, Octets};
-use wl_serve::{Binder, Parts, SeatMaker, make_seats};
+use wl_serve::{Binder, Parts, SeatMaker, Upkeep, make_seats};
 use wl_signlink::SignLink;
-use wl_worker::Seat;
+use wl_worker::{Seat, Signing};
 
 /// The operating system as a host. It keeps its own copy of the runtime.
 #[derive(Drop)]
@@ -105,29 +105,51 @@ impl<'a, R: Net + Files + Clock + Clone + Drop> SeatMaker for Seats<'a, R> {
     }
 }
 
-/// What upkeep needs.
-#[derive(Drop)]
-struct Upkeep<R> {
-    upstream: RealUpstream<R>,
-    signer: SignLink<R>,
-    clock: RealClock<R>,
-    gate: RealGate<R>,
+/// How many asks are under way at once.
+const SIGNERS: u32 = 4;
+
+/// A signer of a configuration, with its clock.
+type RealSigning<R> = Signing<SignLink<R>, RealClock<R>>;
+
+/// The signer of a configuration, over so many streams.
+fn make_signers<R: Net + Clock + Clone + Drop>(
+    rt: &R,
+    alloc: Global,
+    config: &Config,
+) -> Result<Vec<RealSigning<R>>, EdgeFault>
+    ensures { IfOk result (λ s. 0 < length s.items) }
+{
+    let mut signers = Vec::new(alloc);
+    for _ in 0..SIGNERS {
+        let signing = Signing {
+            signer: SignLink::start(rt, alloc, config.signer.as_slice())?,
+            clock: RealClock::start(copy_of(rt)?),
+        };
+        if signers.push(signing).is_err() {
+            return Err(EdgeFault::Memory);
+        }
+    }
+    if signers.is_empty() {
+        return Err(EdgeFault::Memory);
+    }
+    Ok(signers)
 }
 
-/// The upstream and the signer of a configuration, and what paces their use.
+/// The upstream and the signers of a configuration, with their clocks.
 fn make_upkeep<R: Net + Clock + Clone + Drop>(
     rt: &R,
     alloc: Global,
     config: &Config,
-) -> Result<Upkeep<R>, EdgeFault>
-    ensures { IfOk result (λ u. ⟦<RealUpstream<R> as Upstream>⟧.faults u.upstream ≡ 0) }
+) -> Result<Upkeep<RealUpstream<R>, SignLink<R>, RealClock<R>>, EdgeFault>
+    ensures faults { IfOk result (λ u. ⟦<RealUpstream<R> as Upstream>⟧.faults u.upstream ≡ 0) }
+    ensures signers { IfOk result (λ u. 0 < length u.signers.items) }
 {
     let upstream = text_of(alloc, &config.upstream)?;
     Ok(Upkeep {
         upstream: RealUpstream::start(copy_of(rt)?, alloc, upstream),
-        signer: SignLink::start(rt, alloc, config.signer.as_slice())?,
-        clock: RealClock::start(copy_of(rt)?),
-        gate: RealGate::start(copy_of(rt)?, config.poll_seconds),
+        puller: RealClock::start(copy_of(rt)?),
+        keeper: RealClock::start(copy_of(rt)?),
+        signers: make_signers(rt, alloc, config)?,
     })
 }
 
@@ -189,16 +211,12 @@ impl<R: Net + Files + Clock + Clone + Drop + Send + Sync> Binder for RealHost<R>
             Ok(both) => both,
             Err(fault) => return Err(self.count(fault)),
         };
-        let Upkeep {
-            upstream,
-            signer,
-            clock,
-            gate,
-        } = upkeep;
+        let gate = match copy_of(&self.rt) {
+            Ok(rt) => RealGate::start(rt, config.poll_seconds),
+            Err(Memory) => return Err(EdgeFault::Memory),
+        };
         Ok(Parts {
-            upstream,
-            signer,
-            clock,
+            upkeep,
             gate,
             seats,
             bells,

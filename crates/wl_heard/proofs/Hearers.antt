@@ -543,6 +543,7 @@ said_of E (faults.Cut size) said content = absurd said
 said_of E faults.TooMuch said content = absurd said
 said_of E faults.Idle said content = absurd said
 said_of E faults.Memory said content = absurd said
+said_of E faults.TooMany said content = absurd said
 
 fails_as : (E : Type 0) (P : Listener → Type 0) (r : Result Listener ClientFault) → Lands E P r → FailsByContent (state_after r (reader.Rest [])) → FailsAsSaid (state_after r (reader.Rest []))
 fails_as E P (Ok l) said content = tt

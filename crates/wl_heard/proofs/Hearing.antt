@@ -1,9 +1,10 @@
 -- A client hears the messages in DATA of its stream.
-use Rattle.std.proofs.Common.{◌≡◌, inl, inr, ℕ, ◌==◌, ◌&&◌, Bool, true, false, cond, List, [], ◌∷◌, ◌++◌, map, Option, Some, None, Result, Ok, Err, is_none, refl, sym, ap, subst, ◌∙◌, append-nil, append_assoc, eqb-true, eq-eqb}
+use Rattle.std.proofs.Common.{◌≡◌, inl, inr, ℕ, ◌+◌, ◌==◌, ◌&&◌, nat_lt, length, Bool, true, false, cond, List, [], ◌∷◌, ◌++◌, map, Option, Some, None, Result, Ok, Err, is_none, refl, sym, ap, subst, ◌∙◌, append-nil, append_assoc, eqb-true, eq-eqb}
 use Rattle.std.proofs.lemmas.Bool.{cases_Bool}
 use Rattle.list_laws.specs.Lists.{BeginsWith}
 use Rattle.wl_octets.specs.declared.header.Header.{Header}
 use Rattle.hpack.specs.declared.fault.HpackFault.{HpackFault}
+use Rattle.hpack.specs.declared.fault.HpackFault.TheVariants as header_faults
 use Rattle.hpack.specs.Decoding.{decode_block}
 use Rattle.h2_wire.specs.declared.error_code.TheConstants.{NO_ERROR}
 use Rattle.h2_frame.specs.declared.frame.Body.{Body}
@@ -88,6 +89,7 @@ content_blames came faults.Idle h = tt
 content_blames came (faults.Reset code) h = tt
 content_blames came (faults.GoAway code) h = tt
 content_blames came faults.Memory h = tt
+content_blames came faults.TooMany h = tt
 
 -- it stays with more behind it
 blames_more : (came more : List ℕ) (fault : ClientFault) → Blames came fault → Blames (came ++ more) fault
@@ -105,6 +107,7 @@ blames_more came more faults.Idle h = tt
 blames_more came more (faults.Reset code) h = tt
 blames_more came more (faults.GoAway code) h = tt
 blames_more came more faults.Memory h = tt
+blames_more came more faults.TooMany h = tt
 
 -- no fault is in messages that can go on
 blames_content : (came : List ℕ) (fault : ClientFault) → IsOpen (messages_of MAX_RESPONSE_LEN came).ending → Blames came fault → IsOfContent fault
@@ -121,6 +124,7 @@ blames_content came faults.Idle unbroken h = tt
 blames_content came (faults.Reset code) unbroken h = tt
 blames_content came (faults.GoAway code) unbroken h = tt
 blames_content came faults.Memory unbroken h = tt
+blames_content came faults.TooMany unbroken h = tt
 
 abbrev pub IfKnows : List ℕ → List Heard → Result Listener ClientFault → Type 0
 IfKnows came told (Ok l) = Knows came told l
@@ -190,7 +194,9 @@ w_block block whole l =
     w_if l whole _ (silent (record l { block = Some block })) (record { told = d.told; kept = d.kept; content = d.content }) (w_silent l (record l { block = Some block }) refl)
 
 w_continued : (block : Option OpenBlock) (more : List ℕ) (whole : Bool) (l : Listener) → Wordless l (continued block more whole l)
-w_continued (Some block) more whole l = w_block (longer block more) whole l
+w_continued (Some block) more whole l =
+    w_if l _ (fails (faults.Header header_faults.ListTooLong)) (block_heard (longer block more) whole l)
+    (w_fails l (faults.Header header_faults.ListTooLong) tt) (w_block (longer block more) whole l)
 w_continued None more whole l = w_fails l (faults.Order call_stream) tt
 
 -- ---- a frame

@@ -109,6 +109,7 @@ kept_weaker E D go (faults.Cut size) h = absurd h
 kept_weaker E D go faults.TooMuch h = absurd h
 kept_weaker E D go faults.Idle h = absurd h
 kept_weaker E D go faults.Memory h = absurd h
+kept_weaker E D go faults.TooMany h = absurd h
 
 pub lands_kept : (E D : Type 0) (P : Listener → Type 0) → (E → D) → (r : Result Listener ClientFault) → Lands E P r → Lands D P r
 lands_kept E D P go (Ok l) h = h

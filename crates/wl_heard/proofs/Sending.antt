@@ -3,6 +3,7 @@ use Rattle.std.proofs.Common.{◌≡◌, ℕ, ◌<◌, ◌≤◌, ◌^◌, ◌==
 use Rattle.std.specs.List.{AllByRecursion}
 use Rattle.list_laws.specs.Lists.{BeginsWith}
 use Rattle.wl_octets.specs.declared.header.Header.{Header}
+use Rattle.hpack.specs.declared.fault.HpackFault.TheVariants as header_faults
 use Rattle.hpack.specs.declared.fault.HpackFault.{HpackFault}
 use Rattle.hpack.specs.Decoding.{decode_block}
 use Rattle.hpack.proofs.Lengths.{block_small}
@@ -15,6 +16,7 @@ use Rattle.h2_conn.specs.Kinds.{Fits, FitsBody}
 use Rattle.h2_conn.proofs.Fitting.{frames_fit}
 use Rattle.grpc_wire.specs.declared.method.Method.{Method}
 use Rattle.grpc_wire.specs.Messages.{End, Rest, Fault, framed, reading_from as messages_from}
+use Rattle.wl_client.specs.declared.fault.ClientFault.TheVariants as faults
 use Rattle.wl_client.specs.declared.fault.ClientFault.{ClientFault}
 use Rattle.wl_client.specs.declared.reply.Heard.{Heard}
 use Rattle.wl_client.specs.declared.reply.Heard.TheVariants.{Message}
@@ -24,7 +26,7 @@ use Rattle.wl_client.specs.declared.listener.OpenBlock.{OpenBlock}
 use Rattle.wl_client.specs.declared.listener.Listener.{Listener}
 use Rattle.wl_client.specs.Openings.{call_stream, call_fields, settings_frame, head_frame, message_frame, opening_of}
 use Rattle.wl_client.specs.Statuses.{http_fault, grpc_code}
-use Rattle.wl_client.specs.Hearing.{Hearing, silent, status_heard, first_heard, last_heard, list_heard, decoded_heard, block_heard, longer, continued, credit, credits_of, credits, cut_heard, data_heard, is_in_place, control_heard, body_heard, frame_heard, after_hearing, frames_heard, fresh_listener}
+use Rattle.wl_client.specs.Hearing.{fails, Hearing, silent, status_heard, first_heard, last_heard, list_heard, decoded_heard, block_heard, longer, continued, credit, credits_of, credits, cut_heard, data_heard, is_in_place, control_heard, body_heard, frame_heard, after_hearing, frames_heard, fresh_listener}
 use Rattle.wl_client.specs.Clients.{heard_in, heard_from, heard}
 use Rattle.wl_client.proofs.Heads.{head_fits}
 use Rattle.wl_heard.specs.Calls.{IsOfOneCall, client_bytes, bytes_fed, ClientsAreAnswered}
@@ -90,7 +92,7 @@ unfolding block_heard
 s_block block whole l = answer_if whole _ (silent (record l { block = Some block })) (s_decoded block.ended (decode_block l.decoder block.bytes).0 _) holds_none
 
 s_continued : (block : Option OpenBlock) (more : List ℕ) (whole : Bool) (l : Listener) → Sends (continued block more whole l).bytes
-s_continued (Some block) more whole l = s_block (longer block more) whole l
+s_continued (Some block) more whole l = answer_if _ (fails (faults.Header header_faults.ListTooLong)) (block_heard (longer block more) whole l) holds_none (s_block (longer block more) whole l)
 s_continued None more whole l = holds_none
 
 s_cut : (told : List Heard) (ending : End) (size : ℕ) (l : Listener) → size ≤ 16384 → Sends (cut_heard told ending size l).bytes

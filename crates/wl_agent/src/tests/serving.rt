@@ -153,7 +153,9 @@ fn binder(alloc: Global, case: &Case) -> Result<MemoryHost<OpenGate>, Memory> {
     Ok(MemoryHost::start(Some(HostPlan {
         documents: documents(alloc, case)?,
         identities: Script::start(Row::empty(alloc), Row::empty(alloc)),
-        times: Row::empty(alloc),
+        puller_times: Row::empty(alloc),
+        keeper_times: Row::empty(alloc),
+        signer_times: Row::empty(alloc),
         gate: OpenGate,
         seats,
     })))

@@ -1,0 +1,4 @@
+pub mod Served
+pub mod Agreeing
+pub mod Owning
+pub mod Sent

@@ -1,0 +1,35 @@
+//! What holds of each stream of a served connection.
+
+ghost use Rattle.wl_served.specs.Served.{RoundsTakeSteps, ServedAreAnswers, ServedTurnsWereTaken, ServedTurnsWereRead, ServedSelectors, ServedNumbers};
+ghost use Rattle.wl_served.specs.Agreeing.{ServedAreIsolated};
+ghost use Rattle.wl_served.specs.Owning.{RunsThatAgree};
+
+use wl_responses::{sessions_have_moves, streams_have_answers};
+use wl_session::turns_agree;
+
+/// Of each stream of a served connection, over all its rounds.
+pub fn served_responses_are_answers()
+    ensures steps { RoundsTakeSteps }
+    ensures answers { ServedAreAnswers }
+    ensures turns { ServedTurnsWereTaken }
+    ensures read { ServedTurnsWereRead }
+    ensures selectors { ServedSelectors }
+    ensures numbers { ServedNumbers }
+{
+    streams_have_answers();
+}
+
+/// Two served connections that agree on what is theirs write the same bytes.
+pub fn served_connections_are_isolated()
+    ensures { ServedAreIsolated }
+{
+    turns_agree();
+}
+
+/// Two sessions of the core, of whatever two runs, that agree on what is theirs were written the same bytes.
+pub fn runs_that_agree_write_the_same()
+    ensures { RunsThatAgree }
+{
+    sessions_have_moves();
+    turns_agree();
+}
