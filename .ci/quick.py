@@ -5,10 +5,16 @@ import re
 import subprocess
 import sys
 
+import reach
+
 TOP = pathlib.Path(__file__).resolve().parent.parent
 HANDLES = "Handles allowed: Threads, Wait, Net."
-README_LIMIT = 8000
-FILE_LINES = 800
+README_LIMIT = 10000
+FILE_LINES = 600
+FUNCTION_LINES = 40
+# functions that are one table or one match, and one that starts all threads
+LONG_FUNCTIONS = {"h2_frame body", "hpack static_name", "wl_core step", "wl_serve serve_all"}
+PROGRAMS = ["agentd", "wlctl", "wlexplain"]
 faults = []
 
 
@@ -21,19 +27,16 @@ def tracked():
     return [TOP / name for name in out.splitlines() if (TOP / name).is_file()]
 
 
-def crates():
-    names = []
-    for line in (TOP / "crates.txt").read_text().splitlines():
-        line = line.split("#")[0].strip()
-        if line:
-            names.append(line.split(":")[0].split()[0])
-    return names
+def uses():
+    """The names that each crate uses, by crates.txt."""
+    lines = [line.split("#")[0].partition(":") for line in (TOP / "crates.txt").read_text().splitlines()]
+    return {head.split()[0]: names.split() for head, _, names in lines if head.strip()}
 
 
 def check_layout(files):
     if (TOP / "HANDLES").read_text().strip() != HANDLES:
         fault("HANDLES: not the one line that it has to be")
-    listed = crates()
+    listed = list(uses())
     for name in listed:
         if not (TOP / "crates" / name / "src").is_dir():
             fault(f"crates.txt: there is no crates/{name}/src")
@@ -53,6 +56,43 @@ def check_layout(files):
             fault(f"{name}: more than {FILE_LINES} lines")
         if re.search(r"\bhole\b|\bTODO\b|\bFIXME\b", text):
             fault(f"{name}: something is left open")
+
+
+def below(name, used):
+    """The repository's crates below this one, and itself."""
+    found = {name}
+    for it in used[name]:
+        if it in used:
+            found |= below(it, used)
+    return found
+
+
+def check_costs():
+    """`./run` reckons with costs.txt: each crate below the programs that it builds has a line, and no other name has one."""
+    lines = [line.split("#")[0].split() for line in (TOP / "costs.txt").read_text().splitlines()]
+    known, used = {line[0]: line[1:] for line in lines if line}, uses()
+    for name in sorted(below("agentd", used) | below("wlctl", used)):
+        if name not in known:
+            fault(f"costs.txt: no line for {name}: seconds of one processor, and MB")
+    for name, cost in known.items():
+        if name not in used:
+            fault(f"costs.txt: crates.txt does not list {name}")
+        if len(cost) != 2 or not all(it.isdigit() for it in cost):
+            fault(f"costs.txt: {name} has no seconds and MB")
+
+
+def check_functions(files):
+    """Functions of code, outside of tests, have at most so many lines in their body."""
+    for path in files:
+        parts = path.relative_to(TOP).parts
+        if path.suffix != ".rt" or "tests" in parts or path.stem.endswith("tests") or parts[1].endswith("_tests"):
+            continue
+        text = reach.blanked(path.read_text())
+        for found in re.finditer(r"\bfn (\w+)", text):
+            _, body = reach.parts(text, found.end())
+            lines = (body or "").count("\n") - 1
+            if lines > FUNCTION_LINES and f"{parts[1]} {found[1]}" not in LONG_FUNCTIONS:
+                fault(f"{path.relative_to(TOP)}: {found[1]} has {lines} lines, above {FUNCTION_LINES}")
 
 
 def check_edits(files):
@@ -92,43 +132,89 @@ def contract(text, name):
         yield text[found.end():found.end() + end.start()] if end else text[found.end():]
 
 
-def check_promises():
-    """Each row: promise | `crate::Type::call` | `clause`, .. | [file](link). A type's own facts are its `invariant`."""
-    page = TOP / "docs" / "PROMISES.md"
-    rows = 0
+def rows(page):
+    """Each row: promise | `crate::Type::call` | `clause`, .. | [file](link), as its calls, its clauses and its file."""
     for line in page.read_text().splitlines():
         cells = [cell.strip() for cell in line.strip().strip("|").split("|")]
-        if len(cells) != 4 or not cells[1].startswith("`"):
-            continue
-        rows += 1
-        path = (page.parent / re.search(r"\(([^)]+)\)", cells[3]).group(1)).resolve()
+        if len(cells) == 4 and cells[1].startswith("`"):
+            path = (page.parent / re.search(r"\(([^)]+)\)", cells[3]).group(1)).resolve()
+            yield re.findall(r"`([^`]+)`", cells[1]), re.findall(r"`([^`]+)`", cells[2]), path
+
+
+def check_clauses(call, clauses, path, text):
+    """Each clause stands in the contract of the call; a type's own facts are its `invariant`."""
+    if clauses == ["invariant"]:
+        if "ghost invariant" not in text:
+            fault(f"docs/PROMISES.md: {call} has no invariant in {path.relative_to(TOP)}")
+        return
+    found = list(contract(text, call.split("::")[-1]))
+    if not found:
+        fault(f"docs/PROMISES.md: no {call} in {path.relative_to(TOP)}")
+    for clause in clauses:
+        wanted = r"ensures\*?\s*\{" if clause == "ensures" else rf"ensures\*? {re.escape(clause)}\b"
+        if found and not any(re.search(wanted, one) for one in found):
+            fault(f"docs/PROMISES.md: {call} has no clause {clause}")
+
+
+def is_reached(call, is_type, found):
+    """Whether a program reaches this call, or it is a law."""
+    crate, *owner, name = call.split("::")
+    if is_type:
+        return name in found.types
+    place = crate, owner[0] if owner else "", name
+    return place in found.functions or place in found.laws
+
+
+def check_promises():
+    page = TOP / "docs" / "PROMISES.md"
+    all_rows = list(rows(page))
+    found = reach.reached(TOP, uses(), PROGRAMS)
+    for calls, clauses, path in all_rows:
         if not path.is_file():
-            fault(f"docs/PROMISES.md: there is no {cells[3]}")
+            fault(f"docs/PROMISES.md: there is no {path}")
             continue
         text = path.read_text()
-        for call in re.findall(r"`([^`]+)`", cells[1]):
-            clauses = re.findall(r"`([^`]+)`", cells[2])
-            if clauses == ["invariant"]:
-                if "ghost invariant" not in text:
-                    fault(f"docs/PROMISES.md: {call} has no invariant in {path.relative_to(TOP)}")
-                continue
-            found = list(contract(text, call.split("::")[-1]))
-            if not found:
-                fault(f"docs/PROMISES.md: no {call} in {path.relative_to(TOP)}")
-            for clause in clauses:
-                wanted = r"ensures\*?\s*\{" if clause == "ensures" else rf"ensures\*? {re.escape(clause)}\b"
-                if found and not any(re.search(wanted, one) for one in found):
-                    fault(f"docs/PROMISES.md: {call} has no clause {clause}")
-    if rows == 0:
+        for call in calls:
+            check_clauses(call, clauses, path, text)
+            if not is_reached(call, clauses == ["invariant"], found):
+                fault(f"docs/PROMISES.md: no program reaches {call}")
+    if not all_rows:
         fault("docs/PROMISES.md: no rows")
+
+
+def check_trust():
+    """README.md lists, in its section on what is trusted, exactly the kit's crates that crates.txt names; the standard library's
+    own, core and std, it names as that."""
+    section = re.search(r"^## What is trusted$(.*?)^## ", (TOP / "README.md").read_text(), flags=re.M | re.S)
+    listed = set(re.findall(r"`([a-z0-9_]+)`", section[1].split("\n\n")[1])) if section else set()
+    used = uses()
+    named = {it for names in used.values() for it in names if it not in used} - {"core", "std"}
+    for it in sorted(named - listed):
+        fault(f"README.md: {it} is trusted, and is not in the list")
+    for it in sorted(listed - named):
+        fault(f"README.md: {it} is in the list of what is trusted, and no crate uses it")
+
+
+def check_states():
+    """The table of the tests of h2_conn is the one that its maker writes."""
+    made = subprocess.run([sys.executable, "bench/h2_states.py"], cwd=TOP, capture_output=True, text=True)
+    kept = (TOP / "crates/h2_conn_tests/src/state_rows.rt").read_text()
+    # rt fmt breaks lines, and ends the last item of each by a comma
+    plain = [re.sub(r"[\s,]", "", text) for text in (made.stdout, kept)]
+    if made.returncode != 0 or plain[0] != plain[1]:
+        fault(f"crates/h2_conn_tests/src/state_rows.rt: not what bench/h2_states.py writes {made.stderr.strip()}")
 
 
 def main():
     files = tracked()
     check_layout(files)
+    check_costs()
+    check_functions(files)
     check_edits(files)
     check_pages(files)
     check_promises()
+    check_trust()
+    check_states()
     for text in faults:
         print(text)
     return 1 if faults else 0
