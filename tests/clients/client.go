@@ -1,4 +1,4 @@
-// The calls of a client by grpc-go. Usage: client FOLDER; a line for each case.
+// The calls of a client by grpc-go. Usage: client FOLDER [CASE..]; a line for each case.
 package main
 
 import (
@@ -77,6 +77,51 @@ func first(ctx context.Context, name, path string, request []byte) ([]byte, erro
 		return nil, err
 	}
 	return next(stream)
+}
+
+// The SVIDs, the tokens or the items of the map in the first message of a call.
+func parts(name, path string, request []byte) ([]map[uint64][][]byte, error) {
+	message, err := first(secure(context.Background()), name, path, request)
+	if err != nil {
+		return nil, err
+	}
+	return items(message)
+}
+
+// The X.509-SVIDs of a socket are these, and no others.
+func given(name string, checks ...func(map[uint64][][]byte) error) error {
+	svids, err := parts(name, api+"FetchX509SVID", nil)
+	if err != nil {
+		return err
+	}
+	if len(svids) != len(checks) {
+		return fmt.Errorf("%d SVIDs", len(svids))
+	}
+	for at, check := range checks {
+		if err := check(svids[at]); err != nil {
+			return err
+		}
+	}
+	return nil
+}
+
+func svid(name, hint string, dnsNames ...string) func(map[uint64][][]byte) error {
+	return func(given map[uint64][][]byte) error { return checkX509(given, name, hint, dnsNames) }
+}
+
+func token() error {
+	bundles, err := parts("web", api+"FetchJWTBundles", nil)
+	if err != nil {
+		return err
+	}
+	tokens, err := parts("web", api+"FetchJWTSVID", []byte("\x0a\x02db\x0a\x05cache"))
+	if err != nil {
+		return err
+	}
+	if len(bundles) != 1 || one(bundles[0], 1) != domain || len(tokens) != 1 {
+		return fmt.Errorf("%d bundles and %d tokens", len(bundles), len(tokens))
+	}
+	return checkToken(tokens[0], one(bundles[0], 2), "web", "internal", []string{"db", "cache"})
 }
 
 func has(name, path string, request []byte, wanted string) error {
@@ -163,16 +208,26 @@ func hundred() error {
 	return nil
 }
 
+// Whether the words name this case, or none.
+func asked(name string) bool {
+	for _, it := range os.Args[2:] {
+		if it == name {
+			return true
+		}
+	}
+	return len(os.Args) == 2
+}
+
 func main() {
-	audience := []byte("\x0a\x02db")
 	secured := secure(context.Background())
 	cases := []struct {
 		name string
 		run  func() error
 	}{
-		{"x509", func() error { return has("web", api+"FetchX509SVID", nil, "spiffe://example.org/web") }},
+		{"x509", func() error { return given("web", svid("web", "internal", "web.example.org", "api.example.org")) }},
+		{"selectors", func() error { return given("team", svid("both", "team", "both.example.org"), svid("zone", "zone")) }},
 		{"x509_bundles", func() error { return has("web", api+"FetchX509Bundles", nil, "spiffe://example.org") }},
-		{"jwt", func() error { return has("web", api+"FetchJWTSVID", audience, "spiffe://example.org/web") }},
+		{"jwt", token},
 		{"jwt_bundles", func() error { return has("web", api+"FetchJWTBundles", nil, "keys") }},
 		{"check", func() error { return has("web", health+"Check", nil, "\x08\x01") }},
 		{"watch", func() error { return has("web", health+"Watch", nil, "\x08\x01") }},
@@ -187,6 +242,9 @@ func main() {
 		{"hundred", hundred},
 	}
 	for _, it := range cases {
+		if !asked(it.name) {
+			continue
+		}
 		if err := it.run(); err != nil {
 			fmt.Printf("%s FAILED %q\n", it.name, err.Error())
 		} else {

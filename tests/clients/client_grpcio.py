@@ -1,18 +1,29 @@
 #!/usr/bin/python3
-"""The calls of a client by python3-grpcio. Usage: client_grpcio.py FOLDER; a line for each case."""
+"""The calls of a client by python3-grpcio. Usage: client_grpcio.py FOLDER [CASE..]; a line for each case."""
 import concurrent.futures
+import json
 import pathlib
 import subprocess
 import sys
-import tempfile
 import time
 
 import grpc
 
-from messages import API, HEALTH, SECURITY, STREAMS, field, jwt_request, pairs, svids, tokens
+from messages import API, HEALTH, NOT_SERVING, SECURITY, SERVING, STREAMS, field, health_request, jwt_request, pairs, svids, tokens
+from verified import certificates, check_token, check_x509, expect
 
 FOLDER = pathlib.Path(sys.argv[1])
 SECONDS = 20
+X509, TOKEN = API + "FetchX509SVID", API + "FetchJWTSVID"
+X509_BUNDLES, JWT_BUNDLES = API + "FetchX509Bundles", API + "FetchJWTBundles"
+CHECK, WATCH = HEALTH + "Check", HEALTH + "Watch"
+DOMAIN = "spiffe://example.org"
+# what agent.py's document says of the entries
+DNS_NAMES = {"web": ["web.example.org", "api.example.org"], "both": ["both.example.org"]}
+HINTS = {"web": "internal", "both": "team", "zone": "zone"}
+# what each socket's caller is entitled to, by entry id
+ENTITLED = {"web": ["web"], "rotating": ["rotating"], "changing": ["changing"], "middle": ["middle"], "large": ["large"],
+            "team": ["both", "zone"]}
 
 
 def channel(name):
@@ -31,170 +42,274 @@ def first(name, path, request=b"", metadata=(SECURITY,)):
         return next(got) if path in STREAMS else got
 
 
-def refusal(name, path, request=b"", metadata=(SECURITY,)):
+def expect_refusal(code, details, *words, metadata=(SECURITY,)):
     try:
-        first(name, path, request, metadata)
+        first(*words, metadata=metadata)
     except grpc.RpcError as error:
-        return error.code(), error.details()
-    return None
+        expect((error.code(), error.details()) == (code, details), f"refused by {error.code()} {error.details()!r}")
+        return
+    expect(False, "not refused")
 
 
-def openssl(*words):
-    return subprocess.run(["openssl", *words], check=True, capture_output=True, text=True).stdout
+def change(what):
+    """Asks the script that runs the agent for this change, by a line; it answers with one when it is made."""
+    print(f"change {what}", flush=True)
+    expect(sys.stdin.readline() == "\n", f"the change {what} was not made")
 
 
-def verified(svid):
-    """Whether the leaf has a path to the bundle that came with it, and names just the SPIFFE ID."""
-    name, chain, key, bundle = svid
-    with tempfile.TemporaryDirectory() as folder:
-        for it, data in ("leaf", chain), ("root", bundle):
-            pathlib.Path(f"{folder}/{it}.der").write_bytes(data)
-            openssl("x509", "-inform", "DER", "-in", f"{folder}/{it}.der", "-out", f"{folder}/{it}.pem")
-        pathlib.Path(f"{folder}/key.der").write_bytes(key)
-        public = openssl("pkey", "-inform", "DER", "-in", f"{folder}/key.der", "-pubout")
-        names = openssl("x509", "-in", f"{folder}/leaf.pem", "-noout", "-ext", "subjectAltName").split("\n")[1].strip()
-        path = openssl("verify", "-x509_strict", "-CAfile", f"{folder}/root.pem", f"{folder}/leaf.pem")
-        return path.endswith(": OK\n") and names == f"URI:{name}" and public == openssl("x509", "-in", f"{folder}/leaf.pem", "-noout", "-pubkey")
+def check_own(svid, name):
+    check_x509(svid, f"{DOMAIN}/{name}", DNS_NAMES.get(name, ()), HINTS.get(name, ""))
+
+
+def check_own_token(given, jwks, name, *audience):
+    check_token(given, jwks, f"{DOMAIN}/{name}", audience, HINTS.get(name, ""))
+
+
+def own_jwks(name):
+    return pairs(first(name, JWT_BUNDLES), 1)[DOMAIN]
 
 
 def x509():
-    (svid,) = svids(first("web", API + "FetchX509SVID"))
-    return svid[0] == "spiffe://example.org/web" and verified(svid)
+    (svid,) = svids(first("web", X509))
+    check_own(svid, "web")
+
+
+def own_sockets():
+    for socket, names in ENTITLED.items():
+        given = svids(first(socket, X509))
+        expect([it.spiffe_id for it in given] == [f"{DOMAIN}/{it}" for it in names], f"{socket} got {[it.spiffe_id for it in given]}")
+        for svid, name in zip(given, names):
+            if socket != "rotating":
+                check_own(svid, name)
 
 
 def x509_bundles():
-    bundles = pairs(first("web", API + "FetchX509Bundles"), 2)
-    (svid,) = svids(first("web", API + "FetchX509SVID"))
-    return bundles == {"spiffe://example.org": svid[3]}
+    (svid,) = svids(first("web", X509))
+    expect(pairs(first("web", X509_BUNDLES), 2) == {DOMAIN: svid.bundle}, "another bundle than the SVID's")
+    federated = pairs(first("middle", X509_BUNDLES), 2)
+    expect(sorted(federated) == [DOMAIN, "spiffe://middle.example"], f"bundles of {sorted(federated)}")
 
 
 def jwt():
-    ((name, token),) = tokens(first("web", API + "FetchJWTSVID", jwt_request("db", "cache")))
-    return name == "spiffe://example.org/web" and token.count(".") == 2
+    (given,) = tokens(first("web", TOKEN, jwt_request("db", "cache")))
+    check_own_token(given, own_jwks("web"), "web", "db", "cache")
+
+
+def jwt_ids():
+    jwks, denied = own_jwks("team"), (grpc.StatusCode.PERMISSION_DENIED, "no identity issued")
+    given = tokens(first("team", TOKEN, jwt_request("db")))
+    expect(len(given) == 2, f"{len(given)} tokens")
+    for it, name in zip(given, ("both", "zone")):
+        check_own_token(it, jwks, name, "db")
+    (given,) = tokens(first("team", TOKEN, jwt_request("db", spiffe_id=f"{DOMAIN}/zone")))
+    check_own_token(given, jwks, "zone", "db")
+    expect_refusal(*denied, "team", TOKEN, jwt_request("db", spiffe_id=f"{DOMAIN}/writer"))
+    expect_refusal(*denied, "team", TOKEN, jwt_request("db", spiffe_id=f"{DOMAIN}/web"))
 
 
 def jwt_bundles():
-    return b'"keys"' in pairs(first("web", API + "FetchJWTBundles"), 1)["spiffe://example.org"]
+    bundles = pairs(first("web", JWT_BUNDLES), 1)
+    expect(list(bundles) == [DOMAIN], f"bundles of {list(bundles)}")
+    expect([it["kid"] for it in json.loads(bundles[DOMAIN])["keys"]] == ["sample"], "other keys")
 
 
 def check():
-    return field(first("web", HEALTH + "Check"), 1) == 1
+    expect(field(first("web", CHECK), 1) == SERVING, "not serving")
+    service = health_request("SpiffeWorkloadAPI")
+    expect(field(first("nobody", CHECK, service), 1) == NOT_SERVING, "serving one who is entitled to nothing")
 
 
 def watch():
-    return field(first("web", HEALTH + "Watch"), 1) == 1
+    expect(field(first("web", WATCH), 1) == SERVING, "not serving")
 
 
 def denied():
-    wanted = grpc.StatusCode.PERMISSION_DENIED, "no identity issued"
-    return refusal("nobody", API + "FetchX509SVID") == refusal("nobody", API + "FetchJWTSVID", jwt_request("db")) == wanted
+    for path, request in (X509, b""), (TOKEN, jwt_request("db")):
+        expect_refusal(grpc.StatusCode.PERMISSION_DENIED, "no identity issued", "nobody", path, request)
 
 
 def no_header():
-    return refusal("web", API + "FetchX509SVID", metadata=()) == (grpc.StatusCode.INVALID_ARGUMENT, "security header missing from request")
+    for path in X509, X509_BUNDLES, JWT_BUNDLES, TOKEN:
+        expect_refusal(grpc.StatusCode.INVALID_ARGUMENT, "security header missing from request", "web", path, metadata=())
 
 
 def cancelled():
     with channel("web") as opened:
         for _ in range(50):
-            got = call(opened, API + "FetchX509SVID")
+            got = call(opened, X509)
             next(got)
             got.cancel()
-        return len(svids(next(call(opened, API + "FetchX509SVID")))) == 1
+        (svid,) = svids(next(call(opened, X509)))
+    check_own(svid, "web")
 
 
 def cancelled_at_once():
     with channel("web") as opened:
         for _ in range(50):
-            call(opened, API + "FetchX509SVID").cancel()
-    return x509()
+            call(opened, X509).cancel()
+    x509()
 
 
 def rotation():
+    chains = set()
     with channel("rotating") as opened:
-        got = call(opened, API + "FetchX509SVID")
-        chains = set()
+        got = call(opened, X509)
         for _ in range(4):
             (svid,) = svids(next(got))
             # at once: it is over in four seconds
-            if not verified(svid):
-                return False
-            chains.add(svid[1])
-    return len(chains) == 4
+            check_own(svid, "rotating")
+            chains.add(svid.chain)
+    expect(len(chains) == 4, "an SVID twice")
 
 
-def document(agent_writes):
+def document():
     with channel("changing") as opened:
-        got = call(opened, API + "FetchX509SVID")
-        before = [it[0] for it in svids(next(got))]
-        agent_writes("more")
-        after = [it[0] for it in svids(next(got))]
-        agent_writes("less")
-        again = [it[0] for it in svids(next(got))]
-    return before == again and sorted(after) == sorted([*before, "spiffe://example.org/more"])
+        got = call(opened, X509)
+        before = [it.spiffe_id for it in svids(next(got))]
+        change("more")
+        after = [it.spiffe_id for it in svids(next(got))]
+        change("less")
+        again = [it.spiffe_id for it in svids(next(got))]
+    expect(before == again == [f"{DOMAIN}/changing"], f"{before} before, {again} after all")
+    expect(after == [*before, f"{DOMAIN}/more"], f"{after} after the change")
+
+
+def bundles_change():
+    """Each stream with a bundle in its messages gets one with both authorities, and then its first once more."""
+    reads = {
+        X509: lambda it: [len(certificates(svid.bundle)) for svid in svids(it)],
+        X509_BUNDLES: lambda it: [len(certificates(bundle)) for bundle in pairs(it, 2).values()],
+        JWT_BUNDLES: lambda it: [len(json.loads(jwks)["keys"]) for jwks in pairs(it, 1).values()],
+    }
+    with channel("web") as opened:
+        streams = {path: call(opened, path) for path in reads}
+        for what, wanted in (None, [1]), ("two_authorities", [2]), ("less", [1]):
+            if what:
+                change(what)
+            for path, got in streams.items():
+                found = reads[path](next(got))
+                expect(found == wanted, f"{path} has {found} after {what}")
+
+
+def watch_change():
+    with channel("coming") as opened:
+        got = call(opened, WATCH, health_request("SpiffeWorkloadAPI"))
+        for what, wanted in (None, NOT_SERVING), ("coming", SERVING), ("less", NOT_SERVING):
+            if what:
+                change(what)
+            found = field(next(got), 1)
+            expect(found == wanted, f"state {found} after {what}")
+
+
+def signer_outage():
+    """What is kept is served while the signer is away; tokens are not, and are again once it is back."""
+    change("signer_down")
+    try:
+        own_sockets_but_rotating = [it for it in ENTITLED if it != "rotating"]
+        for socket in own_sockets_but_rotating:
+            expect(len(svids(first(socket, X509))) == len(ENTITLED[socket]), f"{socket} lost an SVID")
+        expect_refusal(grpc.StatusCode.UNAVAILABLE, "jwt-svid cannot be signed", "web", TOKEN, jwt_request("signer outage"))
+    finally:
+        change("signer_up")
+    (given,) = tokens(first("web", TOKEN, jwt_request("signer outage")))
+    check_own_token(given, own_jwks("web"), "web", "signer outage")
+
+
+def authority_outage():
+    """The last document stays while the authority is away, and the next one is taken once it is back."""
+    change("authority_down")
+    try:
+        change("more")
+        time.sleep(3)
+        expect(len(svids(first("changing", X509))) == 1, "another document without an authority")
+        x509()
+    finally:
+        change("authority_up")
+    with channel("changing") as opened:
+        got = call(opened, X509)
+        ids = [it.spiffe_id for it in svids(next(got))]
+        ids = ids if len(ids) == 2 else [it.spiffe_id for it in svids(next(got))]
+    expect(ids == [f"{DOMAIN}/changing", f"{DOMAIN}/more"], f"{ids} once it is back")
+    change("less")
+
+
+def restart():
+    """A stream of the agent that ended ends, and the same channel is served by the next one, with another SVID."""
+    with channel("web") as opened:
+        got = call(opened, X509)
+        (before,) = svids(next(got))
+        change("restart")
+        try:
+            expect(not next(got), "a message of an agent that has ended")
+        except grpc.RpcError as error:
+            expect(error.code() == grpc.StatusCode.UNAVAILABLE, f"ended by {error.code()}")
+    (after,) = svids(first("web", X509))
+    check_own(after, "web")
+    expect(after.chain != before.chain, "an SVID that outlived its agent")
+    own_sockets()
 
 
 def above_64_kib():
-    message = first("middle", API + "FetchX509SVID")
-    return len(message) > 65_536 and list(map(len, pairs(message, 3).values()))[0] >= 100_000
+    message = first("middle", X509)
+    expect(len(message) > 65_536 and [len(it) for it in pairs(message, 3).values()] >= [100_000], f"{len(message)} bytes")
 
 
 def above_1_mib():
-    return len(first("large", API + "FetchX509SVID")) > 1_048_576
+    message = first("large", X509)
+    expect(len(message) > 1_048_576, f"{len(message)} bytes")
+    check_own(svids(message)[0], "large")
 
 
 def hundred():
     opened = [channel("web") for _ in range(100)]
+
+    def fetch(it):
+        got = call(it, X509, seconds=60)
+        message = next(got)
+        it.close()
+        return message
+
     with concurrent.futures.ThreadPoolExecutor(100) as pool:
-        def fetch(it):
-            got = call(it, API + "FetchX509SVID", seconds=60)
-            message = next(got)
-            it.close()
-            return message
-        return len(set(pool.map(fetch, opened))) == 1
+        expect(len(set(pool.map(fetch, opened))) == 1, "different answers")
 
 
 def stops_reading():
     stuck = [channel("large") for _ in range(3)]
-    calls = [call(it, API + "FetchX509SVID") for it in stuck]
+    calls = [call(it, X509) for it in stuck]
     time.sleep(1)
-    ok = above_1_mib()
+    above_1_mib()
     for it, opened in zip(calls, stuck):
         it.cancel()
         opened.close()
-    return ok and above_1_mib()
+    above_1_mib()
 
 
 def killed():
     program = "import sys, time; sys.argv = ['', sys.argv[1]]\nimport client_grpcio as it\n" \
-        "opened = it.channel('rotating'); next(it.call(opened, it.API + 'FetchX509SVID')); print(1, flush=True); time.sleep(60)"
+        "opened = it.channel('rotating'); next(it.call(opened, it.X509)); print(1, flush=True); time.sleep(60)"
     for _ in range(8):
         it = subprocess.Popen([sys.executable, "-c", program, FOLDER], cwd=pathlib.Path(__file__).parent, stdout=subprocess.PIPE)
-        if it.stdout.readline() != b"1\n":
-            return False
+        expect(it.stdout.readline() == b"1\n", "a client was not served")
         it.kill()
-        it.wait()
-    return len(svids(first("rotating", API + "FetchX509SVID"))) == 1
+        it.wait(SECONDS)
+    expect(len(svids(first("rotating", X509))) == 1, "the next one is not served")
 
 
-def ask_for_document(what):
-    """Asks the script that runs the agent for another document, by a line; it answers with one."""
-    print(f"document {what}", flush=True)
-    sys.stdin.readline()
-
-
-CASES = [x509, x509_bundles, jwt, jwt_bundles, check, watch, denied, no_header, cancelled, cancelled_at_once, rotation,
-         lambda: document(ask_for_document), above_64_kib, above_1_mib, hundred, stops_reading, killed]
+CASES = [x509, own_sockets, x509_bundles, jwt, jwt_ids, jwt_bundles, check, watch, denied, no_header, cancelled, cancelled_at_once,
+         rotation, document, bundles_change, watch_change, above_64_kib, above_1_mib, hundred, stops_reading, killed, signer_outage,
+         authority_outage, restart]
 
 
 def main():
     for case in CASES:
-        name = "document" if case.__name__ == "<lambda>" else case.__name__
+        if sys.argv[2:] and case.__name__ not in sys.argv[2:]:
+            continue
         try:
-            said = "ok" if case() else "FAILED another answer"
+            case()
+            said = "ok"
         except Exception as error:
-            said = f"FAILED {type(error).__name__} {str(error)[:200]!r}"
-        print(f"{name} {said}", flush=True)
+            said = f"FAILED {type(error).__name__} {str(error)[:300]!r}"
+        print(f"{case.__name__} {said}", flush=True)
 
 
 if __name__ == "__main__":

@@ -1,54 +1,24 @@
 #!/usr/bin/python3
 """Peers that mean no good, over bare sockets: each ends its own connection with the GOAWAY of RFC 9113 that is due, and a neighbour on
-the same socket is served. Usage: client_hostile.py FOLDER; a line for each case."""
+the same socket is served. Usage: client_hostile.py FOLDER [CASE..]; a line for each case."""
 import pathlib
 import socket
 import sys
 
+import bare
+from bare import CONTINUATION, DATA, END_HEADERS, END_STREAM, GOAWAY, GREETING, HEADERS, MOST, PING, PREFACE, RST_STREAM, SETTINGS, \
+    WINDOW_UPDATE, frame, frames
+from messages import API
+
 FOLDER = pathlib.Path(sys.argv[1])
 SECONDS = 30
-# RFC 9113, sections 3.4, 6 and 7
-PREFACE = b"PRI * HTTP/2.0\r\n\r\nSM\r\n\r\n"
-DATA, HEADERS, RST_STREAM, SETTINGS, PING, GOAWAY, WINDOW_UPDATE, CONTINUATION = 0, 1, 3, 4, 6, 7, 8, 9
-END_STREAM, END_HEADERS = 1, 4
+# RFC 9113, section 7
 PROTOCOL_ERROR, FLOW_CONTROL_ERROR, FRAME_SIZE_ERROR, COMPRESSION_ERROR, ENHANCE_YOUR_CALM = 1, 3, 6, 9, 11
-MOST = 2**31 - 1
-
-
-def frame(kind, flags=0, stream=0, payload=b""):
-    return len(payload).to_bytes(3, "big") + bytes([kind, flags]) + stream.to_bytes(4, "big") + payload
-
-
-def literal(name, value):
-    # RFC 7541, section 6.2.2: without indexing, a new name, both as they are
-    return b"\0" + bytes([len(name)]) + name + bytes([len(value)]) + value
-
-
-HEAD = b"".join(literal(*it) for it in [
-    (b":method", b"POST"), (b":scheme", b"http"), (b":path", b"/SpiffeWorkloadAPI/FetchX509SVID"), (b":authority", b"localhost"),
-    (b"content-type", b"application/grpc"), (b"te", b"trailers"), (b"workload.spiffe.io", b"true")])
-GREETING = PREFACE + frame(SETTINGS)
+HEAD = bare.head(API + "FetchX509SVID")
 
 
 def connect(name):
-    opened = socket.socket(socket.AF_UNIX)
-    opened.settimeout(SECONDS)
-    opened.connect(str(FOLDER / f"{name}.sock"))
-    return opened
-
-
-def frames(opened):
-    """Each frame that comes: its kind, its stream and its payload."""
-    held = b""
-    while True:
-        while len(held) < 9 or len(held) < 9 + int.from_bytes(held[:3], "big"):
-            piece = opened.recv(65_536)
-            if not piece:
-                return
-            held += piece
-        end = 9 + int.from_bytes(held[:3], "big")
-        yield held[3], int.from_bytes(held[5:9], "big") & MOST, held[9:end]
-        held = held[end:]
+    return bare.connect(FOLDER / f"{name}.sock", SECONDS)
 
 
 def is_served():
@@ -133,6 +103,8 @@ CASES = {
 
 def main():
     for name, case in CASES.items():
+        if sys.argv[2:] and name not in sys.argv[2:]:
+            continue
         try:
             said = "ok" if case() else "FAILED another answer"
         except Exception as error:
@@ -140,4 +112,5 @@ def main():
         print(f"{name} {said}", flush=True)
 
 
-main()
+if __name__ == "__main__":
+    main()

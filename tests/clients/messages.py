@@ -1,7 +1,24 @@
 """The messages of the Workload API and of gRPC health as far as these clients read them, by the Protocol Buffers wire format."""
+import typing
+
 API, HEALTH = "/SpiffeWorkloadAPI/", "/grpc.health.v1.Health/"
 SECURITY = ("workload.spiffe.io", "true")
 STREAMS = {API + "FetchX509SVID", API + "FetchX509Bundles", API + "FetchJWTBundles", HEALTH + "Watch"}
+SERVING, NOT_SERVING = 1, 2
+
+
+class Svid(typing.NamedTuple):
+    spiffe_id: str
+    chain: bytes
+    key: bytes
+    bundle: bytes
+    hint: str
+
+
+class Token(typing.NamedTuple):
+    spiffe_id: str
+    token: str
+    hint: str
 
 
 def varint(data, at):
@@ -30,8 +47,9 @@ def field(data, number, default=b""):
 
 
 def svids(message):
-    """(SPIFFE ID, chain, key, bundle) of each SVID of an X509SVIDResponse."""
-    return [(field(it, 1).decode(), field(it, 2), field(it, 3), field(it, 4)) for n, it in fields(message) if n == 1]
+    """The SVIDs of an X509SVIDResponse."""
+    return [Svid(field(it, 1).decode(), field(it, 2), field(it, 3), field(it, 4), field(it, 5).decode())
+            for n, it in fields(message) if n == 1]
 
 
 def pairs(message, number):
@@ -40,8 +58,22 @@ def pairs(message, number):
 
 
 def tokens(message):
-    return [(field(it, 1).decode(), field(it, 2).decode()) for n, it in fields(message) if n == 1]
+    """The tokens of a JWTSVIDResponse."""
+    return [Token(field(it, 1).decode(), field(it, 2).decode(), field(it, 3).decode()) for n, it in fields(message) if n == 1]
 
 
-def jwt_request(*audience):
-    return b"".join(b"\x0a" + bytes([len(it)]) + it.encode() for it in audience)
+def varint_bytes(value):
+    return bytes([value]) if value < 128 else bytes([value & 127 | 128]) + varint_bytes(value >> 7)
+
+
+def text(number, value):
+    data = value.encode()
+    return bytes([number << 3 | 2]) + varint_bytes(len(data)) + data
+
+
+def jwt_request(*audience, spiffe_id=None):
+    return b"".join(text(1, it) for it in audience) + (text(2, spiffe_id) if spiffe_id else b"")
+
+
+def health_request(service):
+    return text(1, service)
