@@ -1,4 +1,3 @@
-mod Texts
 mod Arrays
 mod Walks
 mod Distinct

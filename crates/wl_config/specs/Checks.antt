@@ -6,11 +6,6 @@ use Rattle.wl_document.specs.declared.fault.Place.{Place}
 use Rattle.wl_config.specs.declared.fault.ConfigFault.{ConfigFault}
 use Rattle.wl_config.specs.declared.fault.ConfigFault.TheVariants.{NotJson, Version, Missing, Kind, EmptyText, Selector, TooMany, Duplicate, TooLong, Memory}
 
--- it has to be there
-abbrev pub or_fault : {A : Type 0} → ConfigFault → Option A → Result A ConfigFault
-or_fault e None = Err e
-or_fault e (Some x) = Ok x
-
 -- a text with its first fault as a selector
 abbrev pub no_selector_fault : Place → List ℕ → Option SelectorFault → Result (List ℕ) ConfigFault
 no_selector_fault p text None = Ok text

@@ -3,14 +3,14 @@
 use Rattle.std.specs.Prelude.{ℕ, ◌<◌, ◌≤◌, ◌==◌, List, length, codes, nat_lt, if◌then◌else◌, Result, Ok, Err}
 use Rattle.serde_json.specs.Data.{Data}
 use Rattle.list_laws.specs.Results.{◌>>=◌}
-use Rattle.wl_document.specs.Documents.{value_of}
+use Rattle.json_members.specs.Members.{or_fault, required, object_at, number_at}
+use Rattle.json_members.specs.Texts.{value_of}
 use Rattle.wl_document.specs.Places.{at_top}
-use Rattle.wl_config.specs.Checks.{or_fault}
-use Rattle.wl_config.specs.Members.{required, object_at, number_at, number_or, path_of, list_of}
+use Rattle.wl_config.specs.Members.{number_or, path_of, list_of}
 use Rattle.wl_config.specs.Sockets.{sockets_of, SocketsWithin}
 use Rattle.wl_config.specs.declared.config.SocketFact.{SocketFact}
 use Rattle.wl_config.specs.declared.fault.ConfigFault.{ConfigFault}
-use Rattle.wl_config.specs.declared.fault.ConfigFault.TheVariants.{NotJson, Version, TooLong}
+use Rattle.wl_config.specs.declared.fault.ConfigFault.TheVariants.{NotJson, Version, Missing, Kind, TooLong}
 use Rattle.wl_config.specs.declared.limits.TheConstants.{CONFIG_LIMIT, MAX_SOCKETS, MAX_POLL_SECONDS, DEFAULT_POLL_SECONDS}
 
 pub record Configuration : Type 0 where
@@ -31,8 +31,8 @@ pub record Within (c : Configuration) : Type 0 where
 
 unfoldable pub version_of : Data → Result ℕ ConfigFault
 version_of d = do
-  member ← required (at_top 1) (codes "version") d
-  n ← number_at (at_top 1) member
+  member ← required (Missing (at_top 1)) (codes "version") d
+  n ← number_at (Kind (at_top 1)) member
   if n == 1 then Ok n else Err Version
 
 -- the paths of the upstream authority and of the signer
@@ -43,7 +43,7 @@ pub record TwoPaths : Type 0 where
 -- an object of version 1 with the two paths
 unfoldable pub paths_of : Data → Result TwoPaths ConfigFault
 paths_of d = do
-  object ← object_at (at_top 0) d
+  object ← object_at (Kind (at_top 0)) d
   version ← version_of d
   upstream ← path_of (at_top 2) (codes "upstream") d
   signer ← path_of (at_top 3) (codes "signer") d

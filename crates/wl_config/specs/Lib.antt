@@ -1,7 +1,6 @@
 -- What the contracts cite, in the order in which a reader wants it.
 pub mod Places
 pub mod Checks
-pub mod Arrays
 pub mod Members
 pub mod Sockets
 pub mod Configs

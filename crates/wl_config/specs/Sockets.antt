@@ -9,11 +9,12 @@ use Rattle.wl_document.specs.declared.fault.Place.{Place}
 use Rattle.wl_document.specs.Places.{item_at}
 use Rattle.wl_config.specs.Places.{at_socket}
 use Rattle.wl_config.specs.Checks.{no_selector_fault}
-use Rattle.wl_config.specs.Arrays.{each_from}
-use Rattle.wl_config.specs.Members.{object_at, text_at, number_or, path_of, list_of}
+use Rattle.json_members.specs.Arrays.{each_from, at_end}
+use Rattle.json_members.specs.Members.{object_at, text_at}
+use Rattle.wl_config.specs.Members.{number_or, path_of, list_of}
 use Rattle.wl_config.specs.declared.config.SocketFact.{SocketFact}
 use Rattle.wl_config.specs.declared.fault.ConfigFault.{ConfigFault}
-use Rattle.wl_config.specs.declared.fault.ConfigFault.TheVariants.{TooMany, Duplicate}
+use Rattle.wl_config.specs.declared.fault.ConfigFault.TheVariants.{Kind, TooMany, Duplicate}
 use Rattle.wl_config.specs.declared.limits.TheConstants.{MAX_SOCKET_SELECTORS, MAX_WORKERS, DEFAULT_WORKERS}
 
 -- ---- one socket, beside those before it
@@ -25,7 +26,7 @@ was_given before path = list_any (λ s. bytes_eq path s.path) before
 -- a path that no socket before has
 unfoldable pub socket_path_of : ℕ → List SocketFact → Data → Result (List ℕ) ConfigFault
 socket_path_of i before d = do
-  object ← object_at (at_socket i 0) d
+  object ← object_at (Kind (at_socket i 0)) d
   path ← path_of (at_socket i 1) (codes "path") d
   if was_given before path then Err (Duplicate (at_socket i 1)) else Ok path
 
@@ -41,10 +42,10 @@ workers_of i taken d = do
 
 -- `type:value` in UTF-8
 unfoldable pub selector_of : Place → ℕ → Data → Result (List ℕ) ConfigFault
-selector_of p k d = text_at (item_at p k) d >>= λ text. no_selector_fault (item_at p k) text (selector_fault text)
+selector_of p k d = text_at (Kind (item_at p k)) d >>= λ text. no_selector_fault (item_at p k) text (selector_fault text)
 
 unfoldable pub selector_list_of : Place → List Data → Result (List (List ℕ)) ConfigFault
-selector_list_of p ds = each_from (λ k before d. selector_of p k d) 0 [] ds
+selector_list_of p ds = each_from (λ k before d. selector_of p k d) at_end 0 [] ds
 
 -- Repeated ones count once in the set and each in the length.
 unfoldable pub selectors_of : Place → Data → Result (List (List ℕ)) ConfigFault
@@ -64,7 +65,7 @@ socket_of i before d = do
 -- ---- all sockets
 
 unfoldable pub sockets_of : List Data → Result (List SocketFact) ConfigFault
-sockets_of ds = each_from socket_of 0 [] ds
+sockets_of ds = each_from socket_of at_end 0 [] ds
 
 -- no two are the same bytes
 abbrev pub are_distinct : List (List ℕ) → Bool

@@ -1,63 +1,16 @@
-//! The members of an object: whether one has to be there, and what kind it is.
+//! Members of an object, and their faults at their place.
 
 ghost use Rattle.std.specs.Prelude.{◌≡◌, ℕ, ◌<◌, ◌≤◌, length, map, IfOk};
 ghost use Rattle.serde_json.specs.View.{view};
 ghost use Rattle.wl_config.specs.Checks.{Gives};
-ghost use Rattle.wl_config.specs.Members.{required, object_at, text_at, number_at, number_within, number_or, path_at, path_of, list_at, list_of};
+ghost use Rattle.wl_config.specs.Members.{number_within, number_or, path_at, path_of, list_at, list_of};
 
 use crate::fault::ConfigFault;
+use json_members::{array_at, number_at, required, text_at};
 use serde_json::Value;
 use std::alloc::Global;
 use wl_document::Place;
 use wl_octets::Octets;
-
-/// The member of this name, which has to be there.
-#[tactic(auto, unfolding(crate::specs::Members::required))]
-pub(crate) fn required<'a>(
-    place: Place,
-    name: &str,
-    value: &'a Value,
-) -> Result<&'a Value, ConfigFault>
-    ensures { Gives (λ v. view v.now) result (required place name.now (view value.now)) }
-{
-    match value.get(name) {
-        Some(member) => Ok(member),
-        None => Err(ConfigFault::Missing(place)),
-    }
-}
-
-/// An object.
-#[tactic(auto, unfolding(crate::specs::Members::object_at))]
-pub(crate) fn object_at(place: Place, value: &Value) -> Result<(), ConfigFault>
-    ensures { Gives (λ x. x) result (object_at place (view value.now)) }
-{
-    match value.as_object() {
-        Some(_) => Ok(()),
-        None => Err(ConfigFault::Kind(place)),
-    }
-}
-
-/// A text.
-#[tactic(auto, unfolding(crate::specs::Members::text_at))]
-pub(crate) fn text_at(place: Place, value: &Value) -> Result<&str, ConfigFault>
-    ensures { Gives (λ s. s.now) result (text_at place (view value.now)) }
-{
-    match value.as_str() {
-        Some(text) => Ok(text),
-        None => Err(ConfigFault::Kind(place)),
-    }
-}
-
-/// A whole number below 2^64.
-#[tactic(auto, unfolding(crate::specs::Members::number_at))]
-pub(crate) fn number_at(place: Place, value: &Value) -> Result<u64, ConfigFault>
-    ensures { Gives (λ n. n) result (number_at place (view value.now)) }
-{
-    match value.as_u64() {
-        Some(number) => Ok(number),
-        None => Err(ConfigFault::Kind(place)),
-    }
-}
 
 /// A whole number from 1 to the limit.
 #[tactic(auto, unfolding(crate::specs::Members::number_within))]
@@ -66,7 +19,7 @@ fn number_within(limit: u32, place: Place, value: &Value) -> Result<u32, ConfigF
     ensures some { IfOk result (λ n. 0 < n) }
     ensures few { IfOk result (λ n. n ≤ limit) }
 {
-    let number = number_at(place, value)?;
+    let number = number_at(ConfigFault::Kind(place), value)?;
     if number == 0 || number > u64::from(limit) {
         return Err(ConfigFault::Kind(place));
     }
@@ -100,7 +53,7 @@ fn path_at(alloc: Global, place: Place, value: &Value) -> Result<Octets, ConfigF
     ensures value { Gives (λ o. o) result (path_at place (view value.now)) }
     ensures some { IfOk result (λ o. 0 < length o) }
 {
-    let text = text_at(place, value)?.as_bytes();
+    let text = text_at(ConfigFault::Kind(place), value)?.as_bytes();
     if text.is_empty() {
         return Err(ConfigFault::EmptyText(place));
     }
@@ -118,7 +71,11 @@ pub(crate) fn path_of(
     ensures value { Gives (λ o. o) result (path_of place name.now (view value.now)) }
     ensures some { IfOk result (λ o. 0 < length o) }
 {
-    path_at(alloc, place, required(place, name, value)?)
+    path_at(
+        alloc,
+        place,
+        required(ConfigFault::Missing(place), name, value)?,
+    )
 }
 
 /// An array of at least one item and at most so many.
@@ -128,10 +85,7 @@ fn list_at(limit: usize, place: Place, value: &Value) -> Result<&[Value], Config
     ensures some { IfOk result (λ v. 0 < length v.now) }
     ensures few { IfOk result (λ v. length v.now ≤ limit) }
 {
-    let items = match value.as_array() {
-        Some(items) => items.as_slice(),
-        None => return Err(ConfigFault::Kind(place)),
-    };
+    let items = array_at(ConfigFault::Kind(place), value)?;
     if items.is_empty() {
         return Err(ConfigFault::Kind(place));
     }
@@ -153,5 +107,9 @@ pub(crate) fn list_of<'a>(
     ensures some { IfOk result (λ v. 0 < length v.now) }
     ensures few { IfOk result (λ v. length v.now ≤ limit) }
 {
-    list_at(limit, place, required(place, name, value)?)
+    list_at(
+        limit,
+        place,
+        required(ConfigFault::Missing(place), name, value)?,
+    )
 }

@@ -2,8 +2,9 @@
 
 ghost use Rattle.std.specs.Prelude.{◌≡◌, ℕ, ◌<◌, ◌≤◌, length, IfOk};
 ghost use Rattle.serde_json.specs.View.{view};
-ghost use Rattle.wl_document.specs.Documents.{value_of};
-ghost use Rattle.wl_config.specs.Checks.{Gives, or_fault};
+ghost use Rattle.json_members.specs.Members.{or_fault};
+ghost use Rattle.json_members.specs.Texts.{value_of};
+ghost use Rattle.wl_config.specs.Checks.{Gives};
 ghost use Rattle.wl_config.specs.declared.limits.TheConstants.{MAX_SOCKETS, MAX_POLL_SECONDS};
 ghost use Rattle.wl_config.specs.Sockets.{SocketsWithin};
 ghost use Rattle.wl_config.specs.Configs.{version_of, paths_of, poll_seconds_of, config_sockets_of, config_of, configuration_of};
@@ -12,9 +13,10 @@ ghost use Rattle.wl_config.specs.declared.fault.ConfigFault.TheVariants.{NotJson
 use crate::config::{Config, SocketFact};
 use crate::fault::ConfigFault;
 use crate::limits::{CONFIG_LIMIT, DEFAULT_POLL_SECONDS, MAX_POLL_SECONDS, MAX_SOCKETS};
-use crate::members::{list_of, number_at, number_or, object_at, path_of, required};
+use crate::members::{list_of, number_or, path_of};
 use crate::places::top_place;
 use crate::sockets::sockets;
+use json_members::{json_value, number_at, object_at, required};
 use serde_json::Value;
 use std::alloc::Global;
 use wl_octets::{Octets, Row};
@@ -25,7 +27,8 @@ fn version(value: &Value) -> Result<u64, ConfigFault>
     ensures { Gives (λ n. n) result (version_of (view value.now)) }
 {
     let place = top_place(1);
-    let version = number_at(place, required(place, "version", value)?)?;
+    let member = required(ConfigFault::Missing(place), "version", value)?;
+    let version = number_at(ConfigFault::Kind(place), member)?;
     if version == 1 {
         Ok(version)
     } else {
@@ -37,15 +40,9 @@ fn version(value: &Value) -> Result<u64, ConfigFault>
 fn value(alloc: Global, bytes: &[u8]) -> Result<Value, ConfigFault>
     ensures { Gives view result (or_fault NotJson (value_of bytes.now)) }
 {
-    match Value::from_slice(alloc, bytes) {
-        Ok(value) => Ok(value),
-        Err(fault) => {
-            if fault.is_memory() {
-                Err(ConfigFault::Memory)
-            } else {
-                Err(ConfigFault::NotJson)
-            }
-        }
+    match json_value(alloc, bytes)? {
+        Some(value) => Ok(value),
+        None => Err(ConfigFault::NotJson),
     }
 }
 
@@ -74,7 +71,7 @@ fn both_paths(alloc: Global, value: &Value) -> Result<Paths, ConfigFault>
     ensures upstream { IfOk result (λ p. 0 < length p.upstream) }
     ensures signer { IfOk result (λ p. 0 < length p.signer) }
 {
-    object_at(top_place(0), value)?;
+    object_at(ConfigFault::Kind(top_place(0)), value)?;
     version(value)?;
     let upstream = path_of(alloc, top_place(2), "upstream", value)?;
     let signer = path_of(alloc, top_place(3), "signer", value)?;

@@ -8,8 +8,9 @@ ghost use Rattle.wl_config.specs.Sockets.{selector_of, selector_list_of, selecto
 
 use crate::fault::ConfigFault;
 use crate::limits::MAX_SOCKET_SELECTORS;
-use crate::members::{list_of, text_at};
+use crate::members::list_of;
 use crate::places::item_place;
+use json_members::text_at;
 use serde_json::Value;
 use std::alloc::Global;
 use wl_document::Place;
@@ -31,7 +32,7 @@ fn selector(alloc: Global, place: Place, index: u32, value: &Value) -> Result<Se
     ensures { Gives (λ s. s) result (selector_of place index (view value.now)) }
 {
     let place = item_place(place, index);
-    match Selector::parse(alloc, text_at(place, value)?.as_bytes()) {
+    match Selector::parse(alloc, text_at(ConfigFault::Kind(place), value)?.as_bytes()) {
         Ok(selector) => Ok(selector),
         Err(fault) => Err(selector_fault_at(place, fault)),
     }

@@ -9,9 +9,10 @@ ghost use Rattle.wl_config.specs.Sockets.{was_given, rooms, socket_path_of, work
 use crate::config::SocketFact;
 use crate::fault::ConfigFault;
 use crate::limits::{DEFAULT_WORKERS, MAX_WORKERS};
-use crate::members::{number_or, object_at, path_of};
+use crate::members::{number_or, path_of};
 use crate::places::socket_place;
 use crate::selectors::selectors;
+use json_members::object_at;
 use serde_json::Value;
 use std::alloc::Global;
 use wl_octets::Octets;
@@ -36,7 +37,7 @@ fn socket_path(
     ensures some { IfOk result (λ o. 0 < length o) }
     ensures fresh { IfOk result (λ o. was_given before.now o ≡ false) }
 {
-    object_at(socket_place(index, 0), value)?;
+    object_at(ConfigFault::Kind(socket_place(index, 0)), value)?;
     let place = socket_place(index, 1);
     let path = path_of(alloc, place, "path", value)?;
     if was_given(before, &path) {

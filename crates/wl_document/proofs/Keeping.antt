@@ -11,7 +11,7 @@ use Rattle.serde_json.specs.Data.{Data}
 use Rattle.wl_entry.specs.Limits.{EntryWithin, BundleWithin}
 use Rattle.wl_entry.specs.declared.bundles.Bundle.{Bundle}
 use Rattle.wl_entry.specs.declared.entries.Entry.{Entry}
-use Rattle.wl_document.specs.Arrays.{each_from}
+use Rattle.json_members.specs.Arrays.{each_from}
 use Rattle.wl_document.specs.Kept.{Kept, kept_has, put, kept_at, KeptWithin}
 use Rattle.wl_entry.specs.Keys.{bundle_key, entry_key}
 use Rattle.wl_document.specs.Svids.{doc_svid_key}

@@ -1,5 +1,4 @@
 mod Arrays
-mod Texts
 mod Walks
 mod Orders
 mod Checks

@@ -15,7 +15,8 @@ use Rattle.serde_json.specs.Data.{Data}
 use Rattle.wl_entry.specs.declared.bundles.Bundle.{Bundle}
 use Rattle.wl_entry.specs.declared.entries.Entry.{Entry}
 use Rattle.list_laws.specs.Results.{◌>>=◌}
-use Rattle.wl_document.specs.Arrays.{each_from, at_end, was_given, put_by, ascending_onto, ascending}
+use Rattle.json_members.specs.Arrays.{each_from, at_end}
+use Rattle.wl_document.specs.Arrays.{was_given, put_by, ascending_onto, ascending}
 use Rattle.wl_document.specs.Bundles.{bundle_of, read_bundles, bundles_of}
 use Rattle.wl_document.specs.Entries.{entry_of, read_entries, entries_of}
 use Rattle.sorted_lists.specs.Keys.{item_at}

@@ -7,23 +7,23 @@ use Rattle.std.specs.declared.cmp.Ordering.{Ordering}
 use Rattle.std.specs.declared.cmp.Ordering.TheVariants.{Less, Equal, Greater}
 use Rattle.std.specs.Cmp.Lexicographic.{slice_cmp}
 use Rattle.serde_json.specs.Data.{Data}
-use Rattle.serde_json.specs.Find.{get, as_array}
+use Rattle.serde_json.specs.Find.{get}
 use Rattle.wl_selector.specs.Selectors.{put_text, sorted_onto, sorted_texts}
 use Rattle.wl_entry.specs.Limits.{EntryWithin, BundleWithin}
 use Rattle.wl_entry.specs.declared.bundles.Bundle.{Bundle}
 use Rattle.wl_entry.specs.declared.entries.Entry.{Entry}
 use Rattle.wl_document.specs.declared.state.DocSvid.{DocSvid}
-use Rattle.wl_document.specs.Checks.{or_fault}
+use Rattle.json_members.specs.Arrays.{each_from, at_end}
+use Rattle.json_members.specs.Members.{required, text_at, array_at, object_at}
 use Rattle.wl_document.specs.Places.{at_bundle, at_entry, at_svid}
-use Rattle.wl_document.specs.Arrays.{list_items, each_from, at_end}
-use Rattle.wl_document.specs.Members.{required, text_at, text_of, list_at, list_of, list_or_empty, name_of, is_name, base64_at, base64_of, number_of, at_most, text_within, text_or_empty, object_at, id_of}
+use Rattle.wl_document.specs.Members.{text_of, list_at, list_of, list_or_empty, name_of, is_name, base64_at, base64_of, number_of, at_most, text_within, text_or_empty, id_of}
 use Rattle.wl_document.specs.Bundles.{x509_at, x509_of, bundle_domain_of, bundle_of}
 use Rattle.wl_document.specs.Entries.{selector_of, selector_list_of, selectors_of, federated_of, federates_of, federated_list_of, federates_with_of, dns_name_of, dns_names_of, dns_names_in, ttl_of, hint_of, Extras, extras_of, entry_name_of, entry_of}
 use Rattle.wl_document.specs.Svids.{svid_name_of, svid_of}
 use Rattle.wl_document.specs.States.{SvidWithin}
 use Rattle.wl_document.specs.declared.fault.Place.{Place}
 use Rattle.wl_document.specs.declared.fault.DocFault.{DocFault}
-use Rattle.wl_document.specs.declared.fault.DocFault.TheVariants.{Kind, TooMany, TooLong, Duplicate, NoSelectors}
+use Rattle.wl_document.specs.declared.fault.DocFault.TheVariants.{Missing, Kind, TooMany, TooLong, Duplicate, NoSelectors}
 use Rattle.list_laws.proofs.Results.{ok_is, bind_then, unless_ok, when_ok}
 use Rattle.wl_document.proofs.Checks.{optional_ok}
 
@@ -38,18 +38,18 @@ unfolding text_or_empty text_within
 text_short n p name d out h =
     optional_ok (text_within n p) [] (get name d) out h
     (λ is. subst (λ (l : List ℕ). length l ≤ n) is (omega arith))
-    (λ v is. bind_then (text_at p v) (at_most n p) out is (λ text was last. at_most_short n p text out last))
+    (λ v is. bind_then (text_at (Kind p) v) (at_most n p) out is (λ text was last. at_most_short n p text out last))
 
 list_short : (n : ℕ) (p : Place) (d : Data) (out : List Data) → list_at n p d ≡ Ok out → length out ≤ n
 unfolding list_at
 list_short n p d out h =
-    bind_then (or_fault (Kind p) (as_array d)) _ out h
-    (λ items was last. unless_ok (nat_lt n (length (list_items items))) (TooMany p (length (list_items items))) (Ok (list_items items)) out last
-    (λ few is. subst (λ (l : List Data). length l ≤ n) (ok_is is) (ltb-false n (length (list_items items)) few)))
+    bind_then (array_at (Kind p) d) _ out h
+    (λ items was last. unless_ok (nat_lt n (length items)) (TooMany p (length items)) (Ok items) out last
+    (λ few is. subst (λ (l : List Data). length l ≤ n) (ok_is is) (ltb-false n (length items) few)))
 
 list_of_short : (n : ℕ) (p : Place) (name : List ℕ) (d : Data) (out : List Data) → list_of n p name d ≡ Ok out → length out ≤ n
 unfolding list_of
-list_of_short n p name d out h = bind_then (required p name d) (list_at n p) out h (λ v was last. list_short n p v out last)
+list_of_short n p name d out h = bind_then (required (Missing p) name d) (list_at n p) out h (λ v was last. list_short n p v out last)
 
 list_or_empty_short : (n : ℕ) (p : Place) (name : List ℕ) (d : Data) (out : List Data) → list_or_empty n p name d ≡ Ok out → length out ≤ n
 unfolding list_or_empty
@@ -138,7 +138,7 @@ extras_within version i d x h =
 entry_name_short : (i : ℕ) (given : List ℕ → Bool) (d : Data) (out : List ℕ) → entry_name_of i given d ≡ Ok out → length out ≤ 128
 unfolding entry_name_of
 entry_name_short i given d out h =
-    bind_then (object_at (at_entry i 0) d) _ out h (λ object a next.
+    bind_then (object_at (Kind (at_entry i 0)) d) _ out h (λ object a next.
     bind_then (name_of (at_entry i 1) (codes "id") d) _ out next (λ id b next.
     unless_ok (given id) (Duplicate (at_entry i 1)) (Ok id) out next (λ new last.
     name_short (at_entry i 1) (codes "id") d out (b ∙ last))))
@@ -171,7 +171,7 @@ bundle_within i given d b h =
 svid_name_short : (i : ℕ) (given : List ℕ → Bool) (d : Data) (out : List ℕ) → svid_name_of i given d ≡ Ok out → length out ≤ 128
 unfolding svid_name_of
 svid_name_short i given d out h =
-    bind_then (object_at (at_svid i 0) d) _ out h (λ object a next.
+    bind_then (object_at (Kind (at_svid i 0)) d) _ out h (λ object a next.
     bind_then (name_of (at_svid i 1) (codes "entry") d) _ out next (λ id b next.
     unless_ok (given id) (Duplicate (at_svid i 1)) (Ok id) out next (λ new last.
     name_short (at_svid i 1) (codes "entry") d out (b ∙ last))))

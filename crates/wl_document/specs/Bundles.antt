@@ -7,11 +7,13 @@ use Rattle.wl_entry.specs.Keys.{bundle_key}
 use Rattle.list_laws.specs.Results.{◌>>=◌}
 use Rattle.wl_entry.specs.declared.limits.TheConstants.{MAX_PART_LEN}
 use Rattle.wl_document.specs.Places.{at_bundle}
-use Rattle.wl_document.specs.Arrays.{each_from, at_end, was_given, ascending}
-use Rattle.wl_document.specs.Members.{optional, object_at, domain_of, base64_at, at_most, text_or_empty}
+use Rattle.json_members.specs.Arrays.{each_from, at_end}
+use Rattle.json_members.specs.Members.{optional, object_at}
+use Rattle.wl_document.specs.Arrays.{was_given, ascending}
+use Rattle.wl_document.specs.Members.{domain_of, base64_at, at_most, text_or_empty}
 use Rattle.wl_document.specs.declared.fault.Place.{Place}
 use Rattle.wl_document.specs.declared.fault.DocFault.{DocFault}
-use Rattle.wl_document.specs.declared.fault.DocFault.TheVariants.{Duplicate}
+use Rattle.wl_document.specs.declared.fault.DocFault.TheVariants.{Kind, Duplicate}
 
 -- bytes in base64, within their limit
 unfoldable pub x509_at : Place → Data → Result (List ℕ) DocFault
@@ -22,7 +24,7 @@ x509_of p d = optional (x509_at p) [] (get (codes "x509") d)
 
 unfoldable pub bundle_name_of : ℕ → Data → Result (List ℕ) DocFault
 bundle_name_of i d = do
-  object ← object_at (at_bundle i 0) d
+  object ← object_at (Kind (at_bundle i 0)) d
   domain_of (at_bundle i 1) (codes "trust_domain") d
 
 -- a domain that no bundle before it has

@@ -9,11 +9,6 @@ use Rattle.wl_document.specs.declared.fault.Place.{Place}
 use Rattle.wl_document.specs.declared.fault.DocFault.{DocFault}
 use Rattle.wl_document.specs.declared.fault.DocFault.TheVariants.{NotJson, Version, Missing, Kind, Id, Selector, NoSelectors, Duplicate, ForeignDomain, Base64, NoOwnBundle, TooMany, TooLong, Memory}
 
--- it has to be there
-abbrev pub or_fault : {A : Type 0} → DocFault → Option A → Result A DocFault
-or_fault e None = Err e
-or_fault e (Some x) = Ok x
-
 -- what base64 gives
 abbrev pub decoded : Place → Result (List ℕ) DecodeError → Result (List ℕ) DocFault
 decoded p (Ok bytes) = Ok bytes

@@ -1,15 +1,15 @@
 -- The state of a document (own rules): the checks in their order over the value that the document's JSON is
 -- (RFC 8259, the last of equal members); the first that fails is the fault.
 use Rattle.std.specs.Prelude.{ℕ, ◌||◌, ◌==◌, List, length, codes, Bool, true, false, not, nat_lt, if◌then◌else◌, Option, Some, None, Result, Ok, Err}
-use Rattle.std.specs.Str.{bytes_eq, is_utf8}
+use Rattle.std.specs.Str.{bytes_eq}
 use Rattle.serde_json.specs.Data.{Data}
-use Rattle.serde_json.specs.Read.{read}
 use Rattle.wl_entry.specs.declared.bundles.Bundle.{Bundle}
 use Rattle.list_laws.specs.Results.{◌>>=◌}
 use Rattle.wl_entry.specs.declared.limits.TheConstants.{MAX_ENTRIES, MAX_BUNDLES}
-use Rattle.wl_document.specs.Checks.{or_fault}
+use Rattle.json_members.specs.Members.{or_fault, object_at}
+use Rattle.json_members.specs.Texts.{value_of}
 use Rattle.wl_document.specs.Places.{at_top}
-use Rattle.wl_document.specs.Members.{object_at, number_of, domain_of, list_of, list_or_empty}
+use Rattle.wl_document.specs.Members.{number_of, domain_of, list_of, list_or_empty}
 use Rattle.wl_document.specs.Bundles.{bundles_of}
 use Rattle.sorted_lists.specs.Keys.{item_at}
 use Rattle.wl_entry.specs.Keys.{bundle_key}
@@ -18,7 +18,7 @@ use Rattle.wl_document.specs.Svids.{svids_of}
 use Rattle.wl_document.specs.States.{State}
 use Rattle.wl_document.specs.declared.fault.DocFault.{DocFault}
 use Rattle.wl_document.specs.declared.limits.TheConstants.{DOCUMENT_LIMIT, MAX_SVIDS}
-use Rattle.wl_document.specs.declared.fault.DocFault.TheVariants.{NotJson, Version, ForeignDomain, NoOwnBundle, TooLong}
+use Rattle.wl_document.specs.declared.fault.DocFault.TheVariants.{NotJson, Version, Kind, ForeignDomain, NoOwnBundle, TooLong}
 
 unfoldable pub version_of : Data → Result ℕ DocFault
 version_of d = do
@@ -71,7 +71,7 @@ pub record Top : Type 0 where
 
 unfoldable pub top_of : Option (List ℕ) → Data → Result Top DocFault
 top_of own d = do
-  object ← object_at (at_top 0) d
+  object ← object_at (Kind (at_top 0)) d
   version ← version_of d
   domain ← own_domain_of own d
   lists ← lists_of d
@@ -85,10 +85,6 @@ state_of own d = do
   entries ← entries_of top.domain top.version top.entries
   svids ← svids_of top.svids
   Ok (record { domain = top.domain; bundles = bundles; entries = entries; svids = svids })
-
--- the value that is read
-abbrev pub value_of : List ℕ → Option Data
-value_of document = if is_utf8 document then read document else None
 
 -- the state of a document, where an own domain may be given
 unfoldable pub document_state : Option (List ℕ) → List ℕ → Result State DocFault

@@ -10,15 +10,17 @@ use Rattle.wl_entry.specs.declared.limits.TheConstants.{MAX_SELECTORS, MAX_FEDER
 use Rattle.wl_document.specs.declared.limits.TheConstants.{MAX_DNS_NAME_LEN, MAX_TTL, DEFAULT_TTL}
 use Rattle.wl_document.specs.Checks.{no_selector_fault}
 use Rattle.wl_document.specs.Places.{at_entry, item_at}
-use Rattle.wl_document.specs.Arrays.{each_from, at_end, was_given, ascending}
-use Rattle.wl_document.specs.Members.{optional, object_at, text_at, number_at, list_of, list_or_empty, domain_at, id_of, name_of, text_or_empty}
+use Rattle.json_members.specs.Arrays.{each_from, at_end}
+use Rattle.json_members.specs.Members.{optional, object_at, text_at, number_at}
+use Rattle.wl_document.specs.Arrays.{was_given, ascending}
+use Rattle.wl_document.specs.Members.{list_of, list_or_empty, domain_at, id_of, name_of, text_or_empty}
 use Rattle.wl_document.specs.declared.fault.Place.{Place}
 use Rattle.wl_document.specs.declared.fault.DocFault.{DocFault}
 use Rattle.wl_document.specs.declared.fault.DocFault.TheVariants.{Kind, Duplicate, NoSelectors}
 
 -- `type:value` in UTF-8
 unfoldable pub selector_of : Place → ℕ → Data → Result (List ℕ) DocFault
-selector_of p k d = text_at (item_at p k) d >>= λ text. no_selector_fault (item_at p k) text (selector_fault text)
+selector_of p k d = text_at (Kind (item_at p k)) d >>= λ text. no_selector_fault (item_at p k) text (selector_fault text)
 
 unfoldable pub selector_list_of : Place → List Data → Result (List (List ℕ)) DocFault
 selector_list_of p ds = each_from (λ k before d. selector_of p k d) at_end 0 [] ds
@@ -47,7 +49,7 @@ federates_with_of i d = federated_list_of i d >>= federates_of (at_entry i 4)
 -- a text that is not empty, within its limit
 unfoldable pub dns_name_of : Place → ℕ → Data → Result (List ℕ) DocFault
 dns_name_of p k d = do
-  text ← text_at (item_at p k) d
+  text ← text_at (Kind (item_at p k)) d
   if (length text == 0) || nat_lt MAX_DNS_NAME_LEN (length text) then Err (Kind (item_at p k)) else Ok text
 
 unfoldable pub dns_names_of : Place → List Data → Result (List (List ℕ)) DocFault
@@ -60,7 +62,7 @@ dns_names_in i d = list_or_empty MAX_DNS_NAMES (at_entry i 5) (codes "dns_names"
 -- a whole number from 1 to the limit
 unfoldable pub ttl_at : Place → Data → Result ℕ DocFault
 ttl_at p d = do
-  n ← number_at p d
+  n ← number_at (Kind p) d
   if (n == 0) || nat_lt MAX_TTL n then Err (Kind p) else Ok n
 
 -- the default, where it is absent
@@ -89,7 +91,7 @@ extras_of version i d = do
 -- an id that no entry before it has
 unfoldable pub entry_name_of : ℕ → (List ℕ → Bool) → Data → Result (List ℕ) DocFault
 entry_name_of i given d = do
-  object ← object_at (at_entry i 0) d
+  object ← object_at (Kind (at_entry i 0)) d
   id ← name_of (at_entry i 1) (codes "id") d
   if given id then Err (Duplicate (at_entry i 1)) else Ok id
 

@@ -1,67 +1,47 @@
--- A member of an object: whether it has to be there, what kind it is, and what its text or its array may be (own rules).
--- null is no value of any kind. Unknown members are ignored.
-use Rattle.std.specs.Prelude.{ℕ, ◌&&◌, ◌==◌, List, [], length, Bool, not, nat_lt, nat_le, if◌then◌else◌, Option, Some, None, option_and_then, Result, Ok, Err, ⊤}
+-- A member of an object, what its text or its array may be, and the fault at its place (own rules).
+use Rattle.std.specs.Prelude.{ℕ, ◌&&◌, ◌==◌, List, [], length, Bool, not, nat_lt, nat_le, if◌then◌else◌, Result, Ok, Err}
 use Rattle.std.specs.List.{list_all}
 use Rattle.std.specs.Str.{bytes_eq}
 use Rattle.base64.specs.Engines.{standard}
 use Rattle.base64.specs.GeneralPurpose.{decode_of}
 use Rattle.serde_json.specs.Data.{Data}
-use Rattle.serde_json.specs.Find.{get, as_object, as_str, as_number, as_u64, as_array}
+use Rattle.serde_json.specs.Find.{get}
 use Rattle.spiffe_id.specs.Grammar.{is_path_byte}
 use Rattle.spiffe_id.specs.Faults.{domain_fault, id_fault, id_domain}
 use Rattle.list_laws.specs.Results.{◌>>=◌}
 use Rattle.wl_entry.specs.declared.limits.TheConstants.{MAX_ID_LEN}
-use Rattle.wl_document.specs.Checks.{or_fault, decoded, no_id_fault}
-use Rattle.wl_document.specs.Arrays.{list_items}
+use Rattle.json_members.specs.Members.{required, optional, text_at, number_at, array_at}
+use Rattle.wl_document.specs.Checks.{decoded, no_id_fault}
 use Rattle.wl_document.specs.declared.fault.Place.{Place}
 use Rattle.wl_document.specs.declared.fault.DocFault.{DocFault}
 use Rattle.wl_document.specs.declared.fault.DocFault.TheVariants.{Missing, Kind, ForeignDomain, TooMany, TooLong}
 
--- the member of this name, which has to be there
-unfoldable pub required : Place → List ℕ → Data → Result Data DocFault
-required p name d = or_fault (Missing p) (get name d)
-
--- the member, or else x
-abbrev pub optional : {X : Type 0} → (Data → Result X DocFault) → X → Option Data → Result X DocFault
-optional read x None = Ok x
-optional read x (Some v) = read v
-
--- an object
-unfoldable pub object_at : Place → Data → Result ⊤ DocFault
-object_at p d = or_fault (Kind p) (as_object d) >>= λ _. Ok tt
-
 -- a text
-unfoldable pub text_at : Place → Data → Result (List ℕ) DocFault
-text_at p d = or_fault (Kind p) (as_str d)
-
 unfoldable pub text_of : Place → List ℕ → Data → Result (List ℕ) DocFault
-text_of p name d = required p name d >>= text_at p
+text_of p name d = required (Missing p) name d >>= text_at (Kind p)
 
--- a whole number below 2^64, without a fraction, an exponent or a sign
-unfoldable pub number_at : Place → Data → Result ℕ DocFault
-number_at p d = or_fault (Kind p) (option_and_then as_u64 (as_number d))
-
+-- a whole number below 2^64
 unfoldable pub number_of : Place → List ℕ → Data → Result ℕ DocFault
-number_of p name d = required p name d >>= number_at p
+number_of p name d = required (Missing p) name d >>= number_at (Kind p)
 
 -- an array of at most n items
 unfoldable pub list_at : ℕ → Place → Data → Result (List Data) DocFault
 list_at n p d = do
-  items ← or_fault (Kind p) (as_array d)
-  if nat_lt n (length (list_items items)) then Err (TooMany p (length (list_items items))) else Ok (list_items items)
+  items ← array_at (Kind p) d
+  if nat_lt n (length items) then Err (TooMany p (length items)) else Ok items
 
 unfoldable pub list_of : ℕ → Place → List ℕ → Data → Result (List Data) DocFault
-list_of n p name d = required p name d >>= list_at n p
+list_of n p name d = required (Missing p) name d >>= list_at n p
 
 unfoldable pub list_or_empty : ℕ → Place → List ℕ → Data → Result (List Data) DocFault
 list_or_empty n p name d = optional (list_at n p) [] (get name d)
 
 -- the name of a trust domain (SPIFFE-ID, section 2.1)
 unfoldable pub domain_at : Place → Data → Result (List ℕ) DocFault
-domain_at p d = text_at p d >>= λ text. no_id_fault p text (domain_fault 0 text)
+domain_at p d = text_at (Kind p) d >>= λ text. no_id_fault p text (domain_fault 0 text)
 
 unfoldable pub domain_of : Place → List ℕ → Data → Result (List ℕ) DocFault
-domain_of p name d = required p name d >>= domain_at p
+domain_of p name d = required (Missing p) name d >>= domain_at p
 
 -- a SPIFFE ID (SPIFFE-ID, section 2) of the own domain
 unfoldable pub id_of : List ℕ → Place → List ℕ → Data → Result (List ℕ) DocFault
@@ -81,10 +61,10 @@ name_of p name d = do
 
 -- bytes in standard padded base64 (RFC 4648, section 4)
 unfoldable pub base64_at : Place → Data → Result (List ℕ) DocFault
-base64_at p d = text_at p d >>= λ text. decoded p (decode_of standard text)
+base64_at p d = text_at (Kind p) d >>= λ text. decoded p (decode_of standard text)
 
 unfoldable pub base64_of : Place → List ℕ → Data → Result (List ℕ) DocFault
-base64_of p name d = required p name d >>= base64_at p
+base64_of p name d = required (Missing p) name d >>= base64_at p
 
 -- at most n bytes
 unfoldable pub at_most : ℕ → Place → List ℕ → Result (List ℕ) DocFault
@@ -92,7 +72,7 @@ at_most n p bytes = if nat_lt n (length bytes) then Err (TooLong p (length bytes
 
 -- a text of at most n bytes, empty where it is absent
 unfoldable pub text_within : ℕ → Place → Data → Result (List ℕ) DocFault
-text_within n p d = text_at p d >>= at_most n p
+text_within n p d = text_at (Kind p) d >>= at_most n p
 
 unfoldable pub text_or_empty : ℕ → Place → List ℕ → Data → Result (List ℕ) DocFault
 text_or_empty n p name d = optional (text_within n p) [] (get name d)

@@ -3,16 +3,18 @@ use Rattle.std.specs.Prelude.{ℕ, List, [], codes, Bool, if◌then◌else◌, R
 use Rattle.serde_json.specs.Data.{Data}
 use Rattle.list_laws.specs.Results.{◌>>=◌}
 use Rattle.wl_document.specs.Places.{at_svid}
-use Rattle.wl_document.specs.Arrays.{each_from, at_end, was_given, ascending}
-use Rattle.wl_document.specs.Members.{object_at, number_of, name_of, base64_of}
+use Rattle.json_members.specs.Arrays.{each_from, at_end}
+use Rattle.json_members.specs.Members.{object_at}
+use Rattle.wl_document.specs.Arrays.{was_given, ascending}
+use Rattle.wl_document.specs.Members.{number_of, name_of, base64_of}
 use Rattle.wl_document.specs.declared.fault.DocFault.{DocFault}
-use Rattle.wl_document.specs.declared.fault.DocFault.TheVariants.{Duplicate}
+use Rattle.wl_document.specs.declared.fault.DocFault.TheVariants.{Kind, Duplicate}
 use Rattle.wl_document.specs.declared.state.DocSvid.{DocSvid}
 
 -- an entry's id that no signed identity before it has
 unfoldable pub svid_name_of : ℕ → (List ℕ → Bool) → Data → Result (List ℕ) DocFault
 svid_name_of i given d = do
-  object ← object_at (at_svid i 0) d
+  object ← object_at (Kind (at_svid i 0)) d
   id ← name_of (at_svid i 1) (codes "entry") d
   if given id then Err (Duplicate (at_svid i 1)) else Ok id
 

@@ -5,7 +5,7 @@ use Rattle.serde_json.specs.Data.{Data}
 use Rattle.wl_entry.specs.declared.bundles.Bundle.{Bundle}
 use Rattle.wl_entry.specs.declared.entries.Entry.{Entry}
 use Rattle.list_laws.specs.Results.{◌>>=◌}
-use Rattle.wl_document.specs.Arrays.{each_from}
+use Rattle.json_members.specs.Arrays.{each_from}
 use Rattle.wl_document.specs.Bundles.{bundle_of}
 use Rattle.wl_document.specs.Entries.{entry_of}
 use Rattle.wl_document.specs.Svids.{svid_of}

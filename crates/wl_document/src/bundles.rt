@@ -10,8 +10,8 @@ ghost use Rattle.wl_document.specs.Walks.{kept_bundles};
 
 use crate::fault::{DocFault, Place};
 use crate::kept::{add, given};
-use crate::members::object_at;
 use crate::names::{at_most, base64_at, domain_of, text_or_empty};
+use json_members::object_at;
 use serde_json::Value;
 use spiffe_id::TrustDomain;
 use std::alloc::Global;
@@ -44,7 +44,7 @@ fn x509(alloc: Global, place: Place, value: &Value) -> Result<Octets, DocFault>
 fn bundle_name(alloc: Global, index: u32, value: &Value) -> Result<TrustDomain, DocFault>
     ensures { Gives (λ d. d) result (bundle_name_of index (view value.now)) }
 {
-    object_at(Place::bundle(index, 0), value)?;
+    object_at(DocFault::Kind(Place::bundle(index, 0)), value)?;
     domain_of(alloc, Place::bundle(index, 1), "trust_domain", value)
 }
 

@@ -12,8 +12,9 @@ use crate::fault::{DocFault, Place};
 use crate::kept::{add, given};
 use crate::limits::{DEFAULT_TTL, MAX_TTL};
 use crate::lists::{dns_names, federates, selectors};
-use crate::members::{list_of, list_or_empty, number_at, object_at};
+use crate::members::{list_of, list_or_empty};
 use crate::names::{id_of, name_of, text_or_empty};
+use json_members::{number_at, object_at};
 use serde_json::Value;
 use spiffe_id::TrustDomain;
 use std::alloc::Global;
@@ -83,7 +84,7 @@ fn dns_names_in(alloc: Global, index: u32, value: &Value) -> Result<Row<Octets>,
 fn ttl_at(place: Place, value: &Value) -> Result<u32, DocFault>
     ensures { Gives (λ n. n) result (ttl_at place (view value.now)) }
 {
-    let ttl = number_at(place, value)?;
+    let ttl = number_at(DocFault::Kind(place), value)?;
     if ttl == 0 || ttl > MAX_TTL {
         return Err(DocFault::Kind(place));
     }
@@ -154,7 +155,7 @@ fn entry_name(
 ) -> Result<Octets, DocFault>
     ensures { Gives (λ o. o) result (entry_name_of index (kept_has before.now.entries) (view value.now)) }
 {
-    object_at(Place::entry(index, 0), value)?;
+    object_at(DocFault::Kind(Place::entry(index, 0)), value)?;
     let place = Place::entry(index, 1);
     let id = name_of(alloc, place, "id", value)?;
     if given(before, &id) {

@@ -8,8 +8,8 @@ ghost use Rattle.wl_document.specs.Entries.{selector_of, selector_list_of, feder
 
 use crate::fault::{DocFault, Place};
 use crate::limits::MAX_DNS_NAME_LEN;
-use crate::members::text_at;
 use crate::names::domain_at;
+use json_members::text_at;
 use serde_json::Value;
 use spiffe_id::TrustDomain;
 use std::alloc::Global;
@@ -32,7 +32,7 @@ fn selector(alloc: Global, place: Place, index: u32, value: &Value) -> Result<Se
     ensures { Gives (λ s. s) result (selector_of place index (view value.now)) }
 {
     let place = place.item(index);
-    match Selector::parse(alloc, text_at(place, value)?.as_bytes()) {
+    match Selector::parse(alloc, text_at(DocFault::Kind(place), value)?.as_bytes()) {
         Ok(selector) => Ok(selector),
         Err(fault) => Err(selector_fault_at(place, fault)),
     }
@@ -96,7 +96,7 @@ fn dns_name(alloc: Global, place: Place, index: u32, value: &Value) -> Result<Oc
     ensures { Gives (λ o. o) result (dns_name_of place index (view value.now)) }
 {
     let place = place.item(index);
-    let text = text_at(place, value)?.as_bytes();
+    let text = text_at(DocFault::Kind(place), value)?.as_bytes();
     if text.is_empty() || text.len() > MAX_DNS_NAME_LEN {
         return Err(DocFault::Kind(place));
     }

@@ -1,67 +1,23 @@
-//! The members of an object: whether one has to be there, and what kind it is.
+//! Members of an object, and their faults at their place.
 
 ghost use Rattle.std.specs.Prelude.{◌≡◌, ℕ, ◌≤◌, length, map, IfOk};
 ghost use Rattle.serde_json.specs.View.{view};
 ghost use Rattle.wl_document.specs.Checks.{Gives};
-ghost use Rattle.wl_document.specs.Members.{required, object_at, text_at, text_of, number_at, number_of, list_at, list_of, list_or_empty};
+ghost use Rattle.wl_document.specs.Members.{text_of, number_of, list_at, list_of, list_or_empty};
 
 use crate::fault::{DocFault, Place};
+use json_members::{array_at, number_at, required, text_at};
 use serde_json::Value;
-
-/// The member of this name, which has to be there.
-#[tactic(auto, unfolding(crate::specs::Members::required))]
-pub(crate) fn required<'a>(
-    place: Place,
-    name: &str,
-    value: &'a Value,
-) -> Result<&'a Value, DocFault>
-    ensures { Gives (λ v. view v.now) result (required place name.now (view value.now)) }
-{
-    match value.get(name) {
-        Some(member) => Ok(member),
-        None => Err(DocFault::Missing(place)),
-    }
-}
-
-/// An object.
-#[tactic(auto, unfolding(crate::specs::Members::object_at))]
-pub(crate) fn object_at(place: Place, value: &Value) -> Result<(), DocFault>
-    ensures { Gives (λ x. x) result (object_at place (view value.now)) }
-{
-    match value.as_object() {
-        Some(_) => Ok(()),
-        None => Err(DocFault::Kind(place)),
-    }
-}
-
-/// A text.
-#[tactic(auto, unfolding(crate::specs::Members::text_at))]
-pub(crate) fn text_at(place: Place, value: &Value) -> Result<&str, DocFault>
-    ensures { Gives (λ s. s.now) result (text_at place (view value.now)) }
-{
-    match value.as_str() {
-        Some(text) => Ok(text),
-        None => Err(DocFault::Kind(place)),
-    }
-}
 
 /// A text that has to be there.
 #[tactic(auto, unfolding(crate::specs::Members::text_of))]
 pub(crate) fn text_of<'a>(place: Place, name: &str, value: &'a Value) -> Result<&'a str, DocFault>
     ensures { Gives (λ s. s.now) result (text_of place name.now (view value.now)) }
 {
-    text_at(place, required(place, name, value)?)
-}
-
-/// A whole number below 2^64.
-#[tactic(auto, unfolding(crate::specs::Members::number_at))]
-pub(crate) fn number_at(place: Place, value: &Value) -> Result<u64, DocFault>
-    ensures { Gives (λ n. n) result (number_at place (view value.now)) }
-{
-    match value.as_u64() {
-        Some(number) => Ok(number),
-        None => Err(DocFault::Kind(place)),
-    }
+    text_at(
+        DocFault::Kind(place),
+        required(DocFault::Missing(place), name, value)?,
+    )
 }
 
 /// A whole number that has to be there.
@@ -69,7 +25,10 @@ pub(crate) fn number_at(place: Place, value: &Value) -> Result<u64, DocFault>
 pub(crate) fn number_of(place: Place, name: &str, value: &Value) -> Result<u64, DocFault>
     ensures { Gives (λ n. n) result (number_of place name.now (view value.now)) }
 {
-    number_at(place, required(place, name, value)?)
+    number_at(
+        DocFault::Kind(place),
+        required(DocFault::Missing(place), name, value)?,
+    )
 }
 
 /// An array of at most so many items.
@@ -78,10 +37,7 @@ pub(crate) fn list_at(limit: usize, place: Place, value: &Value) -> Result<&[Val
     ensures value { Gives (λ v. map view v.now) result (list_at limit place (view value.now)) }
     ensures few { IfOk result (λ v. length v.now ≤ limit) }
 {
-    let items = match value.as_array() {
-        Some(items) => items.as_slice(),
-        None => return Err(DocFault::Kind(place)),
-    };
+    let items = array_at(DocFault::Kind(place), value)?;
     if items.len() > limit {
         return Err(DocFault::TooMany(place, items.len()));
     }
@@ -99,7 +55,11 @@ pub(crate) fn list_of<'a>(
     ensures value { Gives (λ v. map view v.now) result (list_of limit place name.now (view value.now)) }
     ensures few { IfOk result (λ v. length v.now ≤ limit) }
 {
-    list_at(limit, place, required(place, name, value)?)
+    list_at(
+        limit,
+        place,
+        required(DocFault::Missing(place), name, value)?,
+    )
 }
 
 /// An array of at most so many items, empty where it is absent.

@@ -10,9 +10,10 @@ ghost use Rattle.wl_document.specs.Checks.{Gives, id_fault_at, no_id_fault};
 ghost use Rattle.wl_document.specs.Members.{domain_at, domain_of, id_of, is_name, name_of, base64_at, base64_of, at_most, text_within, text_or_empty};
 
 use crate::fault::{DocFault, Place};
-use crate::members::{required, text_at, text_of};
+use crate::members::text_of;
 use base64::DecodeAllocError;
 use base64::engine::general_purpose::STANDARD;
+use json_members::{required, text_at};
 use serde_json::Value;
 use spiffe_id::{IdFault, SpiffeId, TrustDomain};
 use std::alloc::Global;
@@ -34,7 +35,7 @@ fn fault_at(place: Place, fault: IdFault) -> DocFault
 pub(crate) fn domain_at(alloc: Global, place: Place, value: &Value) -> Result<TrustDomain, DocFault>
     ensures { Gives (λ d. d) result (domain_at place (view value.now)) }
 {
-    match TrustDomain::parse(alloc, text_at(place, value)?.as_bytes()) {
+    match TrustDomain::parse(alloc, text_at(DocFault::Kind(place), value)?.as_bytes()) {
         Ok(domain) => Ok(domain),
         Err(fault) => Err(fault_at(place, fault)),
     }
@@ -50,7 +51,11 @@ pub(crate) fn domain_of(
 ) -> Result<TrustDomain, DocFault>
     ensures { Gives (λ d. d) result (domain_of place name.now (view value.now)) }
 {
-    domain_at(alloc, place, required(place, name, value)?)
+    domain_at(
+        alloc,
+        place,
+        required(DocFault::Missing(place), name, value)?,
+    )
 }
 
 /// Whether these are the same bytes.
@@ -133,7 +138,7 @@ pub(crate) fn name_of(
 pub(crate) fn base64_at(alloc: Global, place: Place, value: &Value) -> Result<Octets, DocFault>
     ensures { Gives (λ o. o) result (base64_at place (view value.now)) }
 {
-    match STANDARD.decode(alloc, text_at(place, value)?.as_bytes()) {
+    match STANDARD.decode(alloc, text_at(DocFault::Kind(place), value)?.as_bytes()) {
         Ok(bytes) => Ok(Octets::from_vec(bytes)),
         Err(DecodeAllocError::OutOfMemory) => Err(DocFault::Memory),
         Err(DecodeAllocError::DecodeError(_)) => Err(DocFault::Base64(place)),
@@ -150,7 +155,11 @@ pub(crate) fn base64_of(
 ) -> Result<Octets, DocFault>
     ensures { Gives (λ o. o) result (base64_of place name.now (view value.now)) }
 {
-    base64_at(alloc, place, required(place, name, value)?)
+    base64_at(
+        alloc,
+        place,
+        required(DocFault::Missing(place), name, value)?,
+    )
 }
 
 /// The same bytes, where there are at most so many.
@@ -171,7 +180,7 @@ pub(crate) fn at_most(limit: usize, place: Place, bytes: Octets) -> Result<Octet
 fn text_within(alloc: Global, limit: usize, place: Place, value: &Value) -> Result<Octets, DocFault>
     ensures { Gives (λ o. o) result (text_within limit place (view value.now)) }
 {
-    let text = text_at(place, value)?.as_bytes();
+    let text = text_at(DocFault::Kind(place), value)?.as_bytes();
     if text.len() > limit {
         Err(DocFault::TooLong(place, text.len()))
     } else {

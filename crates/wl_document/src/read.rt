@@ -6,14 +6,16 @@ ghost use Rattle.std.specs.Option.{option_copied};
 ghost use Rattle.serde_json.specs.View.{view};
 ghost use Rattle.wl_entry.specs.declared.limits.TheConstants.{MAX_ENTRIES, MAX_BUNDLES};
 ghost use Rattle.wl_document.specs.declared.limits.TheConstants.{MAX_SVIDS};
-ghost use Rattle.wl_document.specs.Checks.{Gives, or_fault};
+ghost use Rattle.json_members.specs.Members.{or_fault};
+ghost use Rattle.json_members.specs.Texts.{value_of};
+ghost use Rattle.wl_document.specs.Checks.{Gives};
 ghost use Rattle.wl_entry.specs.Limits.{EntryWithin, BundleWithin};
 ghost use Rattle.wl_document.specs.Kept.{kept_at, KeptWithin};
 ghost use Rattle.wl_entry.specs.Keys.{bundle_key, entry_key};
 ghost use Rattle.wl_document.specs.Svids.{doc_svid_key};
 ghost use Rattle.wl_document.specs.States.{SvidWithin};
 ghost use Rattle.wl_document.specs.Walks.{kept_own_bundles, kept_state};
-ghost use Rattle.wl_document.specs.Documents.{has_x509, state_of, value_of, document_state};
+ghost use Rattle.wl_document.specs.Documents.{has_x509, state_of, document_state};
 ghost use Rattle.wl_document.specs.declared.fault.DocFault.TheVariants.{Memory, NotJson};
 
 use crate::bundles::bundles;
@@ -24,6 +26,7 @@ use crate::limits::DOCUMENT_LIMIT;
 use crate::state::{AuthorityState, DocSvid};
 use crate::svids::svids;
 use crate::top::head_of;
+use json_members::json_value;
 use serde_json::Value;
 use spiffe_id::TrustDomain;
 use std::alloc::Global;
@@ -64,15 +67,9 @@ fn own_bundles(
 fn value(alloc: Global, document: &[u8]) -> Result<Value, DocFault>
     ensures { Gives view result (or_fault NotJson (value_of document.now)) }
 {
-    match Value::from_slice(alloc, document) {
-        Ok(value) => Ok(value),
-        Err(fault) => {
-            if fault.is_memory() {
-                Err(DocFault::Memory)
-            } else {
-                Err(DocFault::NotJson)
-            }
-        }
+    match json_value(alloc, document)? {
+        Some(value) => Ok(value),
+        None => Err(DocFault::NotJson),
     }
 }
 

@@ -10,9 +10,10 @@ ghost use Rattle.wl_document.specs.Walks.{kept_svids};
 
 use crate::fault::{DocFault, Place};
 use crate::kept::{add, given};
-use crate::members::{number_of, object_at};
+use crate::members::number_of;
 use crate::names::{base64_of, name_of};
 use crate::state::DocSvid;
+use json_members::object_at;
 use serde_json::Value;
 use std::alloc::Global;
 use std::collections::BTreeMap;
@@ -29,7 +30,7 @@ fn svid_name(
 ) -> Result<Octets, DocFault>
     ensures { Gives (λ o. o) result (svid_name_of index (kept_has before.now.entries) (view value.now)) }
 {
-    object_at(Place::svid(index, 0), value)?;
+    object_at(DocFault::Kind(Place::svid(index, 0)), value)?;
     let place = Place::svid(index, 1);
     let id = name_of(alloc, place, "entry", value)?;
     if given(before, &id) {

@@ -10,8 +10,9 @@ ghost use Rattle.wl_document.specs.Documents.{version_of, is_own, top_domain_of,
 
 use crate::fault::{DocFault, Place};
 use crate::limits::MAX_SVIDS;
-use crate::members::{list_of, list_or_empty, number_of, object_at};
+use crate::members::{list_of, list_or_empty, number_of};
 use crate::names::{domain_of, same_bytes};
+use json_members::object_at;
 use serde_json::Value;
 use spiffe_id::TrustDomain;
 use std::alloc::Global;
@@ -121,7 +122,7 @@ pub(crate) fn head_of<'a>(
     ensures entries { IfOk result (λ h. length h.arrays.entries.now ≤ MAX_ENTRIES) }
     ensures svids { IfOk result (λ h. length h.arrays.svids.now ≤ MAX_SVIDS) }
 {
-    object_at(Place::top(0), value)?;
+    object_at(DocFault::Kind(Place::top(0)), value)?;
     let version = version(value)?;
     let domain = own_domain(alloc, own, value)?;
     let arrays = arrays_of(value)?;

@@ -1,4 +1,4 @@
--- Bytes as text, and a line as JSON.
+-- Bytes as text.
 use Rattle.std.proofs.Common.{◌≡◌, ◌<◌, ℕ, List, Bool, true, false, length, get_or, Some, None, Result, Ok, Err, if◌then◌else◌, refl, sym, ◌∙◌, ap, true≢false, map, ◌∷◌, []}
 use Rattle.std.specs.Prelude.{MatchResult}
 use Rattle.std.proofs.lemmas.Bool.{false_from_ne_true}
@@ -7,13 +7,9 @@ use Rattle.std.specs.Result.{is_ok}
 use Rattle.std.specs.Str.{is_utf8, IsUtf8}
 use Rattle.std.proofs.lemmas.Str.{is_utf8-from_IsUtf8, IsUtf8-from_is_utf8}
 use Rattle.std.proofs.lemmas.List.Folds.{list_all_at}
-use Rattle.serde_json.specs.Data.{Data, string}
+use Rattle.serde_json.specs.Data.{string}
 use Rattle.serde_json.specs.View.{items_of}
 use Rattle.serde_json.specs.Written.{items_have_float}
-use Rattle.serde_json.specs.Read.{read}
-use Rattle.wl_document.specs.Documents.{value_of}
-use Rattle.wl_signlink.specs.Replies.{or_wrong}
-use Rattle.wl_signlink.specs.declared.fault.LineFault.TheVariants.{Wrong}
 
 -- what reading bytes as UTF-8 tells
 pub told : {X E : Type 0} (bytes : List ℕ) (P : X → Type 0) (Q : E → Type 0) (r : Result X E) → MatchResult r (λ x. P x × IsUtf8 bytes) (λ e. (IsUtf8 bytes → ⊥) × Q e) → is_ok r ≡ is_utf8 bytes
@@ -32,13 +28,3 @@ text_at list i d all within = by (is_utf8 (get_or list i d)) refl
 pub no_floats : (list : List (List ℕ)) → items_have_float (items_of (map string list)) ≡ false
 no_floats [] = refl
 no_floats (t ∷ ts) = no_floats ts
-
-pub value_read : (line : List ℕ) (d : Data) → IsUtf8 line → read line ≡ Some d → or_wrong (value_of line) ≡ Ok d
-value_read line d text is = ap (λ b. or_wrong (if b then read line else None)) (is_utf8-from_IsUtf8 line text) ∙ ap or_wrong is
-
-pub value_refused : (line : List ℕ) → (IsUtf8 line → read line ≡ None) → or_wrong (value_of line) ≡ Err Wrong
-value_refused line none = by (is_utf8 line) refl
-  where
-    by : (b : Bool) → is_utf8 line ≡ b → or_wrong (value_of line) ≡ Err Wrong
-    by true h = ap (λ c. or_wrong (if c then read line else None)) h ∙ ap or_wrong (none (IsUtf8-from_is_utf8 line h))
-    by false h = ap (λ c. or_wrong (if c then read line else None)) h

@@ -7,7 +7,7 @@ use Rattle.base64.specs.GeneralPurpose.{decode_of}
 use Rattle.serde_json.specs.Data.{Data}
 use Rattle.serde_json.specs.Find.{get, as_str, as_number, as_u64}
 use Rattle.list_laws.specs.Results.{◌>>=◌}
-use Rattle.wl_document.specs.Documents.{value_of}
+use Rattle.json_members.specs.Texts.{value_of}
 use Rattle.wl_entry.specs.declared.signing.Signed.{Signed}
 use Rattle.wl_entry.specs.declared.tokens.JwtToken.{JwtToken}
 use Rattle.wl_signlink.specs.declared.fault.LineFault.{LineFault}

@@ -2,13 +2,14 @@
 
 ghost use Rattle.std.specs.Prelude.{◌≡◌};
 ghost use Rattle.serde_json.specs.View.{view};
-ghost use Rattle.wl_document.specs.Documents.{value_of};
+ghost use Rattle.json_members.specs.Texts.{value_of};
 ghost use Rattle.wl_signlink.specs.Replies.{Gives, or_wrong, member_of, text_of, bytes_of, number_of, value_in, is_reply_to, reply_in, signed_in, token_in, signed_of, token_of};
 
 use crate::fault::LineFault;
 use crate::limits::REPLY_LIMIT;
 use base64::DecodeAllocError;
 use base64::engine::general_purpose::STANDARD;
+use json_members::json_value;
 use serde_json::Value;
 use std::alloc::Global;
 use wl_entry::{JwtToken, Signed};
@@ -63,15 +64,9 @@ fn number_of(name: &str, reply: &Value) -> Result<u64, LineFault>
 fn json_of(alloc: Global, line: &[u8]) -> Result<Value, LineFault>
     ensures { Gives view result (or_wrong (value_of line.now)) }
 {
-    match Value::from_slice(alloc, line) {
-        Ok(value) => Ok(value),
-        Err(fault) => {
-            if fault.is_memory() {
-                Err(LineFault::Memory)
-            } else {
-                Err(LineFault::Wrong)
-            }
-        }
+    match json_value(alloc, line)? {
+        Some(value) => Ok(value),
+        None => Err(LineFault::Wrong),
     }
 }
 

@@ -1,7 +1,9 @@
 use Rattle.std.proofs.Common.{arith, sym, ◌∙◌, refl, [], ◌∷◌, length-append}
 use Rattle.std.proofs.lemmas.Result.{err_from_is_err_and}
 use Rattle.wl_config.specs.Sockets.{selector_of, selector_list_of}
-use Rattle.wl_config.proofs.Walks.{each_more, each_faults, each_end}
+use Rattle.json_members.specs.Arrays.{at_end}
+use Rattle.json_members.proofs.Walks.{each_more, each_end}
+use Rattle.wl_config.proofs.Walks.{each_faults}
 use Rattle.wl_config.proofs.selectors.selector_list.Goals as goal
 
 pub returns-in_err-item-clause-value : goal.returns-in_err-item-clause-value
@@ -9,20 +11,21 @@ unfolding selector_list_of
 returns-in_err-item-clause-value c =
     let p = err_from_is_err_and c.from_residual.result c.from_residual.ensures.1 in
     let fault = rw c.value-item.is at c.in_err-item.ensures in
-    rw (p.1, p.2) (each_faults (λ k before d. selector_of c.args.place k d) c.args.values.now c.loop-value.index c.loop-value.value-index c.value-item.result c.loop-value.done.items _ _ (omega arith) c.loop-value.invariant.so_far fault)
+    rw (p.1, p.2) (each_faults (λ k before d. selector_of c.args.place k d) at_end c.args.values.now c.loop-value.index c.loop-value.value-index c.value-item.result c.loop-value.done.items _ _ (omega arith) c.loop-value.invariant.0.so_far fault)
 
 pub loop-value-preserved : goal.loop-value-preserved
 loop-value-preserved c =
-    let ok = rw c.value-item.is at c.in_ok-item.ensures in
-    record {
-      counted = omega (arith, c.loop-value.invariant.counted);
-      as_many = rw c.in_ok-push.ensures.items (omega (arith, length-append c.loop-value.done.items (c.in_ok-item.item ∷ []), c.loop-value.invariant.as_many));
-      so_far = rw c.in_ok-push.ensures.items (sym (each_more (λ k before d. selector_of c.args.place k d) c.args.values.now c.loop-value.index c.loop-value.value-index c.value-item.result c.loop-value.done.items _ (omega arith) ok) ∙ c.loop-value.invariant.so_far);
-    }
+    let ok = rw c.value-item.is at c.in_ok-item.ensures in (
+      record {
+        counted = omega (arith, c.loop-value.invariant.0.counted);
+        so_far = rw c.in_ok-push.ensures.items (sym (each_more (λ k before d. selector_of c.args.place k d) at_end c.args.values.now c.loop-value.index c.loop-value.value-index c.value-item.result c.loop-value.done.items _ (omega arith) ok) ∙ c.loop-value.invariant.0.so_far);
+      },
+      rw c.in_ok-push.ensures.items (omega (arith, length-append c.loop-value.done.items (c.in_ok-item.item ∷ []), c.loop-value.invariant.1)),
+    )
 
 pub returns-clause-value : goal.returns-clause-value
 unfolding selector_list_of
-returns-clause-value c = sym c.loop-value.invariant.so_far ∙ each_end (λ k before d. selector_of c.args.place k d) c.args.values.now c.loop-value.index c.loop-value.value-index c.loop-value.done.items (omega arith)
+returns-clause-value c = sym c.loop-value.invariant.0.so_far ∙ each_end (λ k before d. selector_of c.args.place k d) at_end c.args.values.now c.loop-value.index c.loop-value.value-index c.loop-value.done.items (omega arith)
 
 pub loop-value-init : goal.loop-value-init
-loop-value-init c = rw c.new-done.ensures.items (record { counted = refl; as_many = refl; so_far = refl })
+loop-value-init c = rw c.new-done.ensures.items (record { counted = refl; so_far = refl }, refl)

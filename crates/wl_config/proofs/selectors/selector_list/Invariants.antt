@@ -1,6 +1,8 @@
-use Rattle.wl_config.proofs.Walks.{Reached}
+use Rattle.std.proofs.Common.{◌≡◌, [], length}
+use Rattle.json_members.specs.Arrays.{at_end}
+use Rattle.json_members.proofs.Walks.{Reached}
 use Rattle.wl_config.specs.Sockets.{selector_of}
 use Rattle.wl_config.proofs.selectors.selector_list.Given as goal
 
 abbrev pub invariant-loop-value : goal.invariant-loop-value
-invariant-loop-value l = Reached (λ k before d. selector_of l.place k d) l.values l.index l.value-index l.done.items
+invariant-loop-value l = Reached (λ k before d. selector_of l.place k d) at_end [] l.values l.index l.value-index l.done.items × (length l.done.items ≡ l.value-index)

@@ -1,7 +1,8 @@
 use Rattle.std.proofs.Common.{arith, sym, ◌∙◌, refl}
 use Rattle.std.proofs.lemmas.Result.{err_from_is_err_and}
 use Rattle.wl_document.specs.Walks.{bundle_beside, put_bundle, kept_bundles}
-use Rattle.wl_document.proofs.Walks.{each_more, each_faults, each_end}
+use Rattle.json_members.proofs.Walks.{each_more, each_end}
+use Rattle.wl_document.proofs.Walks.{each_faults}
 use Rattle.wl_document.proofs.bundles.bundles.Goals as goal
 
 pub returns-in_err-bundle : goal.returns-in_err-bundle

@@ -1,5 +1,5 @@
 use Rattle.std.proofs.Common.{[]}
-use Rattle.wl_document.proofs.Walks.{Reached}
+use Rattle.json_members.proofs.Walks.{Reached}
 use Rattle.wl_document.specs.Walks.{bundle_beside, put_bundle}
 use Rattle.wl_document.proofs.bundles.bundles.Given as goal
 

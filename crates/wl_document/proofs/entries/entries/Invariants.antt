@@ -1,5 +1,5 @@
 use Rattle.std.proofs.Common.{[]}
-use Rattle.wl_document.proofs.Walks.{Reached}
+use Rattle.json_members.proofs.Walks.{Reached}
 use Rattle.wl_document.specs.Walks.{entry_beside, put_entry}
 use Rattle.wl_document.proofs.entries.entries.Given as goal
 

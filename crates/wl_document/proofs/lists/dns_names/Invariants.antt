@@ -1,6 +1,6 @@
 use Rattle.std.proofs.Common.{[]}
-use Rattle.wl_document.proofs.Walks.{Reached}
-use Rattle.wl_document.specs.Arrays.{at_end}
+use Rattle.json_members.proofs.Walks.{Reached}
+use Rattle.json_members.specs.Arrays.{at_end}
 use Rattle.wl_document.specs.Entries.{dns_name_of}
 use Rattle.wl_document.proofs.lists.dns_names.Given as goal
 

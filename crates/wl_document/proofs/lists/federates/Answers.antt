@@ -1,8 +1,9 @@
 use Rattle.std.proofs.Common.{arith, sym, ◌∙◌, refl}
 use Rattle.std.proofs.lemmas.Result.{err_from_is_err_and}
-use Rattle.wl_document.specs.Arrays.{at_end}
+use Rattle.json_members.specs.Arrays.{at_end}
 use Rattle.wl_document.specs.Entries.{federated_of, federates_of}
-use Rattle.wl_document.proofs.Walks.{each_more, each_faults, each_end}
+use Rattle.json_members.proofs.Walks.{each_more, each_end}
+use Rattle.wl_document.proofs.Walks.{each_faults}
 use Rattle.wl_document.proofs.lists.federates.Goals as goal
 
 pub returns-in_err-item : goal.returns-in_err-item

@@ -1,6 +1,6 @@
 use Rattle.std.proofs.Common.{[], ◌≤◌, length}
-use Rattle.wl_document.proofs.Walks.{Reached}
-use Rattle.wl_document.specs.Arrays.{at_end}
+use Rattle.json_members.proofs.Walks.{Reached}
+use Rattle.json_members.specs.Arrays.{at_end}
 use Rattle.wl_document.specs.Entries.{selector_of}
 use Rattle.wl_document.proofs.lists.selectors.Given as goal
 

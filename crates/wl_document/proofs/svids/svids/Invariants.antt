@@ -1,5 +1,5 @@
 use Rattle.std.proofs.Common.{[]}
-use Rattle.wl_document.proofs.Walks.{Reached}
+use Rattle.json_members.proofs.Walks.{Reached}
 use Rattle.wl_document.specs.Walks.{svid_beside, put_svid}
 use Rattle.wl_document.proofs.svids.svids.Given as goal
 

@@ -1,0 +1,3 @@
+mod Items
+mod Bytes
+pub mod Walks

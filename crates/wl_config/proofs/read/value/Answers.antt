@@ -1,9 +1,0 @@
-use Rattle.std.proofs.Common.{sym, ◌∙◌, true≢false}
-use Rattle.wl_config.proofs.Texts.{value_read, value_refused}
-use Rattle.wl_config.proofs.read.value.Goals as goal
-
-pub returns-in-Ok : goal.returns-in-Ok
-returns-in-Ok c = value_read _ _ c.in-Ok.ensures.ok.0 c.in-Ok.ensures.ok.1
-
-pub returns-else-is_memory : goal.returns-else-is_memory
-returns-else-is_memory c = value_refused _ (c.in-Err.ensures.err (λ m. absurd (true≢false (sym (c.is_memory.ensures.1 m) ∙ c.if-is_memory.false))))
