@@ -15,6 +15,10 @@ FUNCTION_LINES = 40
 # functions that are one table or one match, and one that starts all threads
 LONG_FUNCTIONS = {"h2_frame body", "hpack static_name", "wl_core step", "wl_serve serve_all"}
 PROGRAMS = ["agentd", "wlctl", "wlexplain"]
+# words of pages that an English reader stumbles over; "behind" may be said of sockets alone
+STRUCK = r"\b(?:is told|are told|want of memory|lives through|as fit|but for|of which it is known|behind(?! (?:a|three) (?:Unix )?sockets?| a signer))\b"
+# pages that list what was said and decided in their time
+OLD_PAGES = {"CHANGELOG.md", "docs/DECISIONS.md"}
 faults = []
 
 
@@ -123,6 +127,9 @@ def check_pages(files):
         for link in re.findall(r"\]\(([^)#\s]+)[^)]*\)", text):
             if "://" not in link and not (path.parent / link).exists():
                 fault(f"{path.relative_to(TOP)}: its link {link} leads nowhere")
+        if str(path.relative_to(TOP)) not in OLD_PAGES:
+            for word in re.findall(STRUCK, text, flags=re.I):
+                fault(f"{path.relative_to(TOP)}: plain English has no {word!r}")
 
 
 def contract(text, name):
