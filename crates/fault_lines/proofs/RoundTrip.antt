@@ -1,42 +1,32 @@
 -- Numbers as they are written are read back.
-use Rattle.std.specs.Prelude.{◌≡◌, ℕ, ◌+◌, ◌*◌, ◌-◌, ◌/◌, ◌%◌, ◌^◌, ◌<◌, ◌≤◌, ◌==◌, ◌&&◌, nat_lt, Bool, true, false, cond, List, [], ◌∷◌, ◌++◌, length, map, codes, Option, Some, None, option_and_then, option_map}
-use Rattle.std.specs.List.{flat_map}
+use Rattle.std.specs.Prelude.{◌≡◌, ℕ, ◌+◌, ◌*◌, ◌-◌, ◌/◌, ◌%◌, ◌^◌, ◌<◌, ◌≤◌, ◌==◌, ◌&&◌, nat_le, true, false, cond, if◌then◌else◌, List, [], ◌∷◌, ◌++◌, length, map, codes, Option, Some, None, option_and_then, option_map}
+use Rattle.std.specs.List.{flat_map, list_all}
 use Rattle.std.specs.Fmt.{decimal}
 use Rattle.std.proofs.Common.{arith, refl, sym, ◌∙◌, ap, subst}
 use Rattle.std.proofs.lemmas.Bool.Decides.{nat_tests}
-use Rattle.std.proofs.lemmas.Option.{none-some}
 use Rattle.std.proofs.lemmas.List.{length-append, append-nil}
+use Rattle.std.proofs.lemmas.List.Folds.{list_all-append}
 use Rattle.std.proofs.lemmas.List.Elements.{All-from_recursion}
 use Rattle.std.proofs.lemmas.List.Splits.{slice_split_at, slice_split_none}
 use Rattle.std.proofs.lemmas.Fmt.{decimal_by_steps}
 use Rattle.list_laws.proofs.Elements.{all_append}
 use Rattle.fault_lines.specs.Lines.{spaced, spaced_all, fault_line, IsWord, AreBounded}
-use Rattle.fault_lines.specs.Numbers.{is_digit, digits_after, number_in, numbers_in}
+use Rattle.decimal_text.specs.Decimals.{is_digit, said_after, digits_up_to, number_up_to}
+use Rattle.fault_lines.specs.Numbers.{number_in, numbers_in}
 use Rattle.fault_lines.specs.Explanations.{sentence, sentence_of_words, words, or_line, explanation}
 
 -- ---- one number
 
-test_of : (m d : ℕ) → d < 10 → 10 * m + d < 2 ^ 64 → (is_digit (48 + d) && nat_lt (10 * m + ((48 + d) - 48)) (2 ^ 64)) ≡ true
-test_of m d small fits = grind (arith, nat_tests, small, fits)
-
-digit_more : (m d : ℕ) → d < 10 → 10 * m + d < 2 ^ 64 → digits_after m ((48 + d) ∷ []) ≡ Some (10 * m + d)
-digit_more m d small fits =
-    let same : (48 + d) - 48 ≡ d = omega arith in
-    ap (λ b. cond b (Some (10 * m + ((48 + d) - 48))) None) (test_of m d small fits) ∙ ap (λ k. Some (10 * m + k)) same
-
-join_step : (t : Bool) (x y z : Option ℕ) (k : ℕ) → (x ≡ Some k → y ≡ z) → cond t x None ≡ Some k → cond t y None ≡ z
-join_step true x y z k go is = go is
-join_step false x y z k go is = absurd (none-some k is)
-
-abbrev value_of : ℕ → Option ℕ → ℕ
-value_of m None = m
-value_of m (Some n) = n
+test_of : (d : ℕ) → d < 10 → is_digit (48 + d) ≡ true
+test_of d small = grind (arith, nat_tests, small)
 
 -- one digit more at the end
-digits_join : (xs : List ℕ) (m k b : ℕ) → digits_after m xs ≡ Some k → digits_after m (xs ++ b ∷ []) ≡ digits_after k (b ∷ [])
-digits_join [] m k b is = ap (λ j. digits_after j (b ∷ [])) (ap (value_of m) is)
-digits_join (x ∷ xs) m k b is =
-    join_step (is_digit x && nat_lt (10 * m + (x - 48)) (2 ^ 64)) (digits_after (10 * m + (x - 48)) xs) (digits_after (10 * m + (x - 48)) (xs ++ b ∷ [])) (digits_after k (b ∷ [])) k (digits_join xs (10 * m + (x - 48)) k b) is
+said_join : (xs : List ℕ) (m b : ℕ) → said_after m (xs ++ b ∷ []) ≡ 10 * said_after m xs + (b - 48)
+said_join [] m b = refl
+said_join (x ∷ xs) m b = said_join xs (10 * m + (x - 48)) b
+
+all_join : (xs : List ℕ) (b : ℕ) → list_all is_digit xs ≡ true → is_digit b ≡ true → list_all is_digit (xs ++ b ∷ []) ≡ true
+all_join xs b before one = list_all-append is_digit xs (b ∷ []) ∙ ap (λ t. t && (is_digit b && true)) before ∙ ap (λ t. t && true) one
 
 abbrev first : List ℕ → ℕ
 first [] = 0
@@ -48,7 +38,8 @@ first_append (x ∷ xs) ys some = refl
 
 -- what is known of the digits of a number
 record Written (n : ℕ) (ds : List ℕ) : Type 0 where
-  reads : n < 2 ^ 64 → digits_after 0 ds ≡ Some n
+  digits : list_all is_digit ds ≡ true
+  says : said_after 0 ds ≡ n
   lead : 0 < n → 48 < first ds
   long : 1 < length ds → 0 < n
   some : 0 < length ds
@@ -56,7 +47,8 @@ record Written (n : ℕ) (ds : List ℕ) : Type 0 where
 
 one : (n : ℕ) → n < 10 → Written n ((48 + n) ∷ [])
 one n small = record {
-  reads = λ fits. let same : 10 * 0 + n ≡ n = omega arith in digit_more 0 n small (omega (arith, small)) ∙ ap Some same;
+  digits = ap (λ t. t && true) (test_of n small);
+  says = let same : 10 * 0 + ((48 + n) - 48) ≡ n = omega arith in same;
   lead = λ some. omega (arith, some);
   long = λ h. absurd (omega (arith, h));
   some = omega arith;
@@ -65,9 +57,8 @@ one n small = record {
 
 more : (n : ℕ) (ds : List ℕ) → 10 ≤ n → Written (n / 10) ds → Written n (ds ++ ((48 + n % 10) ∷ []))
 more n ds big w = record {
-  reads = λ fits.
-      let whole : 10 * (n / 10) + n % 10 ≡ n = omega arith in
-      digits_join ds 0 (n / 10) (48 + n % 10) (w.reads (omega (arith, fits))) ∙ digit_more (n / 10) (n % 10) (omega arith) (omega (arith, fits)) ∙ ap Some whole;
+  digits = all_join ds (48 + n % 10) w.digits (test_of (n % 10) (omega arith));
+  says = omega (arith, said_join ds 0 (48 + n % 10), w.says);
   lead = λ some. subst (λ b. 48 < b) (sym (first_append ds ((48 + n % 10) ∷ []) w.some)) (w.lead (omega (arith, big)));
   long = λ h. omega (arith, big);
   some = omega (arith, w.some, length-append ds ((48 + n % 10) ∷ []));
@@ -80,11 +71,20 @@ written n fits = decimal_by_steps Written one more n fits
 not_zero : (b : ℕ) → 48 < b → (b == 48) ≡ false
 not_zero b h = grind (arith, nat_tests, h)
 
+in_limit : (n : ℕ) → n < 2 ^ 64 → nat_le n (2 ^ 64 - 1) ≡ true
+in_limit n fits = grind (arith, nat_tests, fits)
+
+reads : (n : ℕ) (ds : List ℕ) → n < 2 ^ 64 → Written n ds → digits_up_to (2 ^ 64 - 1) 0 ds ≡ Some n
+reads n ds fits w =
+    ap (λ t. if t && nat_le (said_after 0 ds) (2 ^ 64 - 1) then Some (said_after 0 ds) else None) w.digits
+    ∙ ap (λ k. if nat_le k (2 ^ 64 - 1) then Some k else None) w.says
+    ∙ ap (λ t. if t then Some n else None) (in_limit n fits)
+
 number_read : (n : ℕ) (ds : List ℕ) → n < 2 ^ 64 → Written n ds → number_in ds ≡ Some n
 number_read n [] fits w = absurd (omega (arith, w.some))
-number_read n (b ∷ []) fits w = w.reads fits
+number_read n (b ∷ []) fits w = reads n (b ∷ []) fits w
 number_read n (b ∷ c ∷ ds) fits w =
-    ap (λ t. cond t None (digits_after 0 (b ∷ c ∷ ds))) (not_zero b (w.lead (w.long (omega arith)))) ∙ w.reads fits
+    ap (λ t. cond t None (number_up_to (2 ^ 64 - 1) (b ∷ c ∷ ds))) (not_zero b (w.lead (w.long (omega arith)))) ∙ reads n (b ∷ c ∷ ds) fits w
 
 -- ---- all numbers
 

@@ -1,36 +1,11 @@
 //! Reading the numbers of a fault line.
 
-ghost use Rattle.std.specs.Prelude.{◌≡◌, ◌-◌, ◌∷◌, [], map, IfOk, option_map};
-ghost use Rattle.fault_lines.specs.Numbers.{is_digit, digits_after, number_in, numbers_in};
+ghost use Rattle.std.specs.Prelude.{◌≡◌, map, IfOk, option_map};
+ghost use Rattle.fault_lines.specs.Numbers.{number_in, numbers_in};
 
+use decimal_text::number_up_to;
 use std::alloc::Global;
 use wl_octets::Memory;
-
-/// The number after one digit more, where it is below 2^64.
-fn more(number: u64, byte: u8) -> Option<u64>
-    ensures { result ≡ digits_after number (byte ∷ []) }
-{
-    if !byte.is_ascii_digit() {
-        return None;
-    }
-    number.checked_mul(10)?.checked_add(u64::from(byte - b'0'))
-}
-
-/// The number that these digits write.
-fn digits(word: &[u8]) -> Option<u64>
-    ensures { result ≡ digits_after 0 word.now }
-{
-    let mut number: u64 = 0;
-    let mut rest = word;
-    'digits: while let Some((byte, after)) = rest.split_first() {
-        match more(number, *byte) {
-            Some(next) => number = next,
-            None => return None,
-        }
-        rest = after;
-    }
-    Some(number)
-}
 
 /// The number that a word is.
 fn number_in(word: &[u8]) -> Option<u64>
@@ -39,7 +14,7 @@ fn number_in(word: &[u8]) -> Option<u64>
     match word {
         [] => None,
         [b'0', _, ..] => None,
-        _ => digits(word),
+        _ => number_up_to(u64::MAX, word),
     }
 }
 

@@ -1,21 +1,13 @@
 -- What the header lists of an answer say (PROTOCOL-HTTP2 of gRPC, "Responses").
-use Rattle.std.specs.Prelude.{ℕ, ◌+◌, ◌*◌, ◌-◌, ◌^◌, ◌&&◌, Bool, nat_lt, nat_le, if◌then◌else◌, List, [], ◌∷◌, codes, Option, Some, None, unwrap_or, option_and_then}
+use Rattle.std.specs.Prelude.{ℕ, ◌-◌, ◌^◌, if◌then◌else◌, List, [], ◌∷◌, codes, Option, Some, None, unwrap_or, option_and_then}
 use Rattle.std.specs.Str.{bytes_eq}
+use Rattle.decimal_text.specs.Decimals.{number_up_to}
 use Rattle.wl_octets.specs.declared.header.Header.{Header}
 use Rattle.grpc_wire.specs.Heads.{values_of, only_value}
 
-abbrev pub is_digit : ℕ → Bool
-is_digit b = nat_le 48 b && nat_le b 57
-
--- The number below 2^32 that the digits write after those that gave n. Digits are written from the highest.
-abbrev pub digits_after : ℕ → List ℕ → Option ℕ
-digits_after n [] = Some n
-digits_after n (b ∷ bytes) = if is_digit b && nat_lt (10 * n + (b - 48)) (2 ^ 32) then digits_after (10 * n + (b - 48)) bytes else None
-
 -- a decimal number below 2^32: one digit or more
 abbrev pub number_in : List ℕ → Option ℕ
-number_in [] = None
-number_in (b ∷ bytes) = digits_after 0 (b ∷ bytes)
+number_in value = number_up_to (2 ^ 32 - 1) value
 
 -- own rule: a head has exactly one :status, and it is 200; the number of another one, or 0
 unfoldable pub http_fault_of : Option (List ℕ) → Option ℕ

@@ -3,38 +3,20 @@
 ghost use Rattle.std.specs.Prelude.{◌≡◌, ◌∷◌, [], ◌<◌, ◌^◌, codes};
 ghost use Rattle.std.specs.Option.{option_copied};
 ghost use Rattle.grpc_wire.specs.Heads.{values_of, only_value};
-ghost use Rattle.wl_client.specs.Statuses.{digits_after, number_in, http_fault, http_fault_of, grpc_code, grpc_text, first_value};
+ghost use Rattle.wl_client.specs.Statuses.{number_in, http_fault, http_fault_of, grpc_code, grpc_text, first_value};
 
+use decimal_text::number_up_to;
 use h2_headers::is_named;
 use wl_octets::Header;
-
-/// The number after one digit more, where it is below 2^32.
-fn more(number: u32, byte: u8) -> Option<u32>
-    ensures { result ≡ digits_after number (byte ∷ []) }
-{
-    if !byte.is_ascii_digit() {
-        return None;
-    }
-    number.checked_mul(10)?.checked_add(u32::from(byte - b'0'))
-}
 
 /// The number that a value is, where it is a decimal number below 2^32.
 fn number_in(value: &[u8]) -> Option<u32>
     ensures { result ≡ number_in value.now }
 {
-    if value.is_empty() {
-        return None;
+    match number_up_to(u64::from(u32::MAX), value) {
+        Some(number) => Some(number as u32),
+        None => None,
     }
-    let mut number: u32 = 0;
-    let mut rest = value;
-    'digits: while let Some((byte, after)) = rest.split_first() {
-        match more(number, *byte) {
-            Some(next) => number = next,
-            None => return None,
-        }
-        rest = after;
-    }
-    Some(number)
 }
 
 /// The value of a field that is there once.

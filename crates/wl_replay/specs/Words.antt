@@ -1,7 +1,7 @@
 -- The lines of a script, their words, and what a word says (own format).
-use Rattle.std.specs.Prelude.{ℕ, suc, ◌+◌, ◌==◌, ◌&&◌, Bool, true, nat_lt, nat_le, length, if◌then◌else◌, List, [], ◌∷◌, Option, Some, None, option_and_then, is_none, Result, Ok, Err}
+use Rattle.std.specs.Prelude.{ℕ, suc, ◌+◌, ◌-◌, ◌^◌, ◌==◌, ◌&&◌, Bool, true, nat_lt, nat_le, length, if◌then◌else◌, List, [], ◌∷◌, Option, Some, None, option_and_then, is_none, Result, Ok, Err}
 use Rattle.std.specs.List.{slice_split, list_all}
-use Rattle.fault_lines.specs.Numbers.{digits_after}
+use Rattle.decimal_text.specs.Decimals.{number_up_to}
 use Rattle.wl_selector.specs.Selectors.{selector_fault, sorted_texts}
 use Rattle.wl_core.specs.declared.events.TheConstants.{CONNS}
 use Rattle.wl_replay.specs.Hex.{hex_in}
@@ -53,8 +53,7 @@ or_fault fault (Some x) = Ok x
 
 -- decimal digits, at least one, of a number below 2^64; leading zeros are allowed
 unfoldable pub number_in : List ℕ → Option ℕ
-number_in [] = None
-number_in (b ∷ word) = digits_after 0 (b ∷ word)
+number_in word = number_up_to (2 ^ 64 - 1) word
 
 abbrev pub below_conns : ℕ → Option ℕ
 below_conns n = if nat_lt n CONNS then Some n else None

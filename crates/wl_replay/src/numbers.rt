@@ -1,11 +1,11 @@
 //! Numbers in decimal.
 
-ghost use Rattle.std.specs.Prelude.{◌≡◌, ◌++◌, ◌∷◌, [], ◌-◌, OnOk};
+ghost use Rattle.std.specs.Prelude.{◌≡◌, ◌++◌, OnOk};
 ghost use Rattle.std.specs.Fmt.{decimal};
 ghost use Rattle.fault_lines.specs.Lines.{spaced, spaced_all};
-ghost use Rattle.fault_lines.specs.Numbers.{digits_after};
 ghost use Rattle.wl_replay.specs.Words.{number_in};
 
+use decimal_text::number_up_to;
 use std::string::ToString;
 use wl_octets::Memory;
 
@@ -37,39 +37,10 @@ pub fn put_all(out: &mut Vec<u8>, numbers: &[u64]) -> Result<(), Memory>
     Ok(())
 }
 
-/// The number after one digit more, where it is below 2^64.
-fn more(number: u64, byte: u8) -> Option<u64>
-    ensures { result ≡ digits_after number (byte ∷ []) }
-{
-    if !byte.is_ascii_digit() {
-        return None;
-    }
-    number.checked_mul(10)?.checked_add(u64::from(byte - b'0'))
-}
-
-/// The number that these digits write.
-fn digits(word: &[u8]) -> Option<u64>
-    ensures { result ≡ digits_after 0 word.now }
-{
-    let mut number: u64 = 0;
-    let mut rest = word;
-    'digits: while let Some((byte, after)) = rest.split_first() {
-        match more(number, *byte) {
-            Some(next) => number = next,
-            None => return None,
-        }
-        rest = after;
-    }
-    Some(number)
-}
-
 /// The number below 2^64 that a word writes in decimal digits, leading zeros allowed, where it is one.
 #[tactic(auto, unfolding(crate::specs::Words::number_in))]
 pub fn number_in(word: &[u8]) -> Option<u64>
     ensures { result ≡ number_in word.now }
 {
-    match word {
-        [] => None,
-        _ => digits(word),
-    }
+    number_up_to(u64::MAX, word)
 }
