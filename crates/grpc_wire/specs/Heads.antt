@@ -1,29 +1,16 @@
 -- The verdict on a call's head.
-use Rattle.std.specs.Prelude.{ℕ, Bool, false, not, ◌&&◌, if◌then◌else◌, nat_eq, List, [], ◌∷◌, codes, Option, Some, None}
+use Rattle.std.specs.Prelude.{ℕ, Bool, false, not, ◌&&◌, if◌then◌else◌, nat_eq, List, codes, Option, Some, None}
 use Rattle.std.specs.List.{list_any, starts_with}
 use Rattle.std.specs.Option.{option_map_or}
 use Rattle.std.specs.Str.{bytes_eq}
 use Rattle.wl_octets.specs.declared.header.Header.{Header}
 use Rattle.h2_headers.specs.Heads.{is_good_head}
+use Rattle.h2_headers.specs.Values.{only_value}
 use Rattle.grpc_wire.specs.declared.head.HeadVerdict.{HeadVerdict}
 use Rattle.grpc_wire.specs.declared.head.HeadVerdict.TheVariants.{Malformed, Refused, Call}
 use Rattle.grpc_wire.specs.declared.method.Method.{Method}
 use Rattle.grpc_wire.specs.declared.refusal.Refusal.TheVariants as refusals
 use Rattle.grpc_wire.specs.Methods.{method_of, is_health_method}
-
--- the values of the fields of a name, in order
-abbrev pub values_of : List ℕ → List Header → List (List ℕ)
-values_of name [] = []
-values_of name (h ∷ hs) = if bytes_eq h.name name then h.value ∷ values_of name hs else values_of name hs
-
-abbrev pub only : List (List ℕ) → Option (List ℕ)
-only [] = None
-only (v ∷ []) = Some v
-only (v ∷ w ∷ more) = None
-
--- the value of a field that is there once
-abbrev pub only_value : List ℕ → List Header → Option (List ℕ)
-only_value name hs = only (values_of name hs)
 
 -- a field is there once, and its value passes
 abbrev pub passes_once : (List ℕ → Bool) → List ℕ → List Header → Bool

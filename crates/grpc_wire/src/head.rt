@@ -3,11 +3,12 @@
 ghost use Rattle.std.specs.Prelude.{◌≡◌, codes};
 ghost use Rattle.std.specs.List.{list_any};
 ghost use Rattle.std.specs.Option.{option_copied};
-ghost use Rattle.grpc_wire.specs.Heads.{only_value, is_post, is_grpc, is_encoded, is_secure, method_at, method_verdict, head_verdict};
+ghost use Rattle.h2_headers.specs.Values.{only_value};
+ghost use Rattle.grpc_wire.specs.Heads.{is_post, is_grpc, is_encoded, is_secure, method_at, method_verdict, head_verdict};
 
 use crate::method::Method;
 use crate::refusal::Refusal;
-use h2_headers::{is_named, is_well_formed_head};
+use h2_headers::{is_named, is_well_formed_head, value_once};
 use wl_octets::Header;
 
 /// What a call's head says.
@@ -54,22 +55,6 @@ fn judge_method(method: Option<Method>, headers: &[Header]) -> HeadVerdict
         return HeadVerdict::Refused(Refusal::Insecure);
     }
     HeadVerdict::Call(method)
-}
-
-/// The value of a field that is there once.
-fn value_once<'a>(headers: &'a [Header], name: &[u8]) -> Option<&'a [u8]>
-    ensures { option_copied result ≡ only_value name.now headers.now }
-{
-    let mut found: Option<&'a [u8]> = None;
-    for header in headers {
-        if is_named(header, name) {
-            if found.is_some() {
-                return None;
-            }
-            found = Some(header.value.as_slice());
-        }
-    }
-    found
 }
 
 fn has_post(headers: &[Header]) -> bool

@@ -1,4 +1,5 @@
-//! Which header lists of requests are malformed (RFC 9113, sections 8.2 and 8.3).
+//! Which header lists of requests are malformed (RFC 9113, sections 8.2 and 8.3), and the value of a field that is there
+//! once.
 //!
 //! The connection refuses malformed trailers and a call refuses a malformed head, so the rules
 //! on names, values and pseudo-headers stand here once, below both. Nothing here takes memory.
@@ -8,6 +9,8 @@ mod fields;
 mod lists;
 #[cfg(test)]
 mod tests;
+mod values;
 
 pub use fields::is_named;
 pub use lists::{are_well_formed_trailers, is_well_formed_head};
+pub use values::value_once;

@@ -3,7 +3,7 @@ use Rattle.std.specs.Prelude.{ℕ, ◌-◌, ◌^◌, if◌then◌else◌, List, 
 use Rattle.std.specs.Str.{bytes_eq}
 use Rattle.decimal_text.specs.Decimals.{number_up_to}
 use Rattle.wl_octets.specs.declared.header.Header.{Header}
-use Rattle.grpc_wire.specs.Heads.{values_of, only_value}
+use Rattle.h2_headers.specs.Values.{values_of, only_value}
 
 -- a decimal number below 2^32: one digit or more
 abbrev pub number_in : List ℕ → Option ℕ

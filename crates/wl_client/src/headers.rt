@@ -1,12 +1,12 @@
 //! What the header lists of an answer say.
 
-ghost use Rattle.std.specs.Prelude.{◌≡◌, ◌∷◌, [], ◌<◌, ◌^◌, codes};
+ghost use Rattle.std.specs.Prelude.{◌≡◌};
 ghost use Rattle.std.specs.Option.{option_copied};
-ghost use Rattle.grpc_wire.specs.Heads.{values_of, only_value};
+ghost use Rattle.h2_headers.specs.Values.{values_of};
 ghost use Rattle.wl_client.specs.Statuses.{number_in, http_fault, http_fault_of, grpc_code, grpc_text, first_value};
 
 use decimal_text::number_up_to;
-use h2_headers::is_named;
+use h2_headers::{is_named, value_once};
 use wl_octets::Header;
 
 /// The number that a value is, where it is a decimal number below 2^32.
@@ -17,22 +17,6 @@ fn number_in(value: &[u8]) -> Option<u32>
         Some(number) => Some(number as u32),
         None => None,
     }
-}
-
-/// The value of a field that is there once.
-fn value_once<'a>(headers: &'a [Header], name: &[u8]) -> Option<&'a [u8]>
-    ensures { option_copied result ≡ only_value name.now headers.now }
-{
-    let mut found: Option<&'a [u8]> = None;
-    for header in headers {
-        if is_named(header, name) {
-            if found.is_some() {
-                return None;
-            }
-            found = Some(header.value.as_slice());
-        }
-    }
-    found
 }
 
 /// The number of a `:status` that is not 200, or 0 where it is no number.

@@ -1,5 +1,5 @@
 use Rattle.std.proofs.Common.{◌≡◌, drop}
-use Rattle.grpc_wire.specs.Heads.{values_of}
+use Rattle.h2_headers.specs.Values.{values_of}
 use Rattle.wl_client.proofs.headers.value_first.Given as goal
 
 abbrev pub invariant-loop-header : goal.invariant-loop-header
