@@ -19,6 +19,7 @@ use Rattle.wl_client.specs.declared.response.X509Response.{X509Response}
 use Rattle.wl_client.specs.declared.response.X509Item.{X509Item}
 use Rattle.wl_client.specs.declared.response.MapItem.{MapItem}
 use Rattle.wl_client.specs.declared.response.BundlesResponse.{BundlesResponse}
+use Rattle.wl_client.specs.declared.response.JwtBundlesResponse.{JwtBundlesResponse}
 use Rattle.wl_client.specs.declared.response.JwtResponse.{JwtResponse}
 use Rattle.wl_client.specs.declared.response.JwtItem.{JwtItem}
 
@@ -157,6 +158,23 @@ bundles_of bytes = message_of (bundles_wrong bytes) (bundles_more bytes) no_bund
 
 abbrev pub SpellsBundles : List ℕ → BundlesResponse → Type 0
 SpellsBundles bytes m = Spells (bundles_wrong bytes) (bundles_more bytes) no_bundles bytes m
+
+-- ---- `JWTBundlesResponse`
+
+abbrev pub no_jwt_bundles : JwtBundlesResponse
+no_jwt_bundles = record { bundles = [] }
+
+unfoldable pub jwt_bundles_wrong : List ℕ → Field → Option FieldFault
+jwt_bundles_wrong bytes f = if f.number == field_number.JWT_BUNDLES_BUNDLES then fault_of (inner_of map_item_of bytes f) else None
+
+unfoldable pub jwt_bundles_more : List ℕ → JwtBundlesResponse → Field → JwtBundlesResponse
+jwt_bundles_more bytes m f = if f.number == field_number.JWT_BUNDLES_BUNDLES then record m { bundles = with_more m.bundles (inner_of map_item_of bytes f) } else m
+
+unfoldable pub jwt_bundles_of : List ℕ → Result JwtBundlesResponse FieldFault
+jwt_bundles_of bytes = message_of (jwt_bundles_wrong bytes) (jwt_bundles_more bytes) no_jwt_bundles bytes
+
+abbrev pub SpellsJwtBundles : List ℕ → JwtBundlesResponse → Type 0
+SpellsJwtBundles bytes m = Spells (jwt_bundles_wrong bytes) (jwt_bundles_more bytes) no_jwt_bundles bytes m
 
 -- ---- `JWTSVID`
 

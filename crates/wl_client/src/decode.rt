@@ -5,10 +5,11 @@ ghost use Rattle.pb_wire.specs.Strings.{Gives};
 ghost use Rattle.wl_client.specs.declared.response.X509Response.{X509Response};
 ghost use Rattle.wl_client.specs.declared.response.JwtResponse.{JwtResponse};
 ghost use Rattle.wl_client.specs.declared.response.BundlesResponse.{BundlesResponse};
-ghost use Rattle.wl_client.specs.Messages.{x509_of, SpellsX509, jwt_of, SpellsJwt, bundles_of, SpellsBundles, state_of, state_wrong, state_more, SpellsState};
+ghost use Rattle.wl_client.specs.declared.response.JwtBundlesResponse.{JwtBundlesResponse};
+ghost use Rattle.wl_client.specs.Messages.{x509_of, SpellsX509, jwt_of, SpellsJwt, bundles_of, SpellsBundles, jwt_bundles_of, SpellsJwtBundles, state_of, state_wrong, state_more, SpellsState};
 
 use crate::items::read_fields;
-use crate::response::{BundlesResponse, JwtResponse, X509Response};
+use crate::response::{BundlesResponse, JwtBundlesResponse, JwtResponse, X509Response};
 use pb_wire::{Field, Value, read_field};
 use std::alloc::Global;
 use wl_octets::Row;
@@ -84,6 +85,29 @@ pub fn decode_bundles(alloc: Global, bytes: &[u8]) -> Result<BundlesResponse<'_>
     ensures only { (m : BundlesResponse) → SpellsBundles bytes.now m → Gives result (Ok m) }
 {
     read_bundles(alloc, bytes)
+}
+
+#[tactic(auto, unfolding(crate::specs::Messages::jwt_bundles_of))]
+fn read_jwt_bundles(alloc: Global, bytes: &[u8]) -> Result<JwtBundlesResponse<'_>, ProtoFault>
+    ensures { Gives result (jwt_bundles_of bytes.now) }
+{
+    let nothing = JwtBundlesResponse {
+        bundles: Row::empty(alloc),
+    };
+    read_fields(bytes, nothing)
+}
+
+/// What a `JWTBundlesResponse` says, or the first fault in its bytes; the places of a fault in an item of the map count
+/// from its start. Fields of other numbers are dropped. Its parts are lent from the bytes; memory is taken for the list
+/// alone.
+pub fn decode_jwt_bundles(alloc: Global, bytes: &[u8]) -> Result<JwtBundlesResponse<'_>, ProtoFault>
+    // Which message, or which fault, it is.
+    ensures value { Gives result (jwt_bundles_of bytes.now) }
+    // What is read is in the grammar, and what is in it is read, unless memory runs out.
+    ensures found { IfOk result (λ m. SpellsJwtBundles bytes.now m) }
+    ensures only { (m : JwtBundlesResponse) → SpellsJwtBundles bytes.now m → Gives result (Ok m) }
+{
+    read_jwt_bundles(alloc, bytes)
 }
 
 /// The state after one more field, where it was `before`.

@@ -5,10 +5,12 @@ ghost use Rattle.pb_wire.specs.declared.fault.FieldFault.{FieldFault};
 ghost use Rattle.pb_wire.specs.declared.field.Field.{Field};
 ghost use Rattle.pb_wire.specs.Message.{text_of};
 ghost use Rattle.pb_wire.specs.Strings.{fault_of, Gives};
-ghost use Rattle.wl_client.specs.Messages.{message_of, bytes_of, inner_of, replaced, with_more, x509_item_wrong, x509_item_more, x509_item_of, map_item_wrong, map_item_more, map_item_of, jwt_item_wrong, jwt_item_more, jwt_item_of, x509_wrong, x509_more, jwt_wrong, jwt_more, bundles_wrong, bundles_more, Takes};
+ghost use Rattle.wl_client.specs.Messages.{message_of, bytes_of, inner_of, replaced, with_more, x509_item_wrong, x509_item_more, x509_item_of, map_item_wrong, map_item_more, map_item_of, jwt_item_wrong, jwt_item_more, jwt_item_of, x509_wrong, x509_more, jwt_wrong, jwt_more, bundles_wrong, bundles_more, jwt_bundles_wrong, jwt_bundles_more, Takes};
 
 use crate::lent::Lent;
-use crate::response::{BundlesResponse, JwtItem, JwtResponse, MapItem, X509Item, X509Response};
+use crate::response::{
+    BundlesResponse, JwtBundlesResponse, JwtItem, JwtResponse, MapItem, X509Item, X509Response,
+};
 use pb_wire::{Field, FieldFault, read_field};
 use wl_octets::Row;
 use workload_proto::field_number;
@@ -251,6 +253,20 @@ impl<'a> Fields<'a> for BundlesResponse<'a> {
         match field.number {
             X509_BUNDLES_CRL => skip_bytes(bytes, field),
             field_number::X509_BUNDLES_BUNDLES => take_map_item(bytes, field, &mut self.bundles),
+            _ => Ok(()),
+        }
+    }
+}
+
+impl<'a> Fields<'a> for JwtBundlesResponse<'a> {
+    ghost wrong = { jwt_bundles_wrong };
+
+    ghost more = { jwt_bundles_more };
+
+    #[tactic(auto, unfolding(crate::specs::Messages::jwt_bundles_wrong, crate::specs::Messages::jwt_bundles_more))]
+    fn take(&mut self, bytes: &'a [u8], field: &Field) -> Result<(), FieldFault> {
+        match field.number {
+            field_number::JWT_BUNDLES_BUNDLES => take_map_item(bytes, field, &mut self.bundles),
             _ => Ok(()),
         }
     }

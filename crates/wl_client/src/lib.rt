@@ -19,9 +19,11 @@ mod reply;
 mod response;
 
 pub use client::Client;
-pub use decode::{decode_bundles, decode_jwt, decode_state, decode_x509};
+pub use decode::{decode_bundles, decode_jwt, decode_jwt_bundles, decode_state, decode_x509};
 pub use fault::ClientFault;
 pub use laws::cut_anywhere;
 pub use lent::Lent;
 pub use reply::Heard;
-pub use response::{BundlesResponse, JwtItem, JwtResponse, MapItem, X509Item, X509Response};
+pub use response::{
+    BundlesResponse, JwtBundlesResponse, JwtItem, JwtResponse, MapItem, X509Item, X509Response,
+};

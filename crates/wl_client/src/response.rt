@@ -35,6 +35,12 @@ pub struct BundlesResponse<'a> {
     pub bundles: Row<MapItem<'a>>,
 }
 
+/// `JWTBundlesResponse`: `bundles`, from a trust domain's id to its JWT bundle, a JWK set.
+#[derive(Drop, PartialEq)]
+pub struct JwtBundlesResponse<'a> {
+    pub bundles: Row<MapItem<'a>>,
+}
+
 /// `JWTSVIDResponse`.
 #[derive(Drop, PartialEq)]
 pub struct JwtResponse<'a> {

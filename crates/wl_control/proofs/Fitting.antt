@@ -7,10 +7,13 @@ use Rattle.clap_words.specs.Operands.{operands}
 use Rattle.control_words.specs.Requests as words
 use Rattle.wl_control.specs.declared.request.Request.{Request}
 use Rattle.wl_control.specs.declared.request.Request.TheVariants.{FetchJwt, Watch, HealthWatch}
+use Rattle.wl_control.specs.declared.request.TokenForm.TheVariants as token
+use Rattle.wl_control.specs.declared.request.Format.{Format}
 use Rattle.clap.specs.declared.error.Error.{Error}
 use Rattle.wl_control.specs.declared.words.NoRequest.{NoRequest}
 use Rattle.wl_control.specs.declared.words.NoRequest.TheVariants.{Memory, Unfit}
-use Rattle.wl_control.specs.Words.{is_audience, jwt_of, x509_of, bundles_of, fetch_of, count_of, health_of, request_by, request_of}
+use Rattle.wl_control.specs.Words.{is_audience, jwt_of, x509_of, bundles_of, jwt_bundles_of, fetch_of, count_of, health_of, request_by, command_of, in_formats, request_of}
+use Rattle.wl_control.specs.Formats.{formats_from, others_from}
 
 abbrev pub Texts : Type 0
 Texts = List (List ℕ)
@@ -56,13 +59,13 @@ fits_by : (w n : List ℕ) (ops : Texts) (o : Option Texts) → option_map {U = 
 fits_by w n ops None is = absurd (grind (arith, is))
 fits_by w n ops (Some xs) is = asked_by w n xs ops (words.fitting w xs) (fitting_are w xs) is
 
-request_fits : (ws : Texts) (n : List ℕ) (ops : Texts) → words.request_of ws ≡ Some (n, ops) → request_of ws ≡ request_by n ops
-unfolding request_of
+request_fits : (ws : Texts) (n : List ℕ) (ops : Texts) → words.request_of ws ≡ Some (n, ops) → command_of ws ≡ request_by n ops
+unfolding command_of
 request_fits [] n ops is = absurd (grind (arith, is))
 request_fits (w ∷ ws) n ops is = fits_by w n ops (operands ws) is
 
 -- what the command of this name makes of these operands
-pub asked_for : (ws : Texts) (name n : List ℕ) (given ops : Texts) (o : Option Request) → words.request_of ws ≡ Some (name, given) → n ≡ name → ops ≡ given → o ≡ request_by n ops → request_of ws ≡ o
+pub asked_for : (ws : Texts) (name n : List ℕ) (given ops : Texts) (o : Option Request) → words.request_of ws ≡ Some (name, given) → n ≡ name → ops ≡ given → o ≡ request_by n ops → command_of ws ≡ o
 asked_for ws name n given ops o is same these by = request_fits ws name given is ∙ (ap (λ l. request_by l given) (sym same) ∙ (ap (λ l. request_by n l) (sym these) ∙ sym by))
 
 -- ---- words that are no request fit no command
@@ -70,7 +73,7 @@ asked_for ws name n given ops o is same these by = request_fits ws name given is
 jwt_none : (xs : Texts) → nat_le (length xs) 64 ≡ false → jwt_of xs ≡ None
 jwt_none xs many = go (nat_le 1 (length xs))
   where
-    go : (b : Bool) → (if b && (nat_le (length xs) 64 && list_all is_audience xs) then Some (FetchJwt xs) else None) ≡ None
+    go : (b : Bool) → (if b && (nat_le (length xs) 64 && list_all is_audience xs) then Some (FetchJwt token.Lines xs) else None) ≡ None
     go false = refl
     go true = rw many refl
 
@@ -82,15 +85,16 @@ fetch_none (a ∷ b ∷ xs) is = go (nat_le (length (a ∷ b ∷ xs)) 65) refl
     more : nat_le (length (a ∷ b ∷ xs)) 65 ≡ false → nat_le (length (b ∷ xs)) 64 ≡ false
     more e = grind (arith, e)
 
-    by : (c d e : Bool) → nat_le (length (b ∷ xs)) 64 ≡ false → (if c then x509_of (b ∷ xs) else (if d then bundles_of (b ∷ xs) else (if e then jwt_of (b ∷ xs) else None))) ≡ None
-    by true d e many = refl
-    by false true e many = refl
-    by false false true many = jwt_none (b ∷ xs) many
-    by false false false many = refl
+    by : (c d e f : Bool) → nat_le (length (b ∷ xs)) 64 ≡ false → (if c then x509_of (b ∷ xs) else (if d then bundles_of (b ∷ xs) else (if e then jwt_of (b ∷ xs) else (if f then jwt_bundles_of (b ∷ xs) else None)))) ≡ None
+    by true d e f many = refl
+    by false true e f many = refl
+    by false false true f many = jwt_none (b ∷ xs) many
+    by false false false true many = refl
+    by false false false false many = refl
 
     go : (t : Bool) → nat_le (length (a ∷ b ∷ xs)) 65 ≡ t → fetch_of (a ∷ b ∷ xs) ≡ None
     go true e = absurd (grind (arith, is, e))
-    go false e = by (bytes_eq a (codes "x509")) (bytes_eq a (codes "bundles")) (bytes_eq a (codes "jwt")) (more e)
+    go false e = by (bytes_eq a (codes "x509")) (bytes_eq a (codes "bundles")) (bytes_eq a (codes "jwt")) (bytes_eq a (codes "jwt-bundles")) (more e)
 
 count_none : (q : ℕ → Request) (xs : Texts) → words.one_of xs ≡ None → count_of q xs ≡ None
 count_none q [] is = refl
@@ -119,10 +123,20 @@ none_fits : (w : List ℕ) (o : Option Texts) → option_and_then (words.fitting
 none_fits w None is = refl
 none_fits w (Some xs) is = none_by (bytes_eq w (codes "fetch")) (bytes_eq w (codes "watch")) (bytes_eq w (codes "health")) (bytes_eq w (codes "health-watch")) xs is
 
-pub no_request_fits : (ws : Texts) → words.request_of ws ≡ None → request_of ws ≡ None
-unfolding request_of
+pub no_request_fits : (ws : Texts) → words.request_of ws ≡ None → command_of ws ≡ None
+unfolding command_of
 no_request_fits [] is = refl
 no_request_fits (w ∷ ws) is = none_fits w (operands ws) (no_request w (option_and_then (words.fitting w) (operands ws)) is)
+
+-- ---- with the format
+
+pub in_formats_by : (ws : Texts) (formats : List Format) (others : Texts) (q : Request) (o : Option Request) → formats ≡ formats_from false ws → others ≡ others_from false ws → command_of others ≡ Some q → o ≡ in_formats formats q → request_of ws ≡ o
+unfolding request_of
+in_formats_by ws formats others q o named rest is by = rw (← named, ← rest, is, by) refl
+
+pub no_command : (ws : Texts) (others : Texts) → others ≡ others_from false ws → command_of others ≡ None → request_of ws ≡ None
+unfolding request_of
+no_command ws others rest none = rw (← rest, none) refl
 
 -- words that were refused fit nothing
 pub is_unfit : (ws : Texts) (why : Option Error) (e : NoRequest) → e ≡ Unfit why → (e ≡ Memory) ⊎ (request_of ws ≡ None) → request_of ws ≡ None

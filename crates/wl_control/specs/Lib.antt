@@ -1,3 +1,4 @@
+pub mod Formats
 pub mod Words
 pub mod Escapes
 pub mod Lines

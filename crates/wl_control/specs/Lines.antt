@@ -1,9 +1,10 @@
--- The lines that are written (own rules): ids, tokens and texts of the server are escaped, and nothing stands for the empty
+-- The texts that are written, which PEM and JSON have in svid_forms, and the lines (own rules): ids, tokens and texts of the server are escaped, and nothing stands for the empty
 -- byte string.
-use Rattle.std.specs.Prelude.{ℕ, ◌==◌, if◌then◌else◌, List, [], ◌∷◌, ◌++◌, codes, Result, Ok, Err}
+use Rattle.std.specs.Prelude.{ℕ, ◌==◌, if◌then◌else◌, List, [], ◌∷◌, ◌++◌, codes, Bool, Result, Ok, Err}
 use Rattle.std.specs.Fmt.{decimal}
-use Rattle.std.specs.List.{flat_map}
+use Rattle.std.specs.List.{flat_map, list_all}
 use Rattle.pb_wire.specs.declared.fault.FieldFault.{FieldFault}
+use Rattle.pb_wire.specs.declared.fault.FieldFault.TheVariants.{FieldKind}
 use Rattle.wl_client.specs.declared.response.X509Response.{X509Response}
 use Rattle.wl_client.specs.declared.response.X509Item.{X509Item}
 use Rattle.wl_client.specs.declared.response.MapItem.{MapItem}
@@ -12,9 +13,15 @@ use Rattle.wl_client.specs.declared.response.JwtResponse.{JwtResponse}
 use Rattle.wl_client.specs.declared.response.JwtItem.{JwtItem}
 use Rattle.wl_client.specs.declared.fault.ClientFault.{ClientFault}
 use Rattle.wl_client.specs.Faults.{number_of}
-use Rattle.wl_client.specs.Messages.{x509_of, bundles_of, jwt_of, state_of}
+use Rattle.wl_client.specs.declared.response.JwtBundlesResponse.{JwtBundlesResponse}
+use Rattle.wl_client.specs.Messages.{x509_of, bundles_of, jwt_of, jwt_bundles_of, state_of}
+use Rattle.workload_proto.specs.declared.field_number.TheConstants.{X509_SVID_CHAIN, MAP_ITEM_VALUE}
+use Rattle.svid_forms.specs.Blocks.{svid_blocks, bundle_blocks, is_svid_whole, is_bundle_whole}
+use Rattle.svid_forms.specs.Json.{x509_json, bundles_json, jwt_json, jwt_bundles_json}
 use Rattle.wl_control.specs.declared.asked.Kind.{Kind}
-use Rattle.wl_control.specs.declared.asked.Kind.TheVariants.{X509, Bundles, Jwt, State}
+use Rattle.wl_control.specs.declared.asked.Kind.TheVariants.{X509, Bundles, Jwt, JwtBundles, State}
+use Rattle.wl_control.specs.declared.request.Form.TheVariants.{Lines, Pem, Json}
+use Rattle.wl_control.specs.declared.request.TokenForm.TheVariants as token
 use Rattle.wl_control.specs.Escapes.{hex, escaped}
 
 -- the end of a line
@@ -45,6 +52,11 @@ abbrev pub lines_by : {M : Type 0} → (M → List ℕ) → Result M FieldFault 
 lines_by lines (Ok m) = Ok (lines m)
 lines_by lines (Err fault) = Err fault
 
+-- the same of a message whose certificates have to be whole, of which this field isn't what it has to be
+abbrev pub whole_by : {M : Type 0} → ℕ → (M → Bool) → (M → List ℕ) → Result M FieldFault → Result (List ℕ) FieldFault
+whole_by field is_whole lines (Ok m) = if is_whole m then Ok (lines m) else Err (FieldKind field)
+whole_by field is_whole lines (Err fault) = Err fault
+
 abbrev pub svid_lines : X509Response → List ℕ
 svid_lines m = flat_map svid_line m.svids
 
@@ -54,8 +66,31 @@ bundle_lines m = flat_map bundle_line m.bundles
 abbrev pub jwt_lines : JwtResponse → List ℕ
 jwt_lines m = flat_map jwt_line m.svids
 
+abbrev pub jwt_bundle_lines : JwtBundlesResponse → List ℕ
+jwt_bundle_lines m = flat_map bundle_line m.bundles
+
+-- PEM: the certificates of the SVIDs and of their bundles are whole, and so are those of each bundle
+abbrev pub svids_are_whole : X509Response → Bool
+svids_are_whole m = list_all is_svid_whole m.svids
+
+abbrev pub svids_pem : X509Response → List ℕ
+svids_pem m = flat_map svid_blocks m.svids
+
+abbrev pub bundles_are_whole : BundlesResponse → Bool
+bundles_are_whole m = list_all is_bundle_whole m.bundles
+
+abbrev pub bundles_pem : BundlesResponse → List ℕ
+bundles_pem m = flat_map bundle_blocks m.bundles
+
 unfoldable pub lines_of : Kind → List ℕ → Result (List ℕ) FieldFault
-lines_of X509 message = lines_by svid_lines (x509_of message)
-lines_of Bundles message = lines_by bundle_lines (bundles_of message)
-lines_of Jwt message = lines_by jwt_lines (jwt_of message)
+lines_of (X509 Lines) message = lines_by svid_lines (x509_of message)
+lines_of (X509 Pem) message = whole_by X509_SVID_CHAIN svids_are_whole svids_pem (x509_of message)
+lines_of (X509 Json) message = lines_by x509_json (x509_of message)
+lines_of (Bundles Lines) message = lines_by bundle_lines (bundles_of message)
+lines_of (Bundles Pem) message = whole_by MAP_ITEM_VALUE bundles_are_whole bundles_pem (bundles_of message)
+lines_of (Bundles Json) message = lines_by bundles_json (bundles_of message)
+lines_of (Jwt token.Lines) message = lines_by jwt_lines (jwt_of message)
+lines_of (Jwt token.Json) message = lines_by jwt_json (jwt_of message)
+lines_of (JwtBundles token.Lines) message = lines_by jwt_bundle_lines (jwt_bundles_of message)
+lines_of (JwtBundles token.Json) message = lines_by jwt_bundles_json (jwt_bundles_of message)
 lines_of State message = lines_by state_line (state_of message)

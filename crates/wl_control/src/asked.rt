@@ -6,20 +6,23 @@ ghost use Rattle.wl_control.specs.Courses.{one_less, part_course, course, decide
 ghost use Rattle.wl_control.specs.Takings.{Runs};
 
 use crate::lines::put_lines;
+use crate::request::{Form, TokenForm};
 use pb_wire::FieldFault;
 use std::alloc::Global;
 use wl_client::{ClientFault, Heard};
 use wl_octets::{Memory, Octets};
 
-/// What a message says.
+/// What a message says, and how it is written.
 #[derive(Clone, Copy, Debug, Drop, PartialEq, Eq)]
 pub enum Kind {
     /// An `X509SVIDResponse`.
-    X509,
+    X509(Form),
     /// An `X509BundlesResponse`.
-    Bundles,
+    Bundles(Form),
     /// A `JWTSVIDResponse`.
-    Jwt,
+    Jwt(TokenForm),
+    /// A `JWTBundlesResponse`.
+    JwtBundles(TokenForm),
     /// A `HealthCheckResponse`.
     State,
 }

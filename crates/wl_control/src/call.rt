@@ -5,10 +5,10 @@ ghost use Rattle.std.specs.List.{flat_map};
 ghost use Rattle.pb_wire.specs.Spelling.{field};
 ghost use Rattle.workload_proto.specs.declared.field_number.TheConstants.{JWT_REQUEST_AUDIENCE};
 ghost use Rattle.wl_control.specs.Words.{IsFit};
-ghost use Rattle.wl_control.specs.Calls.{method_of, message_of, asked_of};
+ghost use Rattle.wl_control.specs.Calls.{method_of, message_of, stream_of, answer_of, asked_of};
 
 use crate::asked::{Asked, Kind};
-use crate::request::Request;
+use crate::request::{Form, Request};
 use grpc_wire::Method;
 use pb_wire::put_bytes;
 use std::alloc::Global;
@@ -24,11 +24,34 @@ pub(crate) fn method_of(request: &Request) -> Method
     ensures { result ≡ method_of request.now }
 {
     match request {
-        Request::FetchX509 | Request::Watch(_) => Method::X509Svid,
-        Request::FetchBundles => Method::X509Bundles,
-        Request::FetchJwt(_) => Method::JwtSvid,
+        Request::FetchX509(_) | Request::Watch(_) => Method::X509Svid,
+        Request::FetchBundles(_) => Method::X509Bundles,
+        Request::FetchJwt(_, _) => Method::JwtSvid,
+        Request::FetchJwtBundles(_) => Method::JwtBundles,
         Request::Health(_) => Method::HealthCheck,
         Request::HealthWatch(_) => Method::HealthWatch,
+    }
+}
+
+/// So many messages of a stream.
+fn stream_of(kind: Kind, left: u32) -> Asked
+    ensures { result ≡ stream_of kind left }
+{
+    Asked {
+        kind,
+        left,
+        awaits: false,
+    }
+}
+
+/// The message of a unary call.
+fn answer_of(kind: Kind) -> Asked
+    ensures { result ≡ answer_of kind }
+{
+    Asked {
+        kind,
+        left: 1,
+        awaits: true,
     }
 }
 
@@ -37,36 +60,13 @@ pub(crate) fn asked_of(request: &Request) -> Asked
     ensures { result ≡ asked_of request.now }
 {
     match request {
-        Request::FetchX509 => Asked {
-            kind: Kind::X509,
-            left: 1,
-            awaits: false,
-        },
-        Request::FetchBundles => Asked {
-            kind: Kind::Bundles,
-            left: 1,
-            awaits: false,
-        },
-        Request::FetchJwt(_) => Asked {
-            kind: Kind::Jwt,
-            left: 1,
-            awaits: true,
-        },
-        Request::Watch(count) => Asked {
-            kind: Kind::X509,
-            left: *count,
-            awaits: false,
-        },
-        Request::Health(_) => Asked {
-            kind: Kind::State,
-            left: 1,
-            awaits: true,
-        },
-        Request::HealthWatch(count) => Asked {
-            kind: Kind::State,
-            left: *count,
-            awaits: false,
-        },
+        Request::FetchX509(form) => stream_of(Kind::X509(*form), 1),
+        Request::FetchBundles(form) => stream_of(Kind::Bundles(*form), 1),
+        Request::FetchJwt(form, _) => answer_of(Kind::Jwt(*form)),
+        Request::FetchJwtBundles(form) => stream_of(Kind::JwtBundles(*form), 1),
+        Request::Watch(count) => stream_of(Kind::X509(Form::Lines), *count),
+        Request::Health(_) => answer_of(Kind::State),
+        Request::HealthWatch(count) => stream_of(Kind::State, *count),
     }
 }
 
@@ -89,14 +89,17 @@ pub(crate) fn message_of(alloc: Global, request: &Request) -> Result<Vec<u8>, Me
 {
     let mut message = Vec::new(alloc);
     match request {
-        Request::FetchJwt(audiences) => put_audiences(&mut message, audiences.as_slice())?,
+        Request::FetchJwt(_, audiences) => put_audiences(&mut message, audiences.as_slice())?,
         Request::Health(service) => {
             if service.len() > 0 {
                 put_bytes(&mut message, HEALTH_REQUEST_SERVICE, service.as_slice())?;
             }
         }
-        Request::FetchX509 | Request::FetchBundles | Request::Watch(_) | Request::HealthWatch(_) =>
-            {}
+        Request::FetchX509(_)
+        | Request::FetchBundles(_)
+        | Request::FetchJwtBundles(_)
+        | Request::Watch(_)
+        | Request::HealthWatch(_) => {}
     }
     Ok(message)
 }

@@ -7,6 +7,7 @@
 mod asked;
 mod call;
 mod escapes;
+mod formats;
 mod laws;
 mod limits;
 mod lines;

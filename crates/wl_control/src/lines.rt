@@ -3,20 +3,28 @@
 ghost use Rattle.std.specs.Prelude.{◌≡◌, ◌++◌, codes, Ok, Err, IfOk, OnOk, MatchResult};
 ghost use Rattle.std.specs.Fmt.{decimal};
 ghost use Rattle.std.specs.List.{flat_map};
-ghost use Rattle.wl_client.specs.Messages.{x509_of, bundles_of, jwt_of, state_of};
+ghost use Rattle.wl_client.specs.Messages.{x509_of, bundles_of, jwt_of, jwt_bundles_of, state_of};
+ghost use Rattle.workload_proto.specs.declared.field_number.TheConstants.{X509_SVID_CHAIN, MAP_ITEM_VALUE};
+ghost use Rattle.svid_forms.specs.Json.{x509_json, bundles_json, jwt_json, jwt_bundles_json};
 ghost use Rattle.wl_control.specs.Escapes.{hex};
-ghost use Rattle.wl_control.specs.Lines.{line_end, svid_line, svid_lines, bundle_line, bundle_lines, jwt_line, jwt_lines, state_line, status_line, fault_line, lines_of, lines_by};
+ghost use Rattle.wl_control.specs.Lines.{line_end, svid_line, svid_lines, bundle_line, bundle_lines, jwt_line, jwt_lines, jwt_bundle_lines, state_line, status_line, fault_line, svids_are_whole, svids_pem, bundles_are_whole, bundles_pem, lines_of, lines_by, whole_by};
 ghost use Rattle.wl_control.specs.Takings.{Writes};
 
 use crate::asked::Kind;
 use crate::escapes::{put_escaped, put_hex};
+use crate::request::{Form, TokenForm};
 use std::alloc::Global;
 use std::string::ToString;
+use svid_forms::{
+    are_bundles_whole, are_svids_whole, put_bundles_json, put_bundles_pem, put_jwt_bundles_json,
+    put_jwt_json, put_svids_pem, put_x509_json,
+};
 use wl_client::{
-    ClientFault, JwtItem, MapItem, X509Item, decode_bundles, decode_jwt, decode_state, decode_x509,
+    ClientFault, JwtItem, MapItem, X509Item, decode_bundles, decode_jwt, decode_jwt_bundles,
+    decode_state, decode_x509,
 };
 use wl_octets::{Memory, Octets};
-use workload_proto::ProtoFault;
+use workload_proto::{ProtoFault, field_number};
 
 /// A number in decimal.
 fn put_decimal(out: &mut Vec<u8>, number: u32) -> Result<(), Memory>
@@ -145,7 +153,7 @@ pub(crate) fn put_fault(out: &mut Vec<u8>, fault: ClientFault) -> Result<(), Mem
     put_fault_number(out, number)
 }
 
-fn put_x509(alloc: Global, out: &mut Vec<u8>, message: &[u8]) -> Result<(), ProtoFault>
+fn put_x509_lines(alloc: Global, out: &mut Vec<u8>, message: &[u8]) -> Result<(), ProtoFault>
     ensures { Writes (lines_by svid_lines (x509_of message.now)) result out.old.items out.new.items }
 {
     let message = decode_x509(alloc, message)?;
@@ -153,7 +161,26 @@ fn put_x509(alloc: Global, out: &mut Vec<u8>, message: &[u8]) -> Result<(), Prot
     Ok(())
 }
 
-fn put_bundles_message(alloc: Global, out: &mut Vec<u8>, message: &[u8]) -> Result<(), ProtoFault>
+fn put_x509_pem(alloc: Global, out: &mut Vec<u8>, message: &[u8]) -> Result<(), ProtoFault>
+    ensures { Writes (whole_by X509_SVID_CHAIN svids_are_whole svids_pem (x509_of message.now)) result out.old.items out.new.items }
+{
+    let message = decode_x509(alloc, message)?;
+    if !are_svids_whole(alloc, message.svids.as_slice())? {
+        return Err(ProtoFault::FieldKind(field_number::X509_SVID_CHAIN));
+    }
+    put_svids_pem(alloc, out, message.svids.as_slice())?;
+    Ok(())
+}
+
+fn put_x509_object(alloc: Global, out: &mut Vec<u8>, message: &[u8]) -> Result<(), ProtoFault>
+    ensures { Writes (lines_by x509_json (x509_of message.now)) result out.old.items out.new.items }
+{
+    let message = decode_x509(alloc, message)?;
+    put_x509_json(alloc, out, &message)?;
+    Ok(())
+}
+
+fn put_bundles_lines(alloc: Global, out: &mut Vec<u8>, message: &[u8]) -> Result<(), ProtoFault>
     ensures { Writes (lines_by bundle_lines (bundles_of message.now)) result out.old.items out.new.items }
 {
     let message = decode_bundles(alloc, message)?;
@@ -161,11 +188,58 @@ fn put_bundles_message(alloc: Global, out: &mut Vec<u8>, message: &[u8]) -> Resu
     Ok(())
 }
 
-fn put_jwt_message(alloc: Global, out: &mut Vec<u8>, message: &[u8]) -> Result<(), ProtoFault>
+fn put_bundles_blocks(alloc: Global, out: &mut Vec<u8>, message: &[u8]) -> Result<(), ProtoFault>
+    ensures { Writes (whole_by MAP_ITEM_VALUE bundles_are_whole bundles_pem (bundles_of message.now)) result out.old.items out.new.items }
+{
+    let message = decode_bundles(alloc, message)?;
+    if !are_bundles_whole(alloc, message.bundles.as_slice())? {
+        return Err(ProtoFault::FieldKind(field_number::MAP_ITEM_VALUE));
+    }
+    put_bundles_pem(alloc, out, message.bundles.as_slice())?;
+    Ok(())
+}
+
+fn put_bundles_object(alloc: Global, out: &mut Vec<u8>, message: &[u8]) -> Result<(), ProtoFault>
+    ensures { Writes (lines_by bundles_json (bundles_of message.now)) result out.old.items out.new.items }
+{
+    let message = decode_bundles(alloc, message)?;
+    put_bundles_json(alloc, out, &message)?;
+    Ok(())
+}
+
+fn put_jwt_lines(alloc: Global, out: &mut Vec<u8>, message: &[u8]) -> Result<(), ProtoFault>
     ensures { Writes (lines_by jwt_lines (jwt_of message.now)) result out.old.items out.new.items }
 {
     let message = decode_jwt(alloc, message)?;
     put_jwts(out, message.svids.as_slice())?;
+    Ok(())
+}
+
+fn put_jwt_object(alloc: Global, out: &mut Vec<u8>, message: &[u8]) -> Result<(), ProtoFault>
+    ensures { Writes (lines_by jwt_json (jwt_of message.now)) result out.old.items out.new.items }
+{
+    let message = decode_jwt(alloc, message)?;
+    put_jwt_json(out, &message)?;
+    Ok(())
+}
+
+fn put_jwt_bundles_lines(alloc: Global, out: &mut Vec<u8>, message: &[u8]) -> Result<(), ProtoFault>
+    ensures { Writes (lines_by jwt_bundle_lines (jwt_bundles_of message.now)) result out.old.items out.new.items }
+{
+    let message = decode_jwt_bundles(alloc, message)?;
+    put_bundles(out, message.bundles.as_slice())?;
+    Ok(())
+}
+
+fn put_jwt_bundles_object(
+    alloc: Global,
+    out: &mut Vec<u8>,
+    message: &[u8],
+) -> Result<(), ProtoFault>
+    ensures { Writes (lines_by jwt_bundles_json (jwt_bundles_of message.now)) result out.old.items out.new.items }
+{
+    let message = decode_jwt_bundles(alloc, message)?;
+    put_jwt_bundles_json(alloc, out, &message)?;
     Ok(())
 }
 
@@ -177,7 +251,7 @@ fn put_health(out: &mut Vec<u8>, message: &[u8]) -> Result<(), ProtoFault>
     Ok(())
 }
 
-/// The lines of a message of this kind, or the first fault in it.
+/// The text of a message of this kind, or the first fault in it.
 #[tactic(auto, unfolding(crate::specs::Lines::lines_of))]
 pub(crate) fn put_lines(
     alloc: Global,
@@ -188,9 +262,16 @@ pub(crate) fn put_lines(
     ensures { Writes (lines_of kind message.now) result out.old.items out.new.items }
 {
     match kind {
-        Kind::X509 => put_x509(alloc, out, message),
-        Kind::Bundles => put_bundles_message(alloc, out, message),
-        Kind::Jwt => put_jwt_message(alloc, out, message),
+        Kind::X509(Form::Lines) => put_x509_lines(alloc, out, message),
+        Kind::X509(Form::Pem) => put_x509_pem(alloc, out, message),
+        Kind::X509(Form::Json) => put_x509_object(alloc, out, message),
+        Kind::Bundles(Form::Lines) => put_bundles_lines(alloc, out, message),
+        Kind::Bundles(Form::Pem) => put_bundles_blocks(alloc, out, message),
+        Kind::Bundles(Form::Json) => put_bundles_object(alloc, out, message),
+        Kind::Jwt(TokenForm::Lines) => put_jwt_lines(alloc, out, message),
+        Kind::Jwt(TokenForm::Json) => put_jwt_object(alloc, out, message),
+        Kind::JwtBundles(TokenForm::Lines) => put_jwt_bundles_lines(alloc, out, message),
+        Kind::JwtBundles(TokenForm::Json) => put_jwt_bundles_object(alloc, out, message),
         Kind::State => put_health(out, message),
     }
 }

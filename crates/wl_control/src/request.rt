@@ -2,15 +2,46 @@
 
 use wl_octets::{Octets, Row};
 
+/// How certificates are written.
+#[derive(Clone, Copy, Debug, Drop, PartialEq, Eq)]
+pub enum Form {
+    /// A line each, with bytes in hexadecimal.
+    Lines,
+    /// PEM.
+    Pem,
+    /// An object of JSON for each message.
+    Json,
+}
+
+/// How tokens and the bundles of tokens are written.
+#[derive(Clone, Copy, Debug, Drop, PartialEq, Eq)]
+pub enum TokenForm {
+    /// A line each.
+    Lines,
+    /// An object of JSON for each message.
+    Json,
+}
+
+/// A format that words may name.
+#[derive(Clone, Copy, Debug, Drop, PartialEq, Eq)]
+pub enum Format {
+    /// `--pem`.
+    Pem,
+    /// `--json`.
+    Json,
+}
+
 /// What is asked for.
 #[derive(Drop)]
 pub enum Request {
     /// One message of FetchX509SVID.
-    FetchX509,
+    FetchX509(Form),
     /// One message of FetchX509Bundles.
-    FetchBundles,
+    FetchBundles(Form),
     /// The message of FetchJWTSVID for these audiences.
-    FetchJwt(Row<Octets>),
+    FetchJwt(TokenForm, Row<Octets>),
+    /// One message of FetchJWTBundles.
+    FetchJwtBundles(TokenForm),
     /// So many messages of FetchX509SVID.
     Watch(u32),
     /// The message of Check for this service.

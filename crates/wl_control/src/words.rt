@@ -5,9 +5,10 @@ ghost use Rattle.std.specs.List.{list_all};
 ghost use Rattle.clap.specs.Words.{kind_of};
 ghost use Rattle.clap.specs.declared.error.ErrorKind.TheVariants.{OutOfMemory};
 ghost use Rattle.wl_control.specs.declared.request.Request.TheVariants.{Watch, HealthWatch};
-ghost use Rattle.wl_control.specs.Words.{digits_after, digits_of, count_in, is_audience, jwt_of, fetch_of, count_of, health_of, request_by, request_of, IsFit};
+ghost use Rattle.wl_control.specs.Words.{digits_after, digits_of, count_in, is_audience, jwt_of, fetch_of, count_of, health_of, request_by, command_of, in_format, in_formats, request_of, IsFit};
 
-use crate::request::Request;
+use crate::formats::read_formats;
+use crate::request::{Form, Format, Request, TokenForm};
 use clap::Error;
 use clap::error::ErrorKind;
 use control_words::read;
@@ -89,7 +90,7 @@ fn jwt_of(words: Row<Octets>) -> Option<Request>
     ensures fit { IfSome result IsFit }
 {
     if words.len() >= 1 && words.len() <= MAX_AUDIENCES && are_audiences(words.as_slice()) {
-        Some(Request::FetchJwt(words))
+        Some(Request::FetchJwt(TokenForm::Lines, words))
     } else {
         None
     }
@@ -106,20 +107,27 @@ fn fetch_of(mut words: Row<Octets>) -> Option<Request>
     let kind = words.remove(0);
     if kind.as_slice() == b"x509".as_slice() {
         return if words.len() == 0 {
-            Some(Request::FetchX509)
+            Some(Request::FetchX509(Form::Lines))
         } else {
             None
         };
     }
     if kind.as_slice() == b"bundles".as_slice() {
         return if words.len() == 0 {
-            Some(Request::FetchBundles)
+            Some(Request::FetchBundles(Form::Lines))
         } else {
             None
         };
     }
     if kind.as_slice() == b"jwt".as_slice() {
         return jwt_of(words);
+    }
+    if kind.as_slice() == b"jwt-bundles".as_slice() {
+        return if words.len() == 0 {
+            Some(Request::FetchJwtBundles(TokenForm::Lines))
+        } else {
+            None
+        };
     }
     None
 }
@@ -209,11 +217,11 @@ fn no_request(error: Error) -> NoRequest
     }
 }
 
-/// What these words ask for, where they fit something.
-pub(crate) fn read_request(alloc: Global, words: &[String]) -> Result<Request, NoRequest>
-    ensures value { IfOk result (λ q. request_of (map string_bytes words.now) ≡ Some q) }
+/// What these words ask for, which name no format, where they fit something.
+fn read_command(alloc: Global, words: &[String]) -> Result<Request, NoRequest>
+    ensures value { IfOk result (λ q. command_of (map string_bytes words.now) ≡ Some q) }
     ensures fit { IfOk result IsFit }
-    ensures unfit { IfErr result (λ e. (e ≡ NoRequest.Memory) ⊎ (request_of (map string_bytes words.now) ≡ None)) }
+    ensures unfit { IfErr result (λ e. (e ≡ NoRequest.Memory) ⊎ (command_of (map string_bytes words.now) ≡ None)) }
 {
     let request = match read(alloc, words) {
         Ok(request) => request,
@@ -229,9 +237,65 @@ pub(crate) fn read_request(alloc: Global, words: &[String]) -> Result<Request, N
     }
 }
 
+/// The same in a format, where there is that.
+fn in_format(format: Format, request: Request) -> Option<Request>
+    requires { IsFit request }
+    ensures value { result ≡ in_format format request }
+    ensures fit { IfSome result IsFit }
+{
+    match (format, request) {
+        (Format::Pem, Request::FetchX509(_)) => Some(Request::FetchX509(Form::Pem)),
+        (Format::Json, Request::FetchX509(_)) => Some(Request::FetchX509(Form::Json)),
+        (Format::Pem, Request::FetchBundles(_)) => Some(Request::FetchBundles(Form::Pem)),
+        (Format::Json, Request::FetchBundles(_)) => Some(Request::FetchBundles(Form::Json)),
+        (Format::Json, Request::FetchJwt(_, audiences)) => Some(Request::FetchJwt(
+            TokenForm::Json,
+            audiences,
+        )),
+        (Format::Json, Request::FetchJwtBundles(_)) => Some(Request::FetchJwtBundles(
+            TokenForm::Json,
+        )),
+        _ => None,
+    }
+}
+
+/// The same in the one format that is named, if one is.
+fn in_formats(formats: &[Format], request: Request) -> Option<Request>
+    requires { IsFit request }
+    ensures value { result ≡ in_formats formats.now request }
+    ensures fit { IfSome result IsFit }
+{
+    match formats {
+        [] => Some(request),
+        [format] => in_format(*format, request),
+        _ => None,
+    }
+}
+
+/// What these words ask for, where they fit something.
+pub(crate) fn read_request(alloc: Global, words: &[String]) -> Result<Request, NoRequest>
+    ensures value { IfOk result (λ q. request_of (map string_bytes words.now) ≡ Some q) }
+    ensures fit { IfOk result IsFit }
+    ensures unfit { IfErr result (λ e. (e ≡ NoRequest.Memory) ⊎ (request_of (map string_bytes words.now) ≡ None)) }
+{
+    let named = match read_formats(alloc, words) {
+        Ok(named) => named,
+        Err(Memory) => return Err(NoRequest::Memory),
+    };
+    let command = match read_command(alloc, named.others.as_slice()) {
+        Ok(command) => command,
+        Err(refused) => return Err(refused),
+    };
+    match in_formats(named.formats.as_slice(), command) {
+        Some(request) => Ok(request),
+        None => Err(NoRequest::Unfit(None)),
+    }
+}
+
 /// What is wrong with operands that are as many as their command has.
 const OPERAND_FAULT: &str =
-    "error: fetch is for x509, for bundles, or for jwt and 1 to 64 audiences of at most 200 bytes; \
+    "error: fetch is for x509, for bundles, for jwt-bundles, or for jwt and 1 to 64 audiences of at most 200 bytes; \
+--pem is for x509 and bundles, --json for all of fetch, and only one of them; \
 COUNT is 1 to 1000; SERVICE has at most 200 bytes\n";
 
 /// Why these words fit nothing, for a person: which word is wrong, the help or the version; nothing where they fit.

@@ -1,3 +1,4 @@
+mod forms;
 mod repeating;
 
 use self::repeating::RepeatingLink;

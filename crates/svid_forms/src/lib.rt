@@ -1,0 +1,19 @@
+//! The messages of the Workload API as texts that other programs read: PEM (RFC 7468) and JSON (RFC 8259).
+//!
+//! A chain and a bundle are certificates one after another in DER; [`split`] finds where each ends.
+#![tactic(auto)]
+
+mod elements;
+mod json;
+mod laws;
+mod names;
+mod pem;
+#[cfg(test)]
+mod tests;
+
+pub use elements::{is_whole, split};
+pub use json::{put_bundles_json, put_jwt_bundles_json, put_jwt_json, put_x509_json};
+pub use laws::elements_are_the_bytes;
+pub use pem::{
+    are_bundles_whole, are_svids_whole, put_bundles_pem, put_certificates, put_key, put_svids_pem,
+};
