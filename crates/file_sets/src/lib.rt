@@ -4,6 +4,7 @@
 //! reader sees the old set or the new one, whole, and after a crash too.
 #![tactic(auto)]
 
+mod folder;
 mod memory;
 mod publishing;
 mod real;
@@ -12,6 +13,7 @@ mod shelf;
 #[cfg(test)]
 mod tests;
 
+pub use folder::Folder;
 pub use memory::{Deed, MemoryShelf};
 pub use publishing::publish;
 pub use real::RealShelf;

@@ -40,11 +40,24 @@ impl RealShelf {
         fs::create_dir(&self.rt, self.folder(number)?.as_str())
     }
 
+    /// Makes the folder of a file whose name has one.
+    fn make_parent(&self, folder: &str, name: &str) -> io::Result<()> {
+        let Some((parent, _)) = name.rsplit_once('/') else {
+            return Ok(());
+        };
+        let path = format!(in self.alloc; "{folder}/{parent}")?;
+        match fs::create_dir(&self.rt, path.as_str()) {
+            Err(error) if error.kind() != io::ErrorKind::AlreadyExists => Err(error),
+            _ => self.sync_folder(folder),
+        }
+    }
+
     fn put_file(&self, number: u64, file: &File) -> io::Result<()> {
         let folder = self.folder(number)?;
         let Ok(name) = str::from_utf8(file.name.as_slice()) else {
             return Err(io::ErrorKind::InvalidInput.into());
         };
+        self.make_parent(folder.as_str(), name)?;
         let path = format!(in self.alloc; "{}/{name}", folder.as_str())?;
         let mode = mode_of(file.is_secret);
         let mut opened = OpenOptions::new()
@@ -54,7 +67,11 @@ impl RealShelf {
             .open(&self.rt, path.as_str())?;
         opened.write_all(file.bytes.as_slice())?;
         opened.set_permissions(fs::Permissions::from_mode(mode))?;
-        opened.sync_all()
+        opened.sync_all()?;
+        match path.as_str().rsplit_once('/') {
+            Some((parent, _)) => self.sync_folder(parent),
+            None => Ok(()),
+        }
     }
 
     fn sync_folder(&self, path: &str) -> io::Result<()> {

@@ -6,7 +6,7 @@ use Rattle.pb_wire.specs.Spelling.{field, optional_field}
 use Rattle.pb_wire.specs.Varint.{varint}
 use Rattle.pb_wire.proofs.Varints.{varint-most}
 use Rattle.wl_control.specs.declared.request.Request.{Request}
-use Rattle.wl_control.specs.declared.request.Request.TheVariants.{FetchX509, FetchBundles, FetchJwt, FetchJwtBundles, Watch, Health, HealthWatch}
+use Rattle.wl_control.specs.declared.request.Request.TheVariants.{FetchX509, FetchBundles, FetchJwt, FetchJwtBundles, Watch, Keep, Health, HealthWatch}
 use Rattle.wl_control.specs.Words.{is_audience, IsFit}
 use Rattle.wl_control.specs.Calls.{message_of}
 
@@ -39,5 +39,6 @@ message_short (FetchBundles form) fit = omega arith
 message_short (FetchJwtBundles form) fit = omega arith
 message_short (FetchJwt form audiences) fit = omega (arith, fit.0, audiences_most audiences fit.1)
 message_short (Watch count) fit = omega arith
+message_short (Keep count) fit = omega arith
 message_short (Health service) fit = omega (arith, service_most service fit)
 message_short (HealthWatch count) fit = omega arith

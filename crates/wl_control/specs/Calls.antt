@@ -7,11 +7,11 @@ use Rattle.grpc_wire.specs.declared.method.Method.{Method}
 use Rattle.grpc_wire.specs.declared.method.Method.TheVariants as methods
 use Rattle.wl_control.specs.declared.asked.Asked.{Asked}
 use Rattle.wl_control.specs.declared.asked.Kind.{Kind}
-use Rattle.wl_control.specs.declared.asked.Kind.TheVariants.{X509, Bundles, Jwt, JwtBundles, State}
+use Rattle.wl_control.specs.declared.asked.Kind.TheVariants.{X509, X509Frame, Bundles, Jwt, JwtBundles, State}
 use Rattle.wl_control.specs.declared.call.TheConstants.{HEALTH_REQUEST_SERVICE}
 use Rattle.wl_control.specs.declared.request.Form.TheVariants.{Lines}
 use Rattle.wl_control.specs.declared.request.Request.{Request}
-use Rattle.wl_control.specs.declared.request.Request.TheVariants.{FetchX509, FetchBundles, FetchJwt, FetchJwtBundles, Watch, Health, HealthWatch}
+use Rattle.wl_control.specs.declared.request.Request.TheVariants.{FetchX509, FetchBundles, FetchJwt, FetchJwtBundles, Watch, Keep, Health, HealthWatch}
 
 abbrev pub method_of : Request → Method
 method_of (FetchX509 form) = methods.X509Svid
@@ -19,6 +19,7 @@ method_of (FetchBundles form) = methods.X509Bundles
 method_of (FetchJwt form audiences) = methods.JwtSvid
 method_of (FetchJwtBundles form) = methods.JwtBundles
 method_of (Watch count) = methods.X509Svid
+method_of (Keep count) = methods.X509Svid
 method_of (Health service) = methods.HealthCheck
 method_of (HealthWatch count) = methods.HealthWatch
 
@@ -35,6 +36,7 @@ asked_of (FetchBundles form) = stream_of (Bundles form) 1
 asked_of (FetchJwt form audiences) = answer_of (Jwt form)
 asked_of (FetchJwtBundles form) = stream_of (JwtBundles form) 1
 asked_of (Watch count) = stream_of (X509 Lines) count
+asked_of (Keep count) = stream_of X509Frame count
 asked_of (Health service) = answer_of State
 asked_of (HealthWatch count) = stream_of State count
 
@@ -45,5 +47,6 @@ message_of (FetchBundles form) = []
 message_of (FetchJwtBundles form) = []
 message_of (FetchJwt form audiences) = flat_map (field JWT_REQUEST_AUDIENCE) audiences
 message_of (Watch count) = []
+message_of (Keep count) = []
 message_of (Health service) = optional_field HEALTH_REQUEST_SERVICE service
 message_of (HealthWatch count) = []

@@ -1,6 +1,6 @@
 -- The texts that are written, which PEM and JSON have in svid_forms, and the lines (own rules): ids, tokens and texts of the server are escaped, and nothing stands for the empty
 -- byte string.
-use Rattle.std.specs.Prelude.{ℕ, ◌==◌, if◌then◌else◌, List, [], ◌∷◌, ◌++◌, codes, Bool, Result, Ok, Err}
+use Rattle.std.specs.Prelude.{ℕ, ◌==◌, ◌&&◌, nat_lt, length, if◌then◌else◌, List, [], ◌∷◌, ◌++◌, codes, Bool, Result, Ok, Err}
 use Rattle.std.specs.Fmt.{decimal}
 use Rattle.std.specs.List.{flat_map, list_all}
 use Rattle.pb_wire.specs.declared.fault.FieldFault.{FieldFault}
@@ -16,10 +16,12 @@ use Rattle.wl_client.specs.Faults.{number_of}
 use Rattle.wl_client.specs.declared.response.JwtBundlesResponse.{JwtBundlesResponse}
 use Rattle.wl_client.specs.Messages.{x509_of, bundles_of, jwt_of, jwt_bundles_of, state_of}
 use Rattle.workload_proto.specs.declared.field_number.TheConstants.{X509_SVID_CHAIN, MAP_ITEM_VALUE}
+use Rattle.grpc_wire.specs.Messages.{framed}
+use Rattle.svid_files.specs.Files.{has_files}
 use Rattle.svid_forms.specs.Blocks.{svid_blocks, bundle_blocks, is_svid_whole, is_bundle_whole}
 use Rattle.svid_forms.specs.Json.{x509_json, bundles_json, jwt_json, jwt_bundles_json}
 use Rattle.wl_control.specs.declared.asked.Kind.{Kind}
-use Rattle.wl_control.specs.declared.asked.Kind.TheVariants.{X509, Bundles, Jwt, JwtBundles, State}
+use Rattle.wl_control.specs.declared.asked.Kind.TheVariants.{X509, X509Frame, Bundles, Jwt, JwtBundles, State}
 use Rattle.wl_control.specs.declared.request.Form.TheVariants.{Lines, Pem, Json}
 use Rattle.wl_control.specs.declared.request.TokenForm.TheVariants as token
 use Rattle.wl_control.specs.Escapes.{hex, escaped}
@@ -76,6 +78,10 @@ svids_are_whole m = list_all is_svid_whole m.svids
 abbrev pub svids_pem : X509Response → List ℕ
 svids_pem m = flat_map svid_blocks m.svids
 
+-- a message that has files, as a frame of gRPC with its length in four bytes
+abbrev pub may_be_kept : List ℕ → X509Response → Bool
+may_be_kept message m = has_files m && nat_lt (length message) 4294967296
+
 abbrev pub bundles_are_whole : BundlesResponse → Bool
 bundles_are_whole m = list_all is_bundle_whole m.bundles
 
@@ -85,6 +91,7 @@ bundles_pem m = flat_map bundle_blocks m.bundles
 unfoldable pub lines_of : Kind → List ℕ → Result (List ℕ) FieldFault
 lines_of (X509 Lines) message = lines_by svid_lines (x509_of message)
 lines_of (X509 Pem) message = whole_by X509_SVID_CHAIN svids_are_whole svids_pem (x509_of message)
+lines_of X509Frame message = whole_by X509_SVID_CHAIN (may_be_kept message) (λ m. framed message) (x509_of message)
 lines_of (X509 Json) message = lines_by x509_json (x509_of message)
 lines_of (Bundles Lines) message = lines_by bundle_lines (bundles_of message)
 lines_of (Bundles Pem) message = whole_by MAP_ITEM_VALUE bundles_are_whole bundles_pem (bundles_of message)

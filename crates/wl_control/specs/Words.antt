@@ -10,7 +10,7 @@ use Rattle.wl_control.specs.declared.request.TokenForm.TheVariants as token
 use Rattle.wl_control.specs.declared.request.Format.{Format}
 use Rattle.wl_control.specs.declared.request.Format.TheVariants.{Pem, Json}
 use Rattle.wl_control.specs.declared.request.Request.{Request}
-use Rattle.wl_control.specs.declared.request.Request.TheVariants.{FetchX509, FetchBundles, FetchJwt, FetchJwtBundles, Watch, Health, HealthWatch}
+use Rattle.wl_control.specs.declared.request.Request.TheVariants.{FetchX509, FetchBundles, FetchJwt, FetchJwtBundles, Watch, Keep, Health, HealthWatch}
 
 abbrev pub is_digit : ℕ → Bool
 is_digit b = nat_le 48 b && nat_le b 57
@@ -101,6 +101,7 @@ in_format Json (FetchJwt f audiences) = Some (FetchJwt token.Json audiences)
 in_format Pem (FetchJwtBundles f) = None
 in_format Json (FetchJwtBundles f) = Some (FetchJwtBundles token.Json)
 in_format f (Watch count) = None
+in_format f (Keep count) = None
 in_format f (Health service) = None
 in_format f (HealthWatch count) = None
 
@@ -121,5 +122,6 @@ IsFit (FetchBundles f) = Unit {0}
 IsFit (FetchJwtBundles f) = Unit {0}
 IsFit (FetchJwt f audiences) = (length audiences ≤ MAX_AUDIENCES) × (list_all is_audience audiences ≡ true)
 IsFit (Watch count) = Unit {0}
+IsFit (Keep count) = Unit {0}
 IsFit (Health service) = length service ≤ MAX_WORD_LEN
 IsFit (HealthWatch count) = Unit {0}

@@ -17,6 +17,8 @@ use wl_octets::{Memory, Octets};
 pub enum Kind {
     /// An `X509SVIDResponse`.
     X509(Form),
+    /// An `X509SVIDResponse` that has files, as a frame of gRPC.
+    X509Frame,
     /// An `X509BundlesResponse`.
     Bundles(Form),
     /// A `JWTSVIDResponse`.

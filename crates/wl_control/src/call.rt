@@ -24,7 +24,7 @@ pub(crate) fn method_of(request: &Request) -> Method
     ensures { result ≡ method_of request.now }
 {
     match request {
-        Request::FetchX509(_) | Request::Watch(_) => Method::X509Svid,
+        Request::FetchX509(_) | Request::Watch(_) | Request::Keep(_) => Method::X509Svid,
         Request::FetchBundles(_) => Method::X509Bundles,
         Request::FetchJwt(_, _) => Method::JwtSvid,
         Request::FetchJwtBundles(_) => Method::JwtBundles,
@@ -65,6 +65,7 @@ pub(crate) fn asked_of(request: &Request) -> Asked
         Request::FetchJwt(form, _) => answer_of(Kind::Jwt(*form)),
         Request::FetchJwtBundles(form) => stream_of(Kind::JwtBundles(*form), 1),
         Request::Watch(count) => stream_of(Kind::X509(Form::Lines), *count),
+        Request::Keep(count) => stream_of(Kind::X509Frame, *count),
         Request::Health(_) => answer_of(Kind::State),
         Request::HealthWatch(count) => stream_of(Kind::State, *count),
     }
@@ -99,6 +100,7 @@ pub(crate) fn message_of(alloc: Global, request: &Request) -> Result<Vec<u8>, Me
         | Request::FetchBundles(_)
         | Request::FetchJwtBundles(_)
         | Request::Watch(_)
+        | Request::Keep(_)
         | Request::HealthWatch(_) => {}
     }
     Ok(message)

@@ -18,5 +18,5 @@ pub mod status;
 mod words;
 
 pub use laws::escaped_text_has_no_newline;
-pub use program::control;
+pub use program::{control, keep};
 pub use words::refusal;

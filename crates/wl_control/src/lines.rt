@@ -1,30 +1,36 @@
 //! The lines that are written.
 
-ghost use Rattle.std.specs.Prelude.{◌≡◌, ◌++◌, codes, Ok, Err, IfOk, OnOk, MatchResult};
+ghost use Rattle.std.specs.Prelude.{◌≡◌, ◌++◌, ◌<◌, ◌^◌, length, codes, Ok, Err, IfOk, OnOk, MatchResult};
 ghost use Rattle.std.specs.Fmt.{decimal};
 ghost use Rattle.std.specs.List.{flat_map};
 ghost use Rattle.wl_client.specs.Messages.{x509_of, bundles_of, jwt_of, jwt_bundles_of, state_of};
 ghost use Rattle.workload_proto.specs.declared.field_number.TheConstants.{X509_SVID_CHAIN, MAP_ITEM_VALUE};
+ghost use Rattle.grpc_wire.specs.Messages.{framed};
 ghost use Rattle.svid_forms.specs.Json.{x509_json, bundles_json, jwt_json, jwt_bundles_json};
 ghost use Rattle.wl_control.specs.Escapes.{hex};
-ghost use Rattle.wl_control.specs.Lines.{line_end, svid_line, svid_lines, bundle_line, bundle_lines, jwt_line, jwt_lines, jwt_bundle_lines, state_line, status_line, fault_line, svids_are_whole, svids_pem, bundles_are_whole, bundles_pem, lines_of, lines_by, whole_by};
+ghost use Rattle.wl_control.specs.Lines.{line_end, svid_line, svid_lines, bundle_line, bundle_lines, jwt_line, jwt_lines, jwt_bundle_lines, state_line, status_line, fault_line, svids_are_whole, svids_pem, bundles_are_whole, bundles_pem, may_be_kept, lines_of, lines_by, whole_by};
 ghost use Rattle.wl_control.specs.Takings.{Writes};
 
 use crate::asked::Kind;
 use crate::escapes::{put_escaped, put_hex};
 use crate::request::{Form, TokenForm};
+use grpc_wire::put_message;
 use std::alloc::Global;
 use std::string::ToString;
+use svid_files::has_files;
 use svid_forms::{
     are_bundles_whole, are_svids_whole, put_bundles_json, put_bundles_pem, put_jwt_bundles_json,
     put_jwt_json, put_svids_pem, put_x509_json,
 };
 use wl_client::{
-    ClientFault, JwtItem, MapItem, X509Item, decode_bundles, decode_jwt, decode_jwt_bundles,
-    decode_state, decode_x509,
+    ClientFault, JwtItem, MapItem, X509Item, X509Response, decode_bundles, decode_jwt,
+    decode_jwt_bundles, decode_state, decode_x509,
 };
 use wl_octets::{Memory, Octets};
 use workload_proto::{ProtoFault, field_number};
+
+/// How many lengths four bytes have.
+const LENGTHS: usize = 4_294_967_296;
 
 /// A number in decimal.
 fn put_decimal(out: &mut Vec<u8>, number: u32) -> Result<(), Memory>
@@ -172,6 +178,35 @@ fn put_x509_pem(alloc: Global, out: &mut Vec<u8>, message: &[u8]) -> Result<(), 
     Ok(())
 }
 
+/// A message as a frame of gRPC.
+fn put_frame(alloc: Global, out: &mut Vec<u8>, message: &[u8]) -> Result<(), Memory>
+    requires { length message.now < 2 ^ 32 }
+    ensures { OnOk result (out.new.items ≡ out.old.items ++ framed message.now) }
+{
+    let mut frame = Octets::empty(alloc);
+    put_message(&mut frame, message)?;
+    out.extend_from_slice(frame.as_slice())?;
+    Ok(())
+}
+
+/// Whether a message has files, and a length of four bytes.
+fn may_be_kept(alloc: Global, message: &[u8], said: &X509Response) -> Result<bool, Memory>
+    ensures { IfOk result (λ may. may ≡ may_be_kept message.now said.now) }
+{
+    Ok(has_files(alloc, said)? && message.len() < LENGTHS)
+}
+
+fn put_x509_frame(alloc: Global, out: &mut Vec<u8>, message: &[u8]) -> Result<(), ProtoFault>
+    ensures { Writes (whole_by X509_SVID_CHAIN (may_be_kept message.now) (λ m. framed message.now) (x509_of message.now)) result out.old.items out.new.items }
+{
+    let said = decode_x509(alloc, message)?;
+    if !may_be_kept(alloc, message, &said)? {
+        return Err(ProtoFault::FieldKind(field_number::X509_SVID_CHAIN));
+    }
+    put_frame(alloc, out, message)?;
+    Ok(())
+}
+
 fn put_x509_object(alloc: Global, out: &mut Vec<u8>, message: &[u8]) -> Result<(), ProtoFault>
     ensures { Writes (lines_by x509_json (x509_of message.now)) result out.old.items out.new.items }
 {
@@ -264,6 +299,7 @@ pub(crate) fn put_lines(
     match kind {
         Kind::X509(Form::Lines) => put_x509_lines(alloc, out, message),
         Kind::X509(Form::Pem) => put_x509_pem(alloc, out, message),
+        Kind::X509Frame => put_x509_frame(alloc, out, message),
         Kind::X509(Form::Json) => put_x509_object(alloc, out, message),
         Kind::Bundles(Form::Lines) => put_bundles_lines(alloc, out, message),
         Kind::Bundles(Form::Pem) => put_bundles_blocks(alloc, out, message),

@@ -3,6 +3,7 @@
 ghost use Rattle.std.specs.Prelude.{◌≡◌, ◌<◌, ◌≤◌, ◌+◌, ◌*◌, ◌-◌, List, [], length, map, string_bytes, Some, None, IfOk};
 ghost use Rattle.wl_edge.specs.declared.link.Heard.{Heard as Answer};
 ghost use Rattle.wl_control.specs.declared.request.Request.{Request};
+ghost use Rattle.wl_control.specs.declared.request.Request.TheVariants.{Keep};
 ghost use Rattle.wl_control.specs.declared.asked.Verdict.TheVariants.{Faulted};
 ghost use Rattle.wl_control.specs.declared.limits.TheConstants.{MAX_IDLES};
 ghost use Rattle.wl_control.specs.Words.{request_of, IsFit};
@@ -235,6 +236,20 @@ fn make_call<L: Link, K: Sink>(
         return Ok(WRITE_FAILED);
     }
     talk(&mut call, room.as_mut_slice(), link, sink)
+}
+
+/// Fetches so many messages of FetchX509SVID, as they come, and writes each as a frame of gRPC: a byte 0, the message's
+/// length in four bytes, and the message. One that has no files (`svid_files`) is a fault. The statuses, the lines of another
+/// status and of a fault, and the bounds are those of [`control`].
+pub fn keep<L: Link, K: Sink>(alloc: Global, count: u32, link: &mut L, sink: &mut K) -> u8
+    ensures { StatusExplains (Some (Keep count))
+        (moment (L.told link.old) (K.taken sink.old) (L.failed_receives link.old) (L.failed_sends link.old) (K.faults sink.old))
+        (moment (L.told link.new) (K.taken sink.new) (L.failed_receives link.new) (L.failed_sends link.new) (K.faults sink.new)) result }
+{
+    match make_call(alloc, &Request::Keep(count), link, sink) {
+        Ok(status) => status,
+        Err(Memory) => OUT_OF_MEMORY,
+    }
 }
 
 /// Makes the call that the words ask for over the link, and writes a line for each SVID, token or state that comes:

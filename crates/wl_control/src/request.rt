@@ -44,6 +44,8 @@ pub enum Request {
     FetchJwtBundles(TokenForm),
     /// So many messages of FetchX509SVID.
     Watch(u32),
+    /// So many messages of FetchX509SVID, each as a frame of gRPC. No words ask for it.
+    Keep(u32),
     /// The message of Check for this service.
     Health(Octets),
     /// So many messages of Watch for the empty service.

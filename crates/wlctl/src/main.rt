@@ -6,16 +6,24 @@
 //! standard error.
 #![tactic(auto)]
 
+mod asks;
 mod endpoint;
+mod folder_sink;
 
+use asks::{kept_in, written_to};
 use endpoint::{Socket, take_socket};
+use folder_sink::FolderSink;
 use std::alloc::{AllocGlobal, Global};
 use std::process::ExitCode;
 use std::string::String;
-use wl_control::status::{OUT_OF_MEMORY, USAGE};
-use wl_control::{control, refusal};
+use std::sync::Wait;
+use std::thread::sleep;
+use std::time::Duration;
+use wl_control::status::{OUT_OF_MEMORY, USAGE, WRITE_FAILED};
+use wl_control::{control, keep, refusal};
 use wl_edge::RealSink;
 use wl_edge_real::{DialedLink, words};
+use wl_octets::Memory;
 
 /// What is said where no socket is named.
 const UNNAMED: &str =
@@ -24,6 +32,9 @@ const UNNAMED: &str =
 /// What is said where the variable can't be used.
 const UNUSABLE: &str =
     "error: SPIFFE_ENDPOINT_SOCKET is not of the form unix:///path or unix:/path\n";
+
+/// How many seconds are waited at most between two connections.
+const MAX_WAIT_SECONDS: u64 = 30;
 
 /// Writes why the words fit nothing to standard error, or else this. Where that fails nobody reads it.
 fn explain(rt: &HostRuntime, alloc: Global, words: &[String], otherwise: &str) {
@@ -48,14 +59,81 @@ fn call(rt: HostRuntime, path: String, words: &[String]) -> u8 {
     status
 }
 
+/// Writes the files of one message into this folder.
+fn write(rt: HostRuntime, alloc: Global, path: String, folder: String) -> u8 {
+    let Ok(own) = rt.clone() else {
+        return OUT_OF_MEMORY;
+    };
+    let mut link = DialedLink::start(rt, path);
+    let mut sink = FolderSink::start(own, alloc, folder, false);
+    keep(alloc, 1, &mut link, &mut sink)
+}
+
+/// Connects once, and writes the files of each message that comes.
+fn keep_once(
+    rt: &HostRuntime,
+    alloc: Global,
+    path: &String,
+    sink: &mut FolderSink,
+) -> Result<u8, Memory> {
+    let own = rt.clone()?;
+    let mut link = DialedLink::start(own, path.clone()?);
+    Ok(keep(alloc, u32::MAX, &mut link, sink))
+}
+
+/// How many seconds are waited after so many, where nothing was written meanwhile.
+fn next_wait(seconds: u64) -> u64 {
+    seconds.saturating_add(seconds).min(MAX_WAIT_SECONDS)
+}
+
+/// Writes the files of each message that comes, and connects again where that ends, for ever: it ends only where a file that
+/// isn't its own stands in the way.
+fn stay(waits: &impl Wait, rt: HostRuntime, alloc: Global, path: String, folder: String) -> u8 {
+    let Ok(own) = rt.clone() else {
+        return OUT_OF_MEMORY;
+    };
+    let mut sink = FolderSink::start(own, alloc, folder, true);
+    let mut seconds: u64 = 1;
+    'calls: for _ in waits.forever() {
+        let before = sink.written();
+        let status = keep_once(&rt, alloc, &path, &mut sink).unwrap_or(OUT_OF_MEMORY);
+        if sink.is_refused() {
+            break 'calls;
+        }
+        if sink.written() > before {
+            seconds = 1;
+        }
+        let _ = eprintln!(rt; "event=ended status={status} wait={seconds}");
+        sleep(&rt, Duration::from_secs(seconds));
+        seconds = next_wait(seconds);
+    }
+    WRITE_FAILED
+}
+
+/// Makes the call that the words ask for over this socket, or writes the files.
+fn serve(waits: &impl Wait, rt: HostRuntime, path: String, words: &[String]) -> Result<u8, Memory> {
+    let alloc = rt.alloc();
+    if let Some(folder) = kept_in(words) {
+        let folder = String::from_str(alloc, folder)?;
+        return Ok(stay(waits, rt, alloc, path, folder));
+    }
+    if let Some(folder) = written_to(words) {
+        let folder = String::from_str(alloc, folder)?;
+        return Ok(write(rt, alloc, path, folder));
+    }
+    Ok(call(rt, path, words))
+}
+
 /// Makes the call of a command line.
-fn run(rt: HostRuntime) -> u8 {
+fn run(waits: &impl Wait, rt: HostRuntime) -> u8 {
     let alloc = rt.alloc();
     let Ok(mut words) = words(&rt, alloc) else {
         return OUT_OF_MEMORY;
     };
     let otherwise = match take_socket(&rt, &mut words) {
-        Ok(Socket::Path(path)) => return call(rt, path, words.as_slice()),
+        Ok(Socket::Path(path)) => return serve(waits, rt, path, words.as_slice()).unwrap_or(
+            OUT_OF_MEMORY,
+        ),
         Ok(Socket::Unnamed) => UNNAMED,
         Ok(Socket::Unusable) => UNUSABLE,
         Err(_) => return OUT_OF_MEMORY,
@@ -65,5 +143,8 @@ fn run(rt: HostRuntime) -> u8 {
 }
 
 fn main(rt: HostRuntime) -> ExitCode {
-    ExitCode::from(run(rt))
+    let Ok(own) = rt.clone() else {
+        return ExitCode::from(OUT_OF_MEMORY);
+    };
+    ExitCode::from(run(&rt, own))
 }

@@ -1,6 +1,8 @@
-use super::{BEGUN, FINE, SVID, try_run};
+use super::{BEGUN, FINE, SVID, link_of, try_run};
 use std::test::*;
-use wl_control::status;
+use wl_control::{keep, status};
+use wl_edge::MemorySink;
+use wl_octets::Row;
 
 /// DATA of an `X509SVIDResponse` with two SVIDs and a federated bundle, whose certificates are SEQUENCEs of a few bytes.
 const X509_TWO: &[u8] =
@@ -17,6 +19,14 @@ const JWT_BUNDLES: &[u8] =
 /// DATA of a `JWTSVIDResponse`.
 const JWT_ONE: &[u8] =
     b"\x00\x00\x1e\x00\x00\x00\x00\x00\x01\x00\x00\x00\x00\x19\n\x17\n\x0espiffe://a.b/w\x12\x05t.u.v";
+
+/// The message of `X509_TWO` as a frame of gRPC.
+const X509_FRAME: &[u8] =
+    b"\x00\x00\x00\x00e\n)\n\x0espiffe://a.b/w\x12\x070\x03\x02\x01\x050\x00\x1a\x030\x01\x09\"\x040\x81\x01\x07*\x03h\"1\n!\n\x0espiffe://a.b/x\x12\x020\x00\x1a\x030\x01\x09\"\x060\x81\x01\x070\x00\x1a\x15\n\x0cspiffe://c.d\x12\x050\x03\x02\x01\x05";
+
+/// DATA of an `X509SVIDResponse` with a federated bundle alone.
+const NO_SVID: &[u8] =
+    b"\x00\x00\x1c\x00\x00\x00\x00\x00\x01\x00\x00\x00\x00\x17\x1a\x15\n\x0cspiffe://c.d\x12\x050\x03\x02\x01\x05";
 
 #[test]
 fn messages_have_forms(rt: HostRuntime) -> Result<(), Fail> {
@@ -94,6 +104,41 @@ fn formats_that_fit_nothing(rt: HostRuntime) -> Result<(), Fail> {
         "--pem",
     ] {
         try_run(&rt, rt.alloc(), words, &[BEGUN, SVID], status::USAGE, b"")?;
+    }
+    Ok(())
+}
+
+#[test]
+fn kept_messages_are_frames(rt: HostRuntime) -> Result<(), Fail> {
+    let alloc = rt.alloc();
+    // Two of one, and then the end; one, whose chain is no SEQUENCE; one without SVIDs.
+    let table: [(&[&[u8]], u8, &[&[u8]]); 3] = [
+        (
+            &[BEGUN, X509_TWO, X509_TWO],
+            status::CLIENT_FAULT,
+            &[X509_FRAME, X509_FRAME, b"fault client 8\n"],
+        ),
+        (
+            &[BEGUN, X509_TWO, SVID],
+            status::CLIENT_FAULT,
+            &[X509_FRAME, b"fault client 7\n"],
+        ),
+        (
+            &[BEGUN, NO_SVID],
+            status::CLIENT_FAULT,
+            &[b"fault client 7\n"],
+        ),
+    ];
+    for (parts, status, texts) in table {
+        let mut link = link_of(alloc, parts)?;
+        let mut sink = MemorySink::start(alloc, 100, 65_536, usize::MAX, Row::empty(alloc))?;
+        let got = keep(alloc, u32::MAX, &mut link, &mut sink);
+        let mut text = Vec::new(alloc);
+        for part in texts {
+            text.extend_from_slice(part)?;
+        }
+        assert_eq!(rt; got, status);
+        assert_eq!(rt; sink.bytes(), text.as_slice());
     }
     Ok(())
 }
