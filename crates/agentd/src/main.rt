@@ -1,7 +1,7 @@
 //! agentd: the node agent of SPIFFE.
 //!
 //! It hands its words, its input, standard output and the operating system to `wl_agent::run`, and ends with its status.
-//! The input is standard input, and for `serve CONFIG` that file.
+//! The input is standard input, and for `serve CONFIG` that file. Why words fit no command is written to standard error.
 #![tactic(auto)]
 
 mod host;
@@ -9,12 +9,20 @@ mod lazy_file;
 
 use crate::host::RealHost;
 use crate::lazy_file::LazyFile;
-use std::alloc::AllocGlobal;
+use std::alloc::{AllocGlobal, Global};
 use std::process::ExitCode;
-use wl_agent::status::OUT_OF_MEMORY;
-use wl_agent::{Host, config_path, run};
+use std::string::String;
+use wl_agent::status::{OUT_OF_MEMORY, USAGE};
+use wl_agent::{Host, config_path, refusal, run};
 use wl_edge::{RealSink, RealSource};
 use wl_edge_real::words;
+
+/// Writes why the words fit no command to standard error. Where that fails nobody reads it.
+fn explain(rt: &HostRuntime, alloc: Global, words: &[String]) {
+    if let Ok(text) = refusal(alloc, words) {
+        let _ = eprint!(rt; "{text}");
+    }
+}
 
 fn main(rt: HostRuntime) -> ExitCode {
     let alloc = rt.alloc();
@@ -45,5 +53,8 @@ fn main(rt: HostRuntime) -> ExitCode {
             run(&rt, alloc, words.as_slice(), &mut host)
         }
     };
+    if status == USAGE {
+        explain(&rt, alloc, words.as_slice());
+    }
     ExitCode::from(status)
 }

@@ -1,4 +1,5 @@
 pub mod Keeps
 pub mod Statuses
 mod Explained
-mod Words
+mod Fitting
+mod Sole

@@ -1,7 +1,8 @@
 -- The words of a command line (own rules).
-use Rattle.std.specs.Prelude.{ℕ, ◌+◌, ◌<◌, ◌≤◌, ◌==◌, ◌&&◌, not, Bool, false, nat_le, if◌then◌else◌, List, [], ◌∷◌, ◌++◌, length, take, drop, codes, Option, Some, None, option_and_then, option_map, is_none}
+use Rattle.std.specs.Prelude.{ℕ, ◌<◌, ◌≤◌, ◌==◌, ◌&&◌, Bool, nat_le, if◌then◌else◌, List, [], ◌∷◌, length, codes, Option, Some, None, option_and_then, option_map, is_none}
 use Rattle.std.specs.Str.{bytes_eq}
-use Rattle.std.specs.List.{list_all, list_any, prefix_len}
+use Rattle.std.specs.List.{list_all}
+use Rattle.clap_words.specs.Operands.{operands}
 use Rattle.wl_selector.specs.Selectors.{selector_fault, sorted_texts}
 use Rattle.wl_core.specs.declared.events.TheConstants.{CONNS}
 use Rattle.wl_replay.specs.declared.limits.TheConstants.{MAX_ENTRIES, MAX_STEPS}
@@ -10,26 +11,6 @@ use Rattle.wl_agent.specs.declared.command.Command.{Command}
 use Rattle.wl_agent.specs.declared.command.Command.TheVariants.{Read, Simulate}
 use Rattle.wl_agent.specs.declared.command.Reading.TheVariants.{Preview, Check, Replay}
 use Rattle.wl_agent.specs.declared.command.Simulation.{Simulation}
-
--- two bytes or more, the first of them `-`
-abbrev pub is_option : List ℕ → Bool
-is_option [] = false
-is_option (b ∷ []) = false
-is_option (b ∷ c ∷ bytes) = b == 45
-
--- how many words stand before the first `--`
-abbrev pub dashes_at : List (List ℕ) → ℕ
-dashes_at ws = prefix_len (λ w. not (bytes_eq w (codes "--"))) ws
-
-abbrev pub before_dashes : List (List ℕ) → List (List ℕ)
-before_dashes ws = take (dashes_at ws) ws
-
-abbrev pub behind_dashes : List (List ℕ) → List (List ℕ)
-behind_dashes ws = drop (dashes_at ws + 1) ws
-
--- The operands among the words behind the command: all but the first `--`, before which no word is an option.
-unfoldable pub operands : List (List ℕ) → Option (List (List ℕ))
-operands ws = if list_any is_option (before_dashes ws) then None else Some (before_dashes ws ++ behind_dashes ws)
 
 abbrev pub is_selector : List ℕ → Bool
 is_selector text = is_none (selector_fault text)

@@ -1,7 +1,7 @@
 -- The words of `serve CONFIG` (own rules).
 use Rattle.std.specs.Prelude.{ℕ, if◌then◌else◌, List, [], ◌∷◌, codes, Option, Some, None, option_and_then}
 use Rattle.std.specs.Str.{bytes_eq}
-use Rattle.wl_agent.specs.Args.{operands}
+use Rattle.clap_words.specs.Operands.{operands}
 
 -- the one operand
 abbrev pub sole : List (List ℕ) → Option (List ℕ)

@@ -1,11 +1,16 @@
 //! Reading the words of a command line.
 
-ghost use Rattle.std.specs.Prelude.{◌≡◌, ◌++◌, ◌≤◌, List, drop, length, map, Option, option_map, option_and_then, string_bytes, if◌then◌else◌, IfOk, IfSome, OnOk, Some, None};
-ghost use Rattle.std.specs.List.{list_all, list_any};
+ghost use Rattle.std.specs.Prelude.{◌≡◌, ◌⊎◌, ◌≤◌, length, map, option_map, string_bytes, if◌then◌else◌, IfOk, IfErr, IfSome, Some, None};
+ghost use Rattle.std.specs.List.{list_all};
+ghost use Rattle.clap.specs.Words.{kind_of};
+ghost use Rattle.clap.specs.declared.error.ErrorKind.TheVariants.{OutOfMemory};
 ghost use Rattle.wl_selector.specs.Selectors.{sorted_texts};
-ghost use Rattle.wl_agent.specs.Args.{command_of, operands, dashes_at, before_dashes, behind_dashes, preview_of, alone, unsigned, number_of, simulate_of, command_by, CommandFits, is_option, is_selector};
+ghost use Rattle.wl_agent.specs.Args.{command_of, preview_of, alone, unsigned, number_of, simulate_of, command_by, CommandFits, is_selector};
 
 use crate::command::{Command, Reading, Simulation};
+use agent_words::{Request, read};
+use clap::Error;
+use clap::error::ErrorKind;
 use std::alloc::Global;
 use std::string::String;
 use wl_core::CONNS;
@@ -15,91 +20,6 @@ use wl_selector::{Selector, SelectorFault, Selectors, SelectorsFault};
 
 /// The most selectors of a caller.
 const SELECTORS: u32 = 256;
-
-/// Whether a word has two bytes or more, the first of them `-`.
-fn is_flag(word: &[u8]) -> bool
-    ensures { result ≡ is_option word.now }
-{
-    match word {
-        [first, _, ..] => *first == b'-',
-        _ => false,
-    }
-}
-
-/// How many words stand before the first `--`.
-fn operands_marker(words: &[String]) -> usize
-    ensures place { result ≡ dashes_at (map string_bytes words.now) }
-    ensures within { result ≤ length words.now }
-{
-    let mut at = 0;
-    let mut rest = words;
-    'words: while let Some((word, after)) = rest.split_first() {
-        if word.as_bytes() == b"--".as_slice() {
-            return at;
-        }
-        at += 1;
-        rest = after;
-    }
-    at
-}
-
-/// The words before the first `--`, and those behind it.
-pub(crate) fn split_at_marker(words: &[String]) -> (&[String], &[String])
-    ensures before { map string_bytes result.0.now ≡ before_dashes (map string_bytes words.now) }
-    ensures behind { map string_bytes result.1.now ≡ behind_dashes (map string_bytes words.now) }
-{
-    let (before, rest) = words.split_at(operands_marker(words));
-    (before, tail(rest))
-}
-
-/// All words but the first.
-fn tail(words: &[String]) -> &[String]
-    ensures { result.now ≡ drop 1 words.now }
-{
-    match words.split_first() {
-        Some((_, rest)) => rest,
-        None => words,
-    }
-}
-
-/// Whether one of the words is an option.
-pub(crate) fn has_flag(words: &[String]) -> bool
-    ensures { result ≡ list_any is_option (map string_bytes words.now) }
-{
-    let mut rest = words;
-    'words: while let Some((word, after)) = rest.split_first() {
-        if is_flag(word.as_bytes()) {
-            return true;
-        }
-        rest = after;
-    }
-    false
-}
-
-/// Adds these words.
-fn add_words(alloc: Global, done: &mut Row<Octets>, words: &[String]) -> Result<(), Memory>
-    ensures { OnOk result (done.new ≡ done.old ++ map string_bytes words.now) }
-{
-    for word in words {
-        done.push(Octets::from_slice(alloc, word.as_bytes())?)?;
-    }
-    Ok(())
-}
-
-/// The operands among the words behind the command: all but the first `--`, before which no word may be an option.
-#[tactic(auto, unfolding(crate::specs::Args::operands))]
-fn read_operands(alloc: Global, words: &[String]) -> Result<Option<Row<Octets>>, Memory>
-    ensures { IfOk result (λ o. o ≡ operands (map string_bytes words.now)) }
-{
-    let (before, behind) = split_at_marker(words);
-    if has_flag(before) {
-        return Ok(None);
-    }
-    let mut done = Row::empty(alloc);
-    add_words(alloc, &mut done, before)?;
-    add_words(alloc, &mut done, behind)?;
-    Ok(Some(done))
-}
 
 /// A selector, where the text is one.
 fn read_selector(alloc: Global, text: &[u8]) -> Result<Option<Selector>, Memory>
@@ -234,17 +154,58 @@ fn command_by(alloc: Global, name: &[u8], texts: &[Octets]) -> Result<Option<Com
     Ok(None)
 }
 
-/// The command that the words fit, if any.
-#[tactic(auto, unfolding(crate::specs::Args::command_of))]
-pub(crate) fn read_command(alloc: Global, words: &[String]) -> Result<Option<Command>, Memory>
-    ensures value { IfOk result (λ o. o ≡ command_of (map string_bytes words.now)) }
+/// Operands as texts of their own.
+fn copy_operands(alloc: Global, operands: &[&str]) -> Result<Row<Octets>, Memory>
+    ensures { IfOk result (λ texts. texts ≡ map (λ s. s.now) operands.now) }
+{
+    let mut texts = Row::empty(alloc);
+    for operand in operands {
+        texts.push(Octets::from_slice(alloc, operand.as_bytes())?)?;
+    }
+    Ok(texts)
+}
+
+/// The command of a request, where its operands fit one.
+fn command_asked(alloc: Global, request: &Request<'_>) -> Result<Option<Command>, Memory>
+    ensures value { IfOk result (λ o. o ≡ command_by request.now.name.now (map (λ s. s.now) request.now.operands.items)) }
     ensures fits { IfOk result (λ o. IfSome o CommandFits) }
 {
-    let Some((first, after)) = words.split_first() else {
-        return Ok(None);
+    let texts = copy_operands(alloc, request.operands.as_slice())?;
+    command_by(alloc, request.name.as_bytes(), texts.as_slice())
+}
+
+/// Why there is no command.
+#[derive(Drop)]
+pub(crate) enum NoCommand {
+    Memory,
+    /// The words fit none: why clap refuses them, where it does.
+    Unfit(Option<Error>),
+}
+
+/// What an error of clap says of the words.
+fn no_command(error: Error) -> NoCommand
+    ensures { kind_of error ≡ OutOfMemory → result ≡ NoCommand.Memory }
+{
+    if error.kind() == ErrorKind::OutOfMemory {
+        NoCommand::Memory
+    } else {
+        NoCommand::Unfit(Some(error))
+    }
+}
+
+/// The command that the words fit.
+pub(crate) fn read_command(alloc: Global, words: &[String]) -> Result<Command, NoCommand>
+    ensures value { IfOk result (λ c. command_of (map string_bytes words.now) ≡ Some c) }
+    ensures fits { IfOk result CommandFits }
+    ensures unfit { IfErr result (λ e. (e ≡ NoCommand.Memory) ⊎ (command_of (map string_bytes words.now) ≡ None)) }
+{
+    let request = match read(alloc, words) {
+        Ok(request) => request,
+        Err(error) => return Err(no_command(error)),
     };
-    match read_operands(alloc, after)? {
-        Some(texts) => command_by(alloc, first.as_bytes(), texts.as_slice()),
-        None => Ok(None),
+    match command_asked(alloc, &request) {
+        Ok(Some(command)) => Ok(command),
+        Ok(None) => Err(NoCommand::Unfit(None)),
+        Err(Memory) => Err(NoCommand::Memory),
     }
 }

@@ -16,7 +16,9 @@ mod serve_ends;
 pub mod status;
 #[cfg(test)]
 mod tests;
+mod unfit;
 
 pub use program::READ_LIMIT;
 pub use serve::{Host, config_path, run};
+pub use unfit::refusal;
 pub use wl_serve::{Binder, Parts};

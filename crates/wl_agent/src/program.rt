@@ -8,7 +8,7 @@ ghost use Rattle.wl_agent.specs.Args.{command_of, SimulationFits};
 ghost use Rattle.wl_agent.specs.Outcomes.{usage_outcome, outcome_of};
 ghost use Rattle.wl_agent.specs.Ends.{Traffic, Ends, IsCounted, IsOutcome, reads, StatusExplains, StatusGiven};
 
-use crate::args::read_command;
+use crate::args::{NoCommand, read_command};
 use crate::command::{Command, Reading, Simulation};
 use crate::outcome::{Outcome, outcome_of, simulation_outcome};
 use crate::status::{OUT_OF_MEMORY, READ_FAILED, USAGE, WRITE_FAILED};
@@ -80,10 +80,10 @@ fn outcome<I: Source>(alloc: Global, words: &[String], input: &mut I) -> Result<
     ensures idle { reads (command_of (map string_bytes words.now)) ≡ false → input.new ≡ input.old }
 {
     match read_command(alloc, words) {
-        Ok(Some(Command::Read(reading))) => read_outcome(alloc, &reading, input),
-        Ok(Some(Command::Simulate(simulation))) => run_simulation(alloc, simulation),
-        Ok(None) => usage(alloc),
-        Err(Memory) => Err(ReadFault::Memory),
+        Ok(Command::Read(reading)) => read_outcome(alloc, &reading, input),
+        Ok(Command::Simulate(simulation)) => run_simulation(alloc, simulation),
+        Err(NoCommand::Unfit(_)) => usage(alloc),
+        Err(NoCommand::Memory) => Err(ReadFault::Memory),
     }
 }
 

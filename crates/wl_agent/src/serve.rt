@@ -1,12 +1,13 @@
 //! The one call, and its command `serve`.
 
-ghost use Rattle.std.specs.Prelude.{◌≡◌, ◌++◌, map, string_bytes, option_map, None, false, IsSome};
-ghost use Rattle.wl_agent.specs.Args.{command_of, operands, is_option};
+ghost use Rattle.std.specs.Prelude.{◌≡◌, ◌∷◌, [], map, codes, string_bytes, option_map, option_and_then, None, false, IsSome};
+ghost use Rattle.std.specs.Str.{bytes_eq};
+ghost use Rattle.clap_words.specs.Operands.{operands, is_option};
+ghost use Rattle.wl_agent.specs.Args.{command_of};
 ghost use Rattle.wl_agent.specs.Ends.{reads, StatusExplains, StatusGiven};
 ghost use Rattle.wl_agent.specs.ServeWords.{config_of, sole};
 ghost use Rattle.wl_agent.specs.ServeEnds.{ServeExplains};
 
-use crate::args::{has_flag, split_at_marker};
 use crate::program::{READ_LIMIT, run_command};
 use crate::serve_ends::serve_outcome;
 use crate::status::{OUT_OF_MEMORY, READ_FAILED, WRITE_FAILED};
@@ -28,34 +29,63 @@ pub struct Host<I, O, B: Binder> {
     pub parts: Option<Parts<B>>,
 }
 
-/// The one word of these, if they are one.
-fn only(words: &[String]) -> Option<&str>
-    ensures { option_map (λ name. name.now) result ≡ sole (map string_bytes words.now) }
+/// Whether the word is `--`.
+fn is_marker(word: &String) -> bool
+    ensures { result ≡ bytes_eq (string_bytes word.now) (codes "--") }
 {
-    match words {
-        [] => None,
-        [name] => Some(name.as_str()),
-        [_, _, ..] => None,
+    word.as_bytes() == b"--".as_slice()
+}
+
+/// Whether a word has two bytes or more, the first of them `-`.
+fn is_flag(word: &String) -> bool
+    ensures { result ≡ is_option (string_bytes word.now) }
+{
+    match word.as_bytes() {
+        [first, _, ..] => *first == b'-',
+        _ => false,
     }
 }
 
-/// The one word of all these, if they are one.
-fn only_of<'a>(before: &'a [String], behind: &'a [String]) -> Option<&'a str>
+/// The word itself, where it is an operand.
+fn sole_of_one(name: &String) -> Option<&str>
     ensures { option_map (λ name. name.now) result
-        ≡ sole (map string_bytes before.now ++ map string_bytes behind.now) }
+        ≡ option_and_then sole (operands (string_bytes name.now ∷ [])) }
 {
-    match before {
-        [] => only(behind),
-        [name] => match behind {
-            [] => Some(name.as_str()),
-            [_, ..] => None,
-        },
-        [_, _, ..] => None,
+    if is_flag(name) {
+        return None;
+    }
+    Some(name.as_str())
+}
+
+/// The operand of two words, where one of them is `--`.
+fn sole_of_two<'a>(first: &'a String, second: &'a String) -> Option<&'a str>
+    ensures { option_map (λ name. name.now) result
+        ≡ option_and_then sole (operands (string_bytes first.now ∷ string_bytes second.now ∷ [])) }
+{
+    if is_marker(first) {
+        return Some(second.as_str());
+    }
+    if is_flag(first) || !is_marker(second) {
+        return None;
+    }
+    Some(first.as_str())
+}
+
+/// The one operand of these words, if they have one: a word that is no option, or whatever stands after `--`.
+fn sole_operand(words: &[String]) -> Option<&str>
+    ensures { option_map (λ name. name.now) result
+        ≡ option_and_then sole (operands (map string_bytes words.now)) }
+{
+    match words {
+        [] => None,
+        [name] => sole_of_one(name),
+        [first, second] => sole_of_two(first, second),
+        [_, _, _, ..] => None,
     }
 }
 
 /// The name of the configuration, where the words are those of `serve CONFIG`. It takes no memory.
-#[tactic(auto, unfolding(crate::specs::ServeWords::config_of, crate::specs::Args::operands))]
+#[tactic(auto, unfolding(crate::specs::ServeWords::config_of))]
 pub fn config_path(words: &[String]) -> Option<&str>
     ensures { option_map (λ name. name.now) result ≡ config_of (map string_bytes words.now) }
 {
@@ -63,11 +93,7 @@ pub fn config_path(words: &[String]) -> Option<&str>
     if first.as_bytes() != b"serve".as_slice() {
         return None;
     }
-    let (before, behind) = split_at_marker(after);
-    if has_flag(before) {
-        return None;
-    }
-    only_of(before, behind)
+    sole_operand(after)
 }
 
 /// Serves by the configuration that is read, and writes the line of its first fault, or of the first document's.

@@ -1,6 +1,7 @@
 mod replays;
 mod serving;
 mod simulations;
+mod words;
 
 use crate::program::run_command;
 use crate::publication::publication;
@@ -188,57 +189,6 @@ const CHECKS: [Case; 8] = [
     },
 ];
 
-const UNFIT_WORDS: [Case; 8] = [
-    Case {
-        words: &[],
-        document: DOC,
-        status: 2,
-        text: USAGE,
-    },
-    Case {
-        words: &["preview"],
-        document: DOC,
-        status: 2,
-        text: USAGE,
-    },
-    Case {
-        words: &["preview", "x"],
-        document: DOC,
-        status: 2,
-        text: USAGE,
-    },
-    Case {
-        words: &["preview", "-x:y"],
-        document: DOC,
-        status: 2,
-        text: USAGE,
-    },
-    Case {
-        words: &["preview", "a:b", "--help"],
-        document: DOC,
-        status: 2,
-        text: USAGE,
-    },
-    Case {
-        words: &["--", "check"],
-        document: DOC,
-        status: 2,
-        text: USAGE,
-    },
-    Case {
-        words: &["simulate", "1", "0", "1", "0"],
-        document: DOC,
-        status: 2,
-        text: USAGE,
-    },
-    Case {
-        words: &["serve", "/x"],
-        document: DOC,
-        status: 2,
-        text: USAGE,
-    },
-];
-
 const BOTH: &str =
     r#"{"version":1,"trust_domain":"a.b","bundles":[{"trust_domain":"a.b","x509":"Aw=="}],"entries":[{"id":"e1","spiffe_id":"spiffe://a.b/w","selectors":["unix:uid:1","unix:gid:2"]}],"svids":[{"entry":"e1","chain":"AQ==","key":"Ag==","not_before":100,"not_after":200}]}"#;
 
@@ -285,14 +235,6 @@ fn previews(rt: HostRuntime) -> Result<(), Fail> {
 fn checks(rt: HostRuntime) -> Result<(), Fail> {
     for case in &CHECKS {
         assert!(rt; is_due(rt.alloc(), case)?, "{}", case.document);
-    }
-    Ok(())
-}
-
-#[test]
-fn words_that_fit_nothing(rt: HostRuntime) -> Result<(), Fail> {
-    for case in &UNFIT_WORDS {
-        assert!(rt; is_due(rt.alloc(), case)?, "{}", case.words.len());
     }
     Ok(())
 }
