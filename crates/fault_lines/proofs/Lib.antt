@@ -1,2 +1,2 @@
 mod Reading
-mod RoundTrip
+pub mod RoundTrip

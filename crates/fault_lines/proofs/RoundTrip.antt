@@ -1,6 +1,6 @@
 -- Numbers as they are written are read back.
 use Rattle.std.specs.Prelude.{◌≡◌, ℕ, ◌+◌, ◌*◌, ◌-◌, ◌/◌, ◌%◌, ◌^◌, ◌<◌, ◌≤◌, ◌==◌, ◌&&◌, nat_le, true, false, cond, if◌then◌else◌, List, [], ◌∷◌, ◌++◌, length, map, codes, Option, Some, None, option_and_then, option_map}
-use Rattle.std.specs.List.{flat_map, list_all}
+use Rattle.std.specs.List.{flat_map, list_all, join_with_byte, AllByRecursion}
 use Rattle.std.specs.Fmt.{decimal}
 use Rattle.std.proofs.Common.{arith, refl, sym, ◌∙◌, ap, subst}
 use Rattle.std.proofs.lemmas.Bool.Decides.{nat_tests}
@@ -10,10 +10,10 @@ use Rattle.std.proofs.lemmas.List.Elements.{All-from_recursion}
 use Rattle.std.proofs.lemmas.List.Splits.{slice_split_at, slice_split_none}
 use Rattle.std.proofs.lemmas.Fmt.{decimal_by_steps}
 use Rattle.list_laws.proofs.Elements.{all_append}
-use Rattle.fault_lines.specs.Lines.{spaced, spaced_all, fault_line, IsWord, AreBounded}
+use Rattle.fault_lines.specs.Lines.{spaced, spaced_all, fault_line, IsWord, IsLine, AreBounded}
 use Rattle.decimal_text.specs.Decimals.{is_digit, said_after, digits_up_to, number_up_to}
 use Rattle.fault_lines.specs.Numbers.{number_in, numbers_in}
-use Rattle.fault_lines.specs.Explanations.{sentence, sentence_of_words, words, or_line, explanation}
+use Rattle.fault_lines.specs.Explanations.{sentence, sentence_of_words, words, or_line, explanation, explained_text}
 
 -- ---- one number
 
@@ -44,6 +44,7 @@ record Written (n : ℕ) (ds : List ℕ) : Type 0 where
   long : 1 < length ds → 0 < n
   some : 0 < length ds
   word : IsWord ds
+  line : IsLine ds
 
 one : (n : ℕ) → n < 10 → Written n ((48 + n) ∷ [])
 one n small = record {
@@ -53,6 +54,7 @@ one n small = record {
   long = λ h. absurd (omega (arith, h));
   some = omega arith;
   word = (grind (arith, nat_tests), tt);
+  line = (grind (arith, nat_tests), tt);
 }
 
 more : (n : ℕ) (ds : List ℕ) → 10 ≤ n → Written (n / 10) ds → Written n (ds ++ ((48 + n % 10) ∷ []))
@@ -63,6 +65,7 @@ more n ds big w = record {
   long = λ h. omega (arith, big);
   some = omega (arith, w.some, length-append ds ((48 + n % 10) ∷ []));
   word = all_append (λ b. (b == 32) ≡ false) ds ((48 + n % 10) ∷ []) w.word (grind (arith, nat_tests), tt);
+  line = all_append (λ b. (b == 10) ≡ false) ds ((48 + n % 10) ∷ []) w.line (grind (arith, nat_tests), tt);
 }
 
 written : (n : ℕ) → n < 2 ^ 64 → Written n (decimal n)
@@ -106,3 +109,24 @@ line_read subject numbers plain fit =
     let line = fault_line subject numbers in
     let split = slice_split_at (λ b. b == 32) (codes "fault") 32 (subject ++ flat_map spaced numbers) (All-from_recursion (λ b. (b == 32) ≡ false) (codes "fault") (refl, (refl, (refl, (refl, (refl, tt)))))) refl ∙ ap (λ ws. codes "fault" ∷ ws) (words_read subject numbers plain fit) in
     ap (λ ws. or_line line (sentence_of_words ws)) split ∙ ap (λ o. or_line line (option_and_then (sentence subject) o)) (numbers_read numbers fit)
+
+-- ---- a line with its newline
+
+spaced_line : (ns : List ℕ) → AreBounded ns → IsLine (flat_map spaced ns)
+spaced_line [] fit = tt
+spaced_line (n ∷ ns) fit =
+    all_append (λ b. (b == 10) ≡ false) (spaced n) (flat_map spaced ns) (refl, (written n fit.0).line) (spaced_line ns fit.1)
+
+line_whole : (subject numbers : List ℕ) → IsLine subject → AreBounded numbers → IsLine (fault_line subject numbers)
+unfolding spaced_all
+line_whole subject numbers plain fit =
+    (refl, (refl, (refl, (refl, (refl, (refl, all_append (λ b. (b == 10) ≡ false) subject (flat_map spaced numbers) plain (spaced_line numbers fit)))))))
+
+one_line : (line : List ℕ) → IsLine line → explained_text (line ++ 10 ∷ []) ≡ explanation line ++ 10 ∷ []
+unfolding explained_text explanation sentence_of_words
+one_line line plain =
+    ap (λ ls. join_with_byte 10 (map explanation ls)) (slice_split_at (λ b. b == 10) line 10 [] (All-from_recursion (λ b. (b == 10) ≡ false) line plain) refl)
+
+pub text_read : (subject numbers : List ℕ) → IsWord subject → IsLine subject → AreBounded numbers → explained_text (fault_line subject numbers ++ 10 ∷ []) ≡ or_line (fault_line subject numbers) (sentence subject numbers) ++ 10 ∷ []
+text_read subject numbers word plain fit =
+    one_line (fault_line subject numbers) (line_whole subject numbers plain fit) ∙ ap (λ text. text ++ 10 ∷ []) (line_read subject numbers word fit)

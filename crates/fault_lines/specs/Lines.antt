@@ -16,5 +16,9 @@ fault_line subject numbers = codes "fault" ++ 32 ∷ (subject ++ spaced_all numb
 abbrev pub IsWord : List ℕ → Type 0
 IsWord word = AllByRecursion (λ b. (b == 32) ≡ false) word
 
+-- without a newline
+abbrev pub IsLine : List ℕ → Type 0
+IsLine text = AllByRecursion (λ b. (b == 10) ≡ false) text
+
 abbrev pub AreBounded : List ℕ → Type 0
 AreBounded numbers = AllByRecursion (λ n. n < 2 ^ 64) numbers

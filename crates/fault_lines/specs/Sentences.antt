@@ -3,6 +3,7 @@ use Rattle.std.specs.Prelude.{ℕ, ◌==◌, ◌&&◌, ◌||◌, Bool, not, nat_
 use Rattle.std.specs.Fmt.{decimal}
 use Rattle.fault_lines.specs.declared.places.Place.{Place}
 use Rattle.fault_lines.specs.Names.{document_place, config_place}
+use Rattle.fault_lines.specs.Texts as say
 
 abbrev pub place_of : ℕ → ℕ → ℕ → ℕ → Place
 place_of part index field item = record { part = part; index = index; field = field; item = item }
@@ -15,58 +16,57 @@ has_item kind p = (kind == 6) || (((kind == 5) && ((p.part == 2) && (p.field == 
 unfoldable pub item_suffix : ℕ → Place → List ℕ
 item_suffix kind p = if has_item kind p then codes "[" ++ decimal p.item ++ codes "]" else []
 
--- A fault of the field's own array has the same numbers as one of its first item.
+-- the field's own array, or its first item
 unfoldable pub is_list : Place → Bool
 is_list p = (p.item == 0) && (((p.part == 2) && (nat_le 3 p.field && nat_le p.field 5)) || ((p.part == 4) && (p.field == 3)))
 
 unfoldable pub kind_what : Place → List ℕ
 kind_what p =
-    if is_list p then codes "the list or its first item is of the wrong kind or out of range"
-    else codes "is of the wrong kind or out of range"
+    if is_list p then say.wrong_list else say.wrong_kind
 
 -- ---- ids
 
 unfoldable pub id_what : ℕ → Option (List ℕ)
 id_what kind =
-    if kind == 2 then Some (codes "does not begin with spiffe://")
-    else if kind == 3 then Some (codes "has no trust domain name")
-    else if kind == 8 then Some (codes "memory ran out")
+    if kind == 2 then Some say.not_spiffe
+    else if kind == 3 then Some say.no_domain
+    else if kind == 8 then Some say.id_memory
     else None
 
 unfoldable pub id_what_at : ℕ → ℕ → Option (List ℕ)
 id_what_at kind n =
-    if kind == 1 then Some (codes "has " ++ decimal n ++ codes " bytes, more than a SPIFFE ID (2048) or a trust domain name (255) may have")
-    else if kind == 4 then Some (codes "byte " ++ decimal n ++ codes " may not stand in a trust domain name")
-    else if kind == 5 then Some (codes "the segment at byte " ++ decimal n ++ codes " is empty")
-    else if kind == 6 then Some (codes "byte " ++ decimal n ++ codes " may not stand in a path segment")
-    else if kind == 7 then Some (codes "the segment at byte " ++ decimal n ++ codes " is . or ..")
+    if kind == 1 then Some (say.id_too_long n)
+    else if kind == 4 then Some (say.domain_byte n)
+    else if kind == 5 then Some (say.empty_segment n)
+    else if kind == 6 then Some (say.path_byte n)
+    else if kind == 7 then Some (say.dot_segment n)
     else None
 
 -- ---- documents
 
 unfoldable pub document_alone : ℕ → Option (List ℕ)
 document_alone kind =
-    if kind == 1 then Some (codes "document: is not JSON")
-    else if kind == 2 then Some (codes "version: is neither 1 nor 2")
-    else if kind == 11 then Some (codes "bundles: the own trust domain has no X.509 bundle")
-    else if kind == 14 then Some (codes "document: memory ran out")
+    if kind == 1 then Some say.document_not_json
+    else if kind == 2 then Some say.document_version
+    else if kind == 11 then Some say.no_own_bundle
+    else if kind == 14 then Some say.document_memory
     else None
 
 unfoldable pub document_what : ℕ → Place → Option (List ℕ)
 document_what kind p =
-    if kind == 3 then Some (codes "is missing")
+    if kind == 3 then Some say.missing
     else if kind == 4 then Some (kind_what p)
-    else if kind == 6 then Some (codes "is not a selector")
-    else if kind == 7 then Some (codes "has no selector")
-    else if kind == 8 then Some (codes "was given before")
-    else if kind == 9 then Some (codes "is of another trust domain")
-    else if kind == 10 then Some (codes "is not standard base64 with padding")
+    else if kind == 6 then Some say.not_selector
+    else if kind == 7 then Some say.no_selectors
+    else if kind == 8 then Some say.given_before
+    else if kind == 9 then Some say.foreign_domain
+    else if kind == 10 then Some say.not_base64
     else None
 
 unfoldable pub document_what_of : ℕ → ℕ → Option (List ℕ)
 document_what_of kind n =
-    if kind == 12 then Some (codes "has " ++ decimal n ++ codes " items, more than its limit")
-    else if kind == 13 then Some (codes "has " ++ decimal n ++ codes " bytes, more than its limit")
+    if kind == 12 then Some (say.too_many_items n)
+    else if kind == 13 then Some (say.too_many_bytes n)
     else if kind == 5 then id_what n
     else None
 
@@ -96,28 +96,28 @@ document_sentence (k ∷ a ∷ b ∷ c ∷ d ∷ more) = document_placed k (plac
 
 unfoldable pub config_alone : ℕ → Option (List ℕ)
 config_alone kind =
-    if kind == 1 then Some (codes "configuration: is not JSON")
-    else if kind == 2 then Some (codes "version: is not 1")
-    else if kind == 10 then Some (codes "configuration: memory ran out")
+    if kind == 1 then Some say.config_not_json
+    else if kind == 2 then Some say.config_version
+    else if kind == 10 then Some say.config_memory
     else None
 
 unfoldable pub config_long : ℕ → ℕ → Option (List ℕ)
 config_long kind n =
-    if kind == 9 then Some (codes "configuration: has " ++ decimal n ++ codes " bytes, more than its limit")
+    if kind == 9 then Some (say.config_too_long n)
     else None
 
 unfoldable pub config_what : ℕ → Place → Option (List ℕ)
 config_what kind p =
-    if kind == 3 then Some (codes "is missing")
+    if kind == 3 then Some say.missing
     else if kind == 4 then Some (kind_what p)
-    else if kind == 5 then Some (codes "is empty")
-    else if kind == 6 then Some (codes "is not a selector")
-    else if kind == 8 then Some (codes "was given before")
+    else if kind == 5 then Some say.empty_text
+    else if kind == 6 then Some say.not_selector
+    else if kind == 8 then Some say.given_before
     else None
 
 unfoldable pub config_what_of : ℕ → ℕ → Option (List ℕ)
 config_what_of kind n =
-    if kind == 7 then Some (codes "comes to " ++ decimal n ++ codes ", more than its limit")
+    if kind == 7 then Some (say.too_many n)
     else None
 
 unfoldable pub config_rest : ℕ → Place → List ℕ → Option (List ℕ)
@@ -139,15 +139,15 @@ config_sentence (k ∷ a ∷ b ∷ c ∷ d ∷ more) = config_placed k (place_of
 -- ---- scripts
 
 unfoldable pub script_alone : ℕ → Option (List ℕ)
-script_alone kind = if kind == 6 then Some (codes "script: memory ran out") else None
+script_alone kind = if kind == 6 then Some say.script_memory else None
 
 unfoldable pub script_line : ℕ → ℕ → Option (List ℕ)
 script_line kind n =
-    if kind == 1 then Some (codes "line " ++ decimal n ++ codes ": has the wrong words, or stands where it may not")
-    else if kind == 2 then Some (codes "line " ++ decimal n ++ codes ": begins with no event's word")
-    else if kind == 3 then Some (codes "line " ++ decimal n ++ codes ": names no connection")
-    else if kind == 4 then Some (codes "line " ++ decimal n ++ codes ": has a word that is not hexadecimal")
-    else if kind == 5 then Some (codes "script: has " ++ decimal n ++ codes " bytes, more than its limit")
+    if kind == 1 then Some (say.wrong_line n)
+    else if kind == 2 then Some (say.wrong_event n)
+    else if kind == 3 then Some (say.no_connection n)
+    else if kind == 4 then Some (say.not_hex n)
+    else if kind == 5 then Some (say.script_too_long n)
     else None
 
 unfoldable pub script_sentence : List ℕ → Option (List ℕ)

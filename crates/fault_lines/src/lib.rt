@@ -15,4 +15,4 @@ mod tests;
 mod texts;
 
 pub use explain::explain_text;
-pub use laws::lines_are_read;
+pub use laws::{lines_are_read, texts_are_read};
