@@ -1,28 +1,36 @@
 -- A configuration (own rules): the checks in their order over the value that its JSON is (RFC 8259, the last of equal
 -- members); the first that fails is the fault.
-use Rattle.std.specs.Prelude.{ℕ, ◌<◌, ◌≤◌, ◌==◌, List, length, codes, nat_lt, if◌then◌else◌, Result, Ok, Err}
+use Rattle.std.specs.Prelude.{ℕ, ◌<◌, ◌≤◌, ◌==◌, List, length, codes, nat_lt, if◌then◌else◌, Option, Some, None, IfSome, Result, Ok, Err}
 use Rattle.serde_json.specs.Data.{Data}
+use Rattle.serde_json.specs.Find.{get}
 use Rattle.list_laws.specs.Results.{◌>>=◌}
-use Rattle.json_members.specs.Members.{or_fault, required, object_at, number_at}
+use Rattle.json_members.specs.Members.{or_fault, required, optional, object_at, number_at}
 use Rattle.json_members.specs.Texts.{value_of}
 use Rattle.wl_document.specs.Places.{at_top}
-use Rattle.wl_config.specs.Members.{number_or, path_of, list_of}
+use Rattle.wl_config.specs.Members.{number_or, path_at, list_of}
 use Rattle.wl_config.specs.Sockets.{sockets_of, SocketsWithin}
 use Rattle.wl_config.specs.declared.config.SocketFact.{SocketFact}
+use Rattle.wl_config.specs.declared.config.DocumentSource.{DocumentSource}
+use Rattle.wl_config.specs.declared.config.DocumentSource.TheVariants.{Socket, File}
 use Rattle.wl_config.specs.declared.fault.ConfigFault.{ConfigFault}
 use Rattle.wl_config.specs.declared.fault.ConfigFault.TheVariants.{NotJson, Version, Missing, Kind, TooLong}
 use Rattle.wl_config.specs.declared.limits.TheConstants.{CONFIG_LIMIT, MAX_SOCKETS, MAX_POLL_SECONDS, DEFAULT_POLL_SECONDS}
 
+-- the path of a socket or of a file
+abbrev pub path_in : DocumentSource → List ℕ
+path_in (Socket path) = path
+path_in (File path) = path
+
 pub record Configuration : Type 0 where
-  pub upstream : List ℕ
-  pub signer : List ℕ
+  pub documents : DocumentSource
+  pub signer : Option (List ℕ)
   pub poll_seconds : ℕ
   pub sockets : List SocketFact
 
 -- the facts that every configuration has
 pub record Within (c : Configuration) : Type 0 where
-  pub upstream : 0 < length c.upstream
-  pub signer : 0 < length c.signer
+  pub documents : 0 < length (path_in c.documents)
+  pub signer : IfSome c.signer (λ path. 0 < length path)
   pub some_seconds : 0 < c.poll_seconds
   pub few_seconds : c.poll_seconds ≤ MAX_POLL_SECONDS
   pub some_sockets : 0 < length c.sockets
@@ -35,19 +43,33 @@ version_of d = do
   n ← number_at (Kind (at_top 1)) member
   if n == 1 then Ok n else Err Version
 
--- the paths of the upstream authority and of the signer
-pub record TwoPaths : Type 0 where
-  pub upstream : List ℕ
-  pub signer : List ℕ
+-- exactly one of the two is there: the socket of an authority, or a file
+abbrev pub source_by : Option Data → Option Data → Result DocumentSource ConfigFault
+source_by (Some socket) None = path_at (at_top 2) socket >>= λ path. Ok (Socket path)
+source_by None (Some file) = path_at (at_top 2) file >>= λ path. Ok (File path)
+source_by None None = Err (Missing (at_top 2))
+source_by (Some socket) (Some file) = Err (Missing (at_top 2))
 
--- an object of version 1 with the two paths
-unfoldable pub paths_of : Data → Result TwoPaths ConfigFault
-paths_of d = do
+unfoldable pub source_of : Data → Result DocumentSource ConfigFault
+source_of d = source_by (get (codes "upstream") d) (get (codes "document") d)
+
+-- the signer's socket, which may be left out
+unfoldable pub signer_of : Data → Result (Option (List ℕ)) ConfigFault
+signer_of d = optional (λ member. path_at (at_top 3) member >>= λ path. Ok (Some path)) None (get (codes "signer") d)
+
+-- where documents and identities come from
+pub record Suppliers : Type 0 where
+  pub documents : DocumentSource
+  pub signer : Option (List ℕ)
+
+-- an object of version 1 with its suppliers
+unfoldable pub suppliers_of : Data → Result Suppliers ConfigFault
+suppliers_of d = do
   object ← object_at (Kind (at_top 0)) d
   version ← version_of d
-  upstream ← path_of (at_top 2) (codes "upstream") d
-  signer ← path_of (at_top 3) (codes "signer") d
-  Ok (record { upstream = upstream; signer = signer })
+  documents ← source_of d
+  signer ← signer_of d
+  Ok (record { documents = documents; signer = signer })
 
 -- the default, where it is absent
 unfoldable pub poll_seconds_of : Data → Result ℕ ConfigFault
@@ -60,10 +82,10 @@ config_sockets_of d = list_of MAX_SOCKETS (at_top 5) (codes "sockets") d >>= soc
 -- the configuration that a value's members name
 unfoldable pub config_of : Data → Result Configuration ConfigFault
 config_of d = do
-  paths ← paths_of d
+  suppliers ← suppliers_of d
   poll_seconds ← poll_seconds_of d
   sockets ← config_sockets_of d
-  Ok (record { upstream = paths.upstream; signer = paths.signer; poll_seconds = poll_seconds; sockets = sockets })
+  Ok (record { documents = suppliers.documents; signer = suppliers.signer; poll_seconds = poll_seconds; sockets = sockets })
 
 -- the configuration that these bytes are
 unfoldable pub configuration_of : List ℕ → Result Configuration ConfigFault

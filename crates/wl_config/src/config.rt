@@ -14,14 +14,23 @@ pub struct SocketFact {
     pub selectors: Selectors,
 }
 
+/// Where documents come from.
+#[derive(Drop, PartialEq)]
+pub enum DocumentSource {
+    /// The socket of an authority, which gives a document at each connection.
+    Socket(Octets),
+    /// A file.
+    File(Octets),
+}
+
 /// A configuration within its limits: paths are not empty, those of the sockets are distinct, and the rooms of all
 /// sockets together are at most [`MAX_WORKERS`](crate::MAX_WORKERS).
 #[derive(Drop)]
 pub struct Config {
-    /// The path of the upstream authority's socket.
-    pub upstream: Octets,
-    /// The path of the signer's socket.
-    pub signer: Octets,
+    /// Where documents come from.
+    pub documents: DocumentSource,
+    /// The path of the signer's socket. Where there is none, identities come from the documents.
+    pub signer: Option<Octets>,
     /// How many seconds lie between two rounds of upkeep.
     pub poll_seconds: u32,
     /// The sockets, in the order in which the configuration gives them.
@@ -33,7 +42,7 @@ impl Model for Config {
 
     ghost Value = { Configuration };
 
-    ghost view = { λ c. record { upstream = c.upstream; signer = c.signer; poll_seconds = c.poll_seconds; sockets = c.sockets } };
+    ghost view = { λ c. record { documents = c.documents; signer = c.signer; poll_seconds = c.poll_seconds; sockets = c.sockets } };
 
-    ghost invariant = { λ c. Within (record { upstream = c.upstream; signer = c.signer; poll_seconds = c.poll_seconds; sockets = c.sockets }) };
+    ghost invariant = { λ c. Within (record { documents = c.documents; signer = c.signer; poll_seconds = c.poll_seconds; sockets = c.sockets }) };
 }

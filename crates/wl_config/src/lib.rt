@@ -17,7 +17,7 @@ mod sockets;
 mod tests;
 
 pub use attestor::SocketAttestor;
-pub use config::{Config, SocketFact};
+pub use config::{Config, DocumentSource, SocketFact};
 pub use fault::ConfigFault;
 pub use limits::{CONFIG_LIMIT, MAX_SOCKET_SELECTORS, MAX_SOCKETS, MAX_WORKERS};
 pub use read::read_config;

@@ -49,7 +49,7 @@ pub(crate) fn number_or(
 
 /// A path, which is not empty.
 #[tactic(auto, unfolding(crate::specs::Members::path_at))]
-fn path_at(alloc: Global, place: Place, value: &Value) -> Result<Octets, ConfigFault>
+pub(crate) fn path_at(alloc: Global, place: Place, value: &Value) -> Result<Octets, ConfigFault>
     ensures value { Gives (λ o. o) result (path_at place (view value.now)) }
     ensures some { IfOk result (λ o. 0 < length o) }
 {

@@ -1,19 +1,19 @@
 //! A configuration, read.
 
-ghost use Rattle.std.specs.Prelude.{◌≡◌, ℕ, ◌<◌, ◌≤◌, length, IfOk};
+ghost use Rattle.std.specs.Prelude.{◌≡◌, ℕ, ◌<◌, ◌≤◌, length, IfOk, IfSome};
 ghost use Rattle.serde_json.specs.View.{view};
 ghost use Rattle.json_members.specs.Members.{or_fault};
 ghost use Rattle.json_members.specs.Texts.{value_of};
 ghost use Rattle.wl_config.specs.Checks.{Gives};
 ghost use Rattle.wl_config.specs.declared.limits.TheConstants.{MAX_SOCKETS, MAX_POLL_SECONDS};
 ghost use Rattle.wl_config.specs.Sockets.{SocketsWithin};
-ghost use Rattle.wl_config.specs.Configs.{version_of, paths_of, poll_seconds_of, config_sockets_of, config_of, configuration_of};
+ghost use Rattle.wl_config.specs.Configs.{path_in, version_of, source_of, signer_of, suppliers_of, poll_seconds_of, config_sockets_of, config_of, configuration_of};
 ghost use Rattle.wl_config.specs.declared.fault.ConfigFault.TheVariants.{NotJson};
 
-use crate::config::{Config, SocketFact};
+use crate::config::{Config, DocumentSource, SocketFact};
 use crate::fault::ConfigFault;
 use crate::limits::{CONFIG_LIMIT, DEFAULT_POLL_SECONDS, MAX_POLL_SECONDS, MAX_SOCKETS};
-use crate::members::{list_of, number_or, path_of};
+use crate::members::{list_of, number_or, path_at};
 use crate::places::top_place;
 use crate::sockets::sockets;
 use json_members::{json_value, number_at, object_at, required};
@@ -57,25 +57,51 @@ fn config_sockets(alloc: Global, value: &Value) -> Result<Vec<SocketFact>, Confi
     sockets(alloc, list_of(MAX_SOCKETS, top_place(5), "sockets", value)?)
 }
 
-/// The paths of the upstream authority and of the signer.
-#[derive(Drop)]
-struct Paths {
-    upstream: Octets,
-    signer: Octets,
+/// Where documents come from: exactly one of a socket and a file.
+#[tactic(auto, unfolding(crate::specs::Configs::source_of))]
+fn documents(alloc: Global, value: &Value) -> Result<DocumentSource, ConfigFault>
+    ensures value { Gives (λ s. s) result (source_of (view value.now)) }
+    ensures some { IfOk result (λ s. 0 < length (path_in s)) }
+{
+    let place = top_place(2);
+    match (value.get("upstream"), value.get("document")) {
+        (Some(socket), None) => Ok(DocumentSource::Socket(path_at(alloc, place, socket)?)),
+        (None, Some(file)) => Ok(DocumentSource::File(path_at(alloc, place, file)?)),
+        _ => Err(ConfigFault::Missing(place)),
+    }
 }
 
-/// The first members of the top: the version and the two paths.
-#[tactic(auto, unfolding(crate::specs::Configs::paths_of))]
-fn both_paths(alloc: Global, value: &Value) -> Result<Paths, ConfigFault>
-    ensures value { Gives (λ p. record { upstream = p.upstream; signer = p.signer }) result (paths_of (view value.now)) }
-    ensures upstream { IfOk result (λ p. 0 < length p.upstream) }
-    ensures signer { IfOk result (λ p. 0 < length p.signer) }
+/// The path of the signer's socket, where it is given.
+#[tactic(auto, unfolding(crate::specs::Configs::signer_of))]
+fn signer(alloc: Global, value: &Value) -> Result<Option<Octets>, ConfigFault>
+    ensures value { Gives (λ s. s) result (signer_of (view value.now)) }
+    ensures some { IfOk result (λ s. IfSome s (λ path. 0 < length path)) }
+{
+    match value.get("signer") {
+        Some(member) => Ok(Some(path_at(alloc, top_place(3), member)?)),
+        None => Ok(None),
+    }
+}
+
+/// Where documents and identities come from.
+#[derive(Drop)]
+struct Suppliers {
+    documents: DocumentSource,
+    signer: Option<Octets>,
+}
+
+/// The first members of the top: the version, and where documents and identities come from.
+#[tactic(auto, unfolding(crate::specs::Configs::suppliers_of))]
+fn first_members(alloc: Global, value: &Value) -> Result<Suppliers, ConfigFault>
+    ensures value { Gives (λ s. record { documents = s.documents; signer = s.signer }) result (suppliers_of (view value.now)) }
+    ensures documents { IfOk result (λ s. 0 < length (path_in s.documents)) }
+    ensures signer { IfOk result (λ s. IfSome s.signer (λ path. 0 < length path)) }
 {
     object_at(ConfigFault::Kind(top_place(0)), value)?;
     version(value)?;
-    let upstream = path_of(alloc, top_place(2), "upstream", value)?;
-    let signer = path_of(alloc, top_place(3), "signer", value)?;
-    Ok(Paths { upstream, signer })
+    let documents = documents(alloc, value)?;
+    let signer = signer(alloc, value)?;
+    Ok(Suppliers { documents, signer })
 }
 
 /// How many seconds lie between two rounds of upkeep.
@@ -99,12 +125,12 @@ fn poll_seconds(value: &Value) -> Result<u32, ConfigFault>
 fn config(alloc: Global, value: &Value) -> Result<Config, ConfigFault>
     ensures { Gives (λ c. c) result (config_of (view value.now)) }
 {
-    let paths = both_paths(alloc, value)?;
+    let suppliers = first_members(alloc, value)?;
     let poll_seconds = poll_seconds(value)?;
     let sockets = config_sockets(alloc, value)?;
     Ok(Config {
-        upstream: paths.upstream,
-        signer: paths.signer,
+        documents: suppliers.documents,
+        signer: suppliers.signer,
         poll_seconds,
         sockets: Row::from_vec(sockets),
     })

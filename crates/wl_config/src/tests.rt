@@ -65,7 +65,7 @@ fn read_as(
     Ok(())
 }
 
-static TOPS: [(&str, Numbers); 29] = [
+static TOPS: [(&str, Numbers); 33] = [
     ("", [1, 0, 0, 0, 0, 0]),
     ("{", [1, 0, 0, 0, 0, 0]),
     ("{}}", [1, 0, 0, 0, 0, 0]),
@@ -89,7 +89,14 @@ static TOPS: [(&str, Numbers); 29] = [
     (r#"{"version":1,"upstream":null}"#, [4, 0, 0, 2, 0, 0]),
     (r#"{"version":1,"upstream":["/u"]}"#, [4, 0, 0, 2, 0, 0]),
     (r#"{"version":1,"upstream":""}"#, [5, 0, 0, 2, 0, 0]),
-    (r#"{"version":1,"upstream":"/u"}"#, [3, 0, 0, 3, 0, 0]),
+    (r#"{"version":1,"document":7}"#, [4, 0, 0, 2, 0, 0]),
+    (r#"{"version":1,"document":""}"#, [5, 0, 0, 2, 0, 0]),
+    (
+        r#"{"version":1,"upstream":"/u","document":"/d"}"#,
+        [3, 0, 0, 2, 0, 0],
+    ),
+    (r#"{"version":1,"upstream":"/u"}"#, [3, 0, 0, 5, 0, 0]),
+    (r#"{"version":1,"document":"/d"}"#, [3, 0, 0, 5, 0, 0]),
     (
         r#"{"version":1,"upstream":"/u","signer":7}"#,
         [4, 0, 0, 3, 0, 0],
@@ -276,14 +283,39 @@ fn is_socket(rt: &impl Abort, socket: &SocketFact, path: &str, workers: u32, sel
     }
 }
 
+/// The path of the authority's socket, of the file of documents, and of the signer's socket.
+fn suppliers(config: &Config) -> [Option<&[u8]>; 3] {
+    let (socket, file) = match &config.documents {
+        DocumentSource::Socket(path) => (Some(path.as_slice()), None),
+        DocumentSource::File(path) => (None, Some(path.as_slice())),
+    };
+    let signer = match &config.signer {
+        Some(path) => Some(path.as_slice()),
+        None => None,
+    };
+    [socket, file, signer]
+}
+
+/// A node that is run by two files.
+#[test]
+fn a_document_without_a_signer(rt: HostRuntime) -> Result<(), Fail> {
+    let text = r#"{"version":1,"document":"d","sockets":[{"path":"/a","selectors":["a:1"]}]}"#;
+    let config = read_config(rt.alloc(), text.as_bytes())?;
+    assert!(rt; suppliers(&config) == [None, Some(b"d".as_slice()), None]);
+    Ok(())
+}
+
 #[test]
 fn config_calls(rt: HostRuntime) -> Result<(), Fail> {
     let config = read_config(rt.alloc(), EXAMPLE.as_bytes())?;
-    assert_eq!(rt;
-        config.upstream.as_slice(),
-        b"/run/authority.sock".as_slice()
+    assert!(rt;
+        suppliers(&config)
+            == [
+                Some(b"/run/authority.sock".as_slice()),
+                None,
+                Some(b"/run/signer.sock")
+            ]
     );
-    assert_eq!(rt; config.signer.as_slice(), b"/run/signer.sock".as_slice());
     assert_eq!(rt; config.poll_seconds, 5);
     let [web] = config.sockets.as_slice() else {
         return Err("one socket".into());
@@ -300,7 +332,7 @@ fn defaults_and_order(rt: HostRuntime) -> Result<(), Fail> {
     let text =
         r#" {"sockets":[{"selectors":["b:2","a:1","b:2"],"path":"/b\n","extra":0},{"path":"/a","selectors":["a:1"],"workers":28}],"signer":"s","upstream":"u","version":1} "#;
     let config = read_config(rt.alloc(), text.as_bytes())?;
-    assert_eq!(rt; config.upstream.as_slice(), b"u".as_slice());
+    assert!(rt; suppliers(&config) == [Some(b"u".as_slice()), None, Some(b"s")]);
     assert_eq!(rt; config.poll_seconds, 5);
     let [first, second] = config.sockets.as_slice() else {
         return Err("two sockets".into());

@@ -2,6 +2,7 @@
 
 ghost use Rattle.std.specs.Prelude.{◌≡◌, IfOk};
 
+use sorted_lists::Keyed;
 use spiffe_id::TrustDomain;
 use std::alloc::Global;
 use std::marker::Model;
@@ -30,6 +31,16 @@ impl DocSvid {
 impl TryClone for DocSvid {
     fn try_clone(&self, alloc: Global) -> Result<DocSvid, Memory> {
         self.copy(alloc)
+    }
+}
+
+impl Keyed for DocSvid {
+    ghost use Rattle.wl_document.specs.Svids.{doc_svid_key};
+
+    ghost key = { doc_svid_key };
+
+    fn key(&self) -> &[u8] {
+        self.entry_id.as_slice()
     }
 }
 

@@ -9,6 +9,9 @@ mod binding;
 mod clock;
 mod command_line;
 mod dialed;
+mod file;
+#[cfg(test)]
+mod file_tests;
 mod gate;
 mod link;
 mod listener;
@@ -24,6 +27,7 @@ pub use binding::{BindFault, bind, bind_all};
 pub use clock::RealClock;
 pub use command_line::words;
 pub use dialed::DialedLink;
+pub use file::FileUpstream;
 pub use gate::RealGate;
 pub use link::RealLink;
 pub use listener::RealListener;

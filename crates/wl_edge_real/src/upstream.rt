@@ -79,7 +79,7 @@ fn read_document<R: Net + Clock>(
 }
 
 /// Appends bytes, which are copied only where there are others before them.
-fn append(into: &mut Octets, bytes: Vec<u8>) -> Result<(), Memory>
+pub(crate) fn append(into: &mut Octets, bytes: Vec<u8>) -> Result<(), Memory>
     ensures ok { OnOk result (into.new ≡ into.old ++ bytes.items) }
     ensures err { OnErr result (into.new ≡ into.old) }
 {
