@@ -3,17 +3,21 @@
 ghost use Rattle.std.specs.Prelude.{◌≡◌, ◌<◌, ◌≤◌, IfOk, length};
 ghost use Rattle.wl_edge.specs.Edge.{Rose};
 
+use crate::documents::{AgentUpstream, Source};
+use crate::signers::{AgentSigner, SignedBy};
+use document_signer::{DocumentSigner, SharingUpstream, Shelf};
 use std::alloc::Global;
 use std::fs::Files;
 use std::net::Net;
 use std::rt::Clock;
 use std::string::String;
-use std::sync::Wait;
+use std::sync::{Arc, Mutex, Wait};
 use std::thread::Threads;
-use wl_config::{Config, SocketAttestor, SocketFact};
+use wl_config::{Config, DocumentSource, SocketAttestor, SocketFact};
 use wl_edge::{EdgeFault, Listener, Upstream};
 use wl_edge_real::{
-    BindFault, RealBell, RealClock, RealGate, RealListener, RealReady, RealUpstream, bind,
+    BindFault, FileUpstream, RealBell, RealClock, RealGate, RealListener, RealReady, RealUpstream,
+    bind,
 };
 use wl_octets::{Memory, Octets};
 use wl_serve::{Binder, Parts, SeatMaker, Upkeep, make_seats};
@@ -28,7 +32,7 @@ pub struct RealHost<R> {
 }
 
 /// A seat of the real host.
-type RealSeat<R> = Seat<RealListener, SignLink<R>, SocketAttestor, RealClock<R>, RealReady>;
+type RealSeat<R> = Seat<RealListener, AgentSigner<R>, SocketAttestor, RealClock<R>, RealReady>;
 
 /// A copy of the runtime.
 fn copy_of<R: Clone>(rt: &R) -> Result<R, Memory> {
@@ -65,14 +69,77 @@ fn listener_at<R: Files + Net>(
     }
 }
 
+/// What the last document says, for the signers of a configuration that names none.
+type SharedShelf = Arc<Mutex<Shelf>>;
+
+/// The shelf of a configuration that names no signer.
+fn shelf_of(alloc: Global, config: &Config) -> Result<Option<SharedShelf>, Memory> {
+    match &config.signer {
+        Some(_) => Ok(None),
+        None => match Arc::new(alloc, Mutex::new(Shelf::start())) {
+            Ok(shelf) => Ok(Some(shelf)),
+            Err(_) => Err(Memory),
+        },
+    }
+}
+
+/// One more owner of a shelf.
+fn share(shelf: &Option<SharedShelf>) -> Result<Option<SharedShelf>, Memory> {
+    match shelf {
+        Some(shelf) => match shelf.clone() {
+            Ok(shelf) => Ok(Some(shelf)),
+            Err(_) => Err(Memory),
+        },
+        None => Ok(None),
+    }
+}
+
+/// The upstream of a configuration, which puts its documents on the shelf.
+fn make_upstream<R: Net + Files + Clock + Wait + Clone + Drop>(
+    rt: &R,
+    alloc: Global,
+    config: &Config,
+    shelf: &Option<SharedShelf>,
+) -> Result<SharingUpstream<AgentUpstream<R>, R>, EdgeFault>
+    ensures { IfOk result (λ u. ⟦<SharingUpstream<AgentUpstream<R>, R> as Upstream>⟧.faults u ≡ 0) }
+{
+    let source = match &config.documents {
+        DocumentSource::Socket(path) => {
+            Source::Socket(RealUpstream::start(copy_of(rt)?, alloc, text_of(alloc, path)?))
+        }
+        DocumentSource::File(path) => {
+            Source::File(FileUpstream::start(copy_of(rt)?, alloc, text_of(alloc, path)?))
+        }
+    };
+    let upstream = AgentUpstream::start(source);
+    Ok(SharingUpstream::start(upstream, copy_of(rt)?, alloc, share(shelf)?))
+}
+
+/// A signer of a configuration: the one that it names, or its documents.
+fn make_signer<R: Net + Clock + Wait + Clone + Drop>(
+    rt: &R,
+    alloc: Global,
+    config: &Config,
+    shelf: &Option<SharedShelf>,
+) -> Result<AgentSigner<R>, Memory> {
+    let by = match (&config.signer, share(shelf)?) {
+        (Some(path), _) => SignedBy::Link(SignLink::start(rt, alloc, path.as_slice())?),
+        (None, Some(shelf)) => SignedBy::Documents(DocumentSigner::start(copy_of(rt)?, alloc, shelf)),
+        // without a shelf nothing is known of any document
+        (None, None) => return Err(Memory),
+    };
+    Ok(AgentSigner::start(by))
+}
+
 /// Makes the seats of a configuration.
 #[derive(Drop)]
 struct Seats<'a, R> {
     rt: &'a R,
     config: &'a Config,
+    shelf: &'a Option<SharedShelf>,
 }
 
-impl<'a, R: Net + Files + Clock + Clone + Drop> SeatMaker for Seats<'a, R> {
+impl<'a, R: Net + Files + Clock + Wait + Clone + Drop> SeatMaker for Seats<'a, R> {
     type Seat = RealSeat<R>;
 
     type Ring = RealBell;
@@ -93,7 +160,7 @@ impl<'a, R: Net + Files + Clock + Clone + Drop> SeatMaker for Seats<'a, R> {
         let seat = Seat {
             listener,
             socket: number,
-            signer: SignLink::start(rt, alloc, config.signer.as_slice())?,
+            signer: make_signer(rt, alloc, config, self.shelf)?,
             attestor: SocketAttestor::start(alloc, config)?,
             clock: RealClock::start(copy_of(rt)?),
             pass: None,
@@ -109,20 +176,21 @@ impl<'a, R: Net + Files + Clock + Clone + Drop> SeatMaker for Seats<'a, R> {
 const SIGNERS: u32 = 4;
 
 /// A signer of a configuration, with its clock.
-type RealSigning<R> = Signing<SignLink<R>, RealClock<R>>;
+type RealSigning<R> = Signing<AgentSigner<R>, RealClock<R>>;
 
 /// The signer of a configuration, over so many streams.
-fn make_signers<R: Net + Clock + Clone + Drop>(
+fn make_signers<R: Net + Clock + Wait + Clone + Drop>(
     rt: &R,
     alloc: Global,
     config: &Config,
+    shelf: &Option<SharedShelf>,
 ) -> Result<Vec<RealSigning<R>>, EdgeFault>
     ensures { IfOk result (λ s. 0 < length s.items) }
 {
     let mut signers = Vec::new(alloc);
     for _ in 0..SIGNERS {
         let signing = Signing {
-            signer: SignLink::start(rt, alloc, config.signer.as_slice())?,
+            signer: make_signer(rt, alloc, config, shelf)?,
             clock: RealClock::start(copy_of(rt)?),
         };
         if signers.push(signing).is_err() {
@@ -136,20 +204,20 @@ fn make_signers<R: Net + Clock + Clone + Drop>(
 }
 
 /// The upstream and the signers of a configuration, with their clocks.
-fn make_upkeep<R: Net + Clock + Clone + Drop>(
+fn make_upkeep<R: Net + Files + Clock + Wait + Clone + Drop>(
     rt: &R,
     alloc: Global,
     config: &Config,
-) -> Result<Upkeep<RealUpstream<R>, SignLink<R>, RealClock<R>>, EdgeFault>
-    ensures faults { IfOk result (λ u. ⟦<RealUpstream<R> as Upstream>⟧.faults u.upstream ≡ 0) }
+    shelf: &Option<SharedShelf>,
+) -> Result<Upkeep<SharingUpstream<AgentUpstream<R>, R>, AgentSigner<R>, RealClock<R>>, EdgeFault>
+    ensures faults { IfOk result (λ u. ⟦<SharingUpstream<AgentUpstream<R>, R> as Upstream>⟧.faults u.upstream ≡ 0) }
     ensures signers { IfOk result (λ u. 0 < length u.signers.items) }
 {
-    let upstream = text_of(alloc, &config.upstream)?;
     Ok(Upkeep {
-        upstream: RealUpstream::start(copy_of(rt)?, alloc, upstream),
+        upstream: make_upstream(rt, alloc, config, shelf)?,
         puller: RealClock::start(copy_of(rt)?),
         keeper: RealClock::start(copy_of(rt)?),
-        signers: make_signers(rt, alloc, config)?,
+        signers: make_signers(rt, alloc, config, shelf)?,
     })
 }
 
@@ -172,12 +240,12 @@ impl<R> RealHost<R> {
     }
 }
 
-impl<R: Net + Files + Clock + Clone + Drop + Send + Sync> Binder for RealHost<R> {
-    type Up = RealUpstream<R>;
+impl<R: Net + Files + Clock + Wait + Clone + Drop + Send + Sync> Binder for RealHost<R> {
+    type Up = SharingUpstream<AgentUpstream<R>, R>;
 
     type Listen = RealListener;
 
-    type Sign = SignLink<R>;
+    type Sign = AgentSigner<R>;
 
     type Att = SocketAttestor;
 
@@ -199,13 +267,18 @@ impl<R: Net + Files + Clock + Clone + Drop + Send + Sync> Binder for RealHost<R>
         alloc: Global,
         config: &Config,
     ) -> Result<Parts<RealHost<R>>, EdgeFault> {
-        let upkeep = match make_upkeep(&self.rt, alloc, config) {
+        let shelf = match shelf_of(alloc, config) {
+            Ok(shelf) => shelf,
+            Err(Memory) => return Err(EdgeFault::Memory),
+        };
+        let upkeep = match make_upkeep(&self.rt, alloc, config, &shelf) {
             Ok(upkeep) => upkeep,
             Err(fault) => return Err(self.count(fault)),
         };
         let mut maker = Seats {
             rt: &self.rt,
             config,
+            shelf: &shelf,
         };
         let (seats, bells) = match make_seats(alloc, &mut maker, config.sockets.as_slice()) {
             Ok(both) => both,

@@ -4,8 +4,10 @@
 //! The input is standard input, and for `serve CONFIG` that file. Why words fit no command is written to standard error.
 #![tactic(auto)]
 
+mod documents;
 mod host;
 mod lazy_file;
+mod signers;
 
 use crate::host::RealHost;
 use crate::lazy_file::LazyFile;

@@ -66,7 +66,7 @@ fn documents_give_identities(rt: HostRuntime) -> Result<(), Fail> {
     let shelf = shared_shelf(alloc)?;
     let mut signer = DocumentSigner::start(rt.clone()?, alloc, shelf.clone()?);
     let inner = upstream_of(alloc, &DOCUMENTS)?;
-    let mut upstream = SharingUpstream::start(inner, rt.clone()?, alloc, shelf);
+    let mut upstream = SharingUpstream::start(inner, rt.clone()?, alloc, Some(shelf));
     for (document, answered) in DOCUMENTS {
         let mut pulled = Octets::empty(alloc);
         assert!(rt; upstream.pull(&mut pulled).is_ok());

@@ -1,0 +1,77 @@
+//! Who signs, as a configuration says.
+
+ghost use Rattle.std.specs.Prelude.{◌≡◌, None};
+
+use document_signer::{DocumentSigner, DocumentVoucher};
+use std::net::Net;
+use std::rt::Clock;
+use std::sync::Wait;
+use wl_edge::{EdgeFault, Signer};
+use wl_entry::{Ask, JwtToken, Signed, Voucher};
+use wl_octets::Octets;
+use wl_signlink::{ReplyVoucher, SignLink};
+
+/// Vouches for what a signer replied to the ask, and for an identity that a document has for the entry of the ask.
+#[derive(Clone, Copy, Debug, PartialEq, Eq)]
+pub struct AgentVoucher;
+
+impl Voucher for AgentVoucher {
+    ghost use Rattle.std.specs.Prelude.{◌⊎◌};
+
+    ghost signed = { λ ask signed. ⟦<ReplyVoucher as Voucher>⟧.signed ask signed ⊎ ⟦<DocumentVoucher as Voucher>⟧.signed ask signed };
+
+    ghost token = { λ ask audience token. ⟦<ReplyVoucher as Voucher>⟧.token ask audience token };
+}
+
+/// A signer behind a socket, or the documents.
+#[derive(Drop)]
+pub enum SignedBy<R> {
+    Link(SignLink<R>),
+    Documents(DocumentSigner<R>),
+}
+
+/// A signer by either of them. It counts its faults and tells no calls.
+#[derive(Drop)]
+pub struct AgentSigner<R> {
+    by: SignedBy<R>,
+    faults: u64,
+}
+
+impl<R: Net + Clock + Wait + Clone + Drop> AgentSigner<R> {
+    /// A signer by either of them.
+    pub fn start(by: SignedBy<R>) -> AgentSigner<R>
+        ensures { ⟦<AgentSigner<R> as Signer>⟧.faults result ≡ 0 }
+    {
+        AgentSigner { by, faults: 0 }
+    }
+}
+
+impl<R: Net + Clock + Wait + Clone + Drop> Signer for AgentSigner<R> {
+    type V = AgentVoucher;
+
+    ghost calls = { λ s. None };
+
+    ghost faults = { λ s. s.faults };
+
+    fn sign_x509(&mut self, ask: &Ask) -> Result<Signed, EdgeFault> {
+        let signed = match &mut self.by {
+            SignedBy::Link(signer) => signer.sign_x509(ask),
+            SignedBy::Documents(signer) => signer.sign_x509(ask),
+        };
+        if let Err(EdgeFault::Failed) = &signed {
+            self.faults = self.faults.saturating_add(1);
+        }
+        signed
+    }
+
+    fn sign_jwt(&mut self, ask: &Ask, audience: &[Octets]) -> Result<JwtToken, EdgeFault> {
+        let token = match &mut self.by {
+            SignedBy::Link(signer) => signer.sign_jwt(ask, audience),
+            SignedBy::Documents(signer) => signer.sign_jwt(ask, audience),
+        };
+        if let Err(EdgeFault::Failed) = &token {
+            self.faults = self.faults.saturating_add(1);
+        }
+        token
+    }
+}
