@@ -202,6 +202,15 @@ def check_trust():
         fault(f"README.md: {it} is in the list of what is trusted, and no crate uses it")
 
 
+def check_version():
+    """Both programs tell the version that CHANGELOG.md begins with."""
+    version = re.search(r"^## (\S+)$", (TOP / "CHANGELOG.md").read_text(), flags=re.M)[1]
+    for crate in ("agent_words", "control_words"):
+        told = re.findall(r'\.version\("([^"]+)"\)', (TOP / "crates" / crate / "src/lib.rt").read_text())
+        if told != [version]:
+            fault(f"crates/{crate}: its version is {told}, and CHANGELOG.md begins with {version}")
+
+
 def check_states():
     """The table of the tests of h2_conn is the one that its maker writes."""
     made = subprocess.run([sys.executable, "bench/h2_states.py"], cwd=TOP, capture_output=True, text=True)
@@ -221,6 +230,7 @@ def main():
     check_pages(files)
     check_promises()
     check_trust()
+    check_version()
     check_states()
     for text in faults:
         print(text)

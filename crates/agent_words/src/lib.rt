@@ -103,7 +103,7 @@ fn top_command<'a>(alloc: Global) -> Result<Command<'a>, AllocError>
     ensures local { IfOk result (λ c. (out-Command c).has_globals ≡ false) }
 {
     Command::new(alloc, "agentd")
-        .version("1.0")
+        .version("0.2.0")
         .no_binary_name(true)
         .disable_help_subcommand(true)
         .subcommand_required(true)
