@@ -26,7 +26,7 @@ pub use bell::RealBell;
 pub use binding::{BindFault, bind, bind_all};
 pub use clock::RealClock;
 pub use command_line::words;
-pub use dialed::DialedLink;
+pub use dialed::{Address, DialedLink};
 pub use file::FileUpstream;
 pub use gate::RealGate;
 pub use link::RealLink;

@@ -2,7 +2,7 @@
 //!
 //! `wlctl SOCKET ..` makes the call that the words after SOCKET ask for over a connection to that Unix socket, writes
 //! what it is answered to standard output, and ends with the status of `wl_control::control`. SOCKET is a first word that
-//! holds a `/`, or `--socket PATH`; else `SPIFFE_ENDPOINT_SOCKET` names the socket. Why words fit nothing is written to
+//! holds a `/`, or `--socket PATH` or `--socket ADDRESS`; else `SPIFFE_ENDPOINT_SOCKET` names the socket. Why words fit nothing is written to
 //! standard error.
 #![tactic(auto)]
 
@@ -22,16 +22,16 @@ use std::time::Duration;
 use wl_control::status::{OUT_OF_MEMORY, USAGE, WRITE_FAILED};
 use wl_control::{control, keep, refusal};
 use wl_edge::RealSink;
-use wl_edge_real::{DialedLink, words};
+use wl_edge_real::{Address, DialedLink, words};
 use wl_octets::Memory;
 
 /// What is said where no socket is named.
 const UNNAMED: &str =
-    "error: no socket is named: begin with its path or --socket PATH, or set SPIFFE_ENDPOINT_SOCKET\n";
+    "error: no socket is named: begin with its path or --socket ADDRESS, or set SPIFFE_ENDPOINT_SOCKET\n";
 
-/// What is said where the variable can't be used.
+/// What is said where an address can't be used.
 const UNUSABLE: &str =
-    "error: SPIFFE_ENDPOINT_SOCKET is not of the form unix:///path or unix:/path\n";
+    "error: the address is not of the form unix:///path, unix:/path or tcp://127.0.0.1:PORT\n";
 
 /// How many seconds are waited at most between two connections.
 const MAX_WAIT_SECONDS: u64 = 30;
@@ -48,9 +48,9 @@ fn explain(rt: &HostRuntime, alloc: Global, words: &[String], otherwise: &str) {
 }
 
 /// Makes the call that the words ask for over this socket.
-fn call(rt: HostRuntime, path: String, words: &[String]) -> u8 {
+fn call(rt: HostRuntime, address: Address, words: &[String]) -> u8 {
     let alloc = rt.alloc();
-    let mut link = DialedLink::start(rt, path);
+    let mut link = DialedLink::start_at(rt, address);
     let mut sink = RealSink::start(rt.stdout());
     let status = control(&rt, alloc, words, &mut link, &mut sink);
     if status == USAGE {
@@ -60,11 +60,11 @@ fn call(rt: HostRuntime, path: String, words: &[String]) -> u8 {
 }
 
 /// Writes the files of one message into this folder.
-fn write(rt: HostRuntime, alloc: Global, path: String, folder: String) -> u8 {
+fn write(rt: HostRuntime, alloc: Global, address: Address, folder: String) -> u8 {
     let Ok(own) = rt.clone() else {
         return OUT_OF_MEMORY;
     };
-    let mut link = DialedLink::start(rt, path);
+    let mut link = DialedLink::start_at(rt, address);
     let mut sink = FolderSink::start(own, alloc, folder, false);
     keep(alloc, 1, &mut link, &mut sink)
 }
@@ -73,11 +73,11 @@ fn write(rt: HostRuntime, alloc: Global, path: String, folder: String) -> u8 {
 fn keep_once(
     rt: &HostRuntime,
     alloc: Global,
-    path: &String,
+    address: &Address,
     sink: &mut FolderSink,
 ) -> Result<u8, Memory> {
     let own = rt.clone()?;
-    let mut link = DialedLink::start(own, path.clone()?);
+    let mut link = DialedLink::start_at(own, address.copy()?);
     Ok(keep(alloc, u32::MAX, &mut link, sink))
 }
 
@@ -88,7 +88,7 @@ fn next_wait(seconds: u64) -> u64 {
 
 /// Writes the files of each message that comes, and connects again where that ends, for ever: it ends only where a file that
 /// isn't its own stands in the way.
-fn stay(waits: &impl Wait, rt: HostRuntime, alloc: Global, path: String, folder: String) -> u8 {
+fn stay(waits: &impl Wait, rt: HostRuntime, alloc: Global, address: Address, folder: String) -> u8 {
     let Ok(own) = rt.clone() else {
         return OUT_OF_MEMORY;
     };
@@ -96,7 +96,7 @@ fn stay(waits: &impl Wait, rt: HostRuntime, alloc: Global, path: String, folder:
     let mut seconds: u64 = 1;
     'calls: for _ in waits.forever() {
         let before = sink.written();
-        let status = keep_once(&rt, alloc, &path, &mut sink).unwrap_or(OUT_OF_MEMORY);
+        let status = keep_once(&rt, alloc, &address, &mut sink).unwrap_or(OUT_OF_MEMORY);
         if sink.is_refused() {
             break 'calls;
         }
@@ -111,17 +111,22 @@ fn stay(waits: &impl Wait, rt: HostRuntime, alloc: Global, path: String, folder:
 }
 
 /// Makes the call that the words ask for over this socket, or writes the files.
-fn serve(waits: &impl Wait, rt: HostRuntime, path: String, words: &[String]) -> Result<u8, Memory> {
+fn serve(
+    waits: &impl Wait,
+    rt: HostRuntime,
+    address: Address,
+    words: &[String],
+) -> Result<u8, Memory> {
     let alloc = rt.alloc();
     if let Some(folder) = kept_in(words) {
         let folder = String::from_str(alloc, folder)?;
-        return Ok(stay(waits, rt, alloc, path, folder));
+        return Ok(stay(waits, rt, alloc, address, folder));
     }
     if let Some(folder) = written_to(words) {
         let folder = String::from_str(alloc, folder)?;
-        return Ok(write(rt, alloc, path, folder));
+        return Ok(write(rt, alloc, address, folder));
     }
-    Ok(call(rt, path, words))
+    Ok(call(rt, address, words))
 }
 
 /// Makes the call of a command line.
@@ -131,7 +136,7 @@ fn run(waits: &impl Wait, rt: HostRuntime) -> u8 {
         return OUT_OF_MEMORY;
     };
     let otherwise = match take_socket(&rt, &mut words) {
-        Ok(Socket::Path(path)) => return serve(waits, rt, path, words.as_slice()).unwrap_or(
+        Ok(Socket::At(address)) => return serve(waits, rt, address, words.as_slice()).unwrap_or(
             OUT_OF_MEMORY,
         ),
         Ok(Socket::Unnamed) => UNNAMED,
