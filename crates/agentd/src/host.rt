@@ -4,7 +4,7 @@ ghost use Rattle.std.specs.Prelude.{◌≡◌, ◌<◌, ◌≤◌, IfOk, length}
 ghost use Rattle.wl_edge.specs.Edge.{Rose};
 
 use crate::documents::{AgentUpstream, Source};
-use crate::signers::{AgentSigner, SignedBy};
+use crate::signers::{AgentSigner, AgentVoucher, SignedBy};
 use document_signer::{DocumentSigner, SharingUpstream, Shelf};
 use std::alloc::Global;
 use std::fs::Files;
@@ -21,8 +21,8 @@ use wl_edge_real::{
 };
 use wl_octets::{Memory, Octets};
 use wl_serve::{Binder, Parts, SeatMaker, Upkeep, make_seats};
-use wl_signlink::SignLink;
-use wl_worker::{Seat, Signing};
+use wl_signlink::{ReplyVoucher, SignLink};
+use wl_worker::{AskHub, Seat, SeatAsks, Signing};
 
 /// The operating system as a host. It keeps its own copy of the runtime.
 #[derive(Drop)]
@@ -32,7 +32,8 @@ pub struct RealHost<R> {
 }
 
 /// A seat of the real host.
-type RealSeat<R> = Seat<RealListener, AgentSigner<R>, SocketAttestor, RealClock<R>, RealReady>;
+type RealSeat<R> =
+    Seat<RealListener, SeatAsks<AgentVoucher>, SocketAttestor, RealClock<R>, RealReady>;
 
 /// A copy of the runtime.
 fn copy_of<R: Clone>(rt: &R) -> Result<R, Memory> {
@@ -135,11 +136,12 @@ fn make_signer<R: Net + Clock + Wait + Clone + Drop>(
 #[derive(Drop)]
 struct Seats<'a, R> {
     rt: &'a R,
+    hub: &'a Arc<AskHub<ReplyVoucher>>,
     config: &'a Config,
     shelf: &'a Option<SharedShelf>,
 }
 
-impl<'a, R: Net + Files + Clock + Wait + Clone + Drop> SeatMaker for Seats<'a, R> {
+impl<'a, R: Net + Files + Clock + Clone + Drop> SeatMaker for Seats<'a, R> {
     type Seat = RealSeat<R>;
 
     type Ring = RealBell;
@@ -160,7 +162,8 @@ impl<'a, R: Net + Files + Clock + Wait + Clone + Drop> SeatMaker for Seats<'a, R
         let seat = Seat {
             listener,
             socket: number,
-            signer: make_signer(rt, alloc, config, self.shelf)?,
+            asks: SeatAsks::start(alloc, self.hub, number)?,
+            connections: 0,
             attestor: SocketAttestor::start(alloc, config)?,
             clock: RealClock::start(copy_of(rt)?),
             pass: None,
@@ -275,8 +278,13 @@ impl<R: Net + Files + Clock + Wait + Clone + Drop + Send + Sync> Binder for Real
             Ok(upkeep) => upkeep,
             Err(fault) => return Err(self.count(fault)),
         };
+        let hub = match AskHub::start(alloc, config.sockets.len(), SIGNERS) {
+            Ok(hub) => hub,
+            Err(Memory) => return Err(EdgeFault::Memory),
+        };
         let mut maker = Seats {
             rt: &self.rt,
+            hub: &hub,
             config,
             shelf: &shelf,
         };
@@ -291,6 +299,7 @@ impl<R: Net + Files + Clock + Wait + Clone + Drop + Send + Sync> Binder for Real
         Ok(Parts {
             upkeep,
             gate,
+            hub,
             seats,
             bells,
         })

@@ -1,6 +1,6 @@
 //! An ask on its way, and what came for it.
 
-ghost use Rattle.std.specs.Prelude.{◌≡◌, ◌↔◌, true, ℕ, List, Option, Err, IfOk, IfSome};
+ghost use Rattle.std.specs.Prelude.{◌≡◌, ◌↔◌, true, ℕ, List, Option, Err, IsSome, IfOk, IfSome};
 ghost use Rattle.wl_selector.specs.Selectors.{sorted_texts};
 ghost use Rattle.ask_mail.specs.Mail.{delivery, Looks, Opens};
 ghost use Rattle.ask_mail.specs.declared.mail.Delivery.{Delivery};
@@ -75,6 +75,13 @@ impl<V: Voucher> Answered<V> {
         ensures { result ≡ true ↔ self.now.connection ≡ connection }
     {
         self.asked.connection == connection
+    }
+
+    /// Whether it is a token.
+    pub fn has_token(&self) -> bool
+        ensures { result ≡ true ↔ IsSome self.now.answer }
+    {
+        self.answer.is_some()
     }
 
     /// Its answer, where it is for this ask and these audiences.

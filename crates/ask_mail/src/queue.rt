@@ -1,6 +1,6 @@
 //! The asks that wait for a signer.
 
-ghost use Rattle.std.specs.Prelude.{◌≡◌, ◌↔◌, ◌++◌, ◌∷◌, [], true, None, IfSome, OnOk, OnErr};
+ghost use Rattle.std.specs.Prelude.{◌≡◌, ◌↔◌, ◌++◌, ◌∷◌, [], true, None, length, IfSome, OnOk, OnErr};
 
 use crate::mail::Asked;
 use std::alloc::Global;
@@ -52,6 +52,13 @@ impl AskQueue {
             return None;
         }
         Some(self.asks.remove(0))
+    }
+
+    /// How many there are.
+    pub fn len(&self) -> usize
+        ensures { result ≡ length self.now }
+    {
+        self.asks.len()
     }
 
     /// Whether there is none.

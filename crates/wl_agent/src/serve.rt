@@ -11,16 +11,21 @@ ghost use Rattle.wl_agent.specs.ServeEnds.{ServeExplains};
 use crate::program::{READ_LIMIT, run_command};
 use crate::serve_ends::serve_outcome;
 use crate::status::{OUT_OF_MEMORY, READ_FAILED, WRITE_FAILED};
+use ask_mail::TokenAsks;
 use std::alloc::Global;
 use std::string::String;
 use std::sync::Wait;
 use std::thread::Threads;
-use wl_edge::{ReadFault, Sink, Source, read_all, write_all};
+use wl_edge::{ReadFault, Signer, Sink, Source, read_all, write_all};
 use wl_serve::{Binder, Parts, PartsShown, serve};
+use wl_worker::SeatAsks;
 
 /// What the program is given beside its words.
 #[derive(Drop)]
-pub struct Host<I, O, B: Binder> {
+pub struct Host<I, O, B: Binder>
+where
+    SeatAsks<<B::Sign as Signer>::V>: TokenAsks,
+{
     pub input: I,
     pub output: O,
     /// What prepares sockets and all else that serving needs.

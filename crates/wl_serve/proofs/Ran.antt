@@ -8,7 +8,11 @@ use Rattle.wl_entry.specs.declared.asks.Ask.{Ask}
 use Rattle.wl_entry.specs.declared.tokens.JwtToken.{JwtToken}
 use Rattle.wl_edge.specs.Edge.{Rose}
 use Rattle.wl_edge.specs.Upstreams.{UpstreamLog, PullGives, with_pull, one_more}
+use Rattle.wl_document.specs.declared.fault.DocFault.{DocFault}
+use Rattle.wl_document.specs.declared.fault.DocFault.TheVariants as fault
+use Rattle.wl_document.specs.Checks.{Faults}
 use Rattle.wl_document.specs.Documents.{document_state}
+use Rattle.wl_worker.proofs.Showing.{fault_is_due}
 use Rattle.wl_manager.specs.Managers.{Managed, first_managed}
 use Rattle.wl_edge.specs.Listeners.{ListenerLog, links_given}
 use Rattle.wl_snapshot.specs.Snapshots.{Publication}
@@ -51,6 +55,15 @@ is_from_seats es = from_seats (list_any has_fault es) (list_any lacks_memory es)
 pub pulled_then : (old mid new : Option UpstreamLog) (document : List ℕ) → Pulled old mid (Some document) → PulledAgain mid new → PulledOn old new document
 pulled_then None mid new document one again = tt
 pulled_then (Some log) mid new document one again = subst (λ (o : Option UpstreamLog). PulledAgain o new) one again
+
+-- the document that one pull gave has this fault
+pub refused_first : (old mid : Option UpstreamLog) (before now : ℕ) (into after read : List ℕ) → into ≡ [] → read ≡ after → PullGives old mid before now into after (Ok tt) → (e : DocFault) → Faults e (document_state None read) → (e ≡ fault.Memory → ⊥) → (document : List ℕ) × Pulled old mid (Some document) × (document_state None document ≡ Err e)
+refused_first old mid before now into after read empty is gives e faults other =
+    let same : read ≡ gives.0 = is ∙ gives.1 ∙ ap (λ (z : List ℕ). z ++ gives.0) empty in (
+      gives.0,
+      subst (λ (z : List ℕ). IfSome old (λ log. mid ≡ Some (with_pull log (record { into = z; answer = Some gives.0 })))) empty gives.3,
+      subst (λ (z : List ℕ). document_state None z ≡ Err e) same (fault_is_due e (document_state None read) other faults),
+    )
 
 -- what is within an answer
 ok_of : {T E : Type 0} {Q : T → Type 0} (r : Result T E) → IsOkAnd r Q → (x : T) × (r ≡ Ok x) × Q x

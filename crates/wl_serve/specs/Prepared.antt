@@ -4,23 +4,22 @@ use Rattle.wl_config.specs.declared.config.SocketFact.{SocketFact}
 use Rattle.wl_config.specs.Configs.{Configuration}
 use Rattle.wl_serve.specs.Views.{SeatView, PartsView}
 
--- all that a seat holds tells its content
+-- all that a seat holds tells its content, but for its asks
 pub record IsTold (v : SeatView) : Type 0 where
   pub listener : IsSome v.listener
   pub attestor : IsSome v.attestor
-  pub signer : IsSome v.signer
   pub clock : IsSome v.clock
 
 -- nothing of what it holds was used yet
 pub record IsUnused (v : SeatView) : Type 0 where
   pub listener : IfSome v.listener (λ log. log ≡ record { kinds = []; finished = [] })
   pub attestor : IfSome v.attestor (λ calls. calls ≡ [])
-  pub signer : IfSome v.signer (λ calls. calls ≡ [])
+  pub asks : IfSome v.asks (λ taken. taken ≡ [])
   pub clock : IfSome v.clock (λ answers. answers ≡ [])
   pub listener_count : v.listener_faults ≡ 0
   pub ready_count : v.ready_faults ≡ 0
   pub attestor_count : v.attestor_faults ≡ 0
-  pub signer_count : v.signer_faults ≡ 0
+  pub ask_count : v.ask_faults ≡ 0
 
 -- the seat of the socket of this number
 pub record IsSeat (tells : Type 0) (number : ℕ) (fact : SocketFact) (v : SeatView) : Type 0 where

@@ -4,13 +4,13 @@ use Rattle.wl_publish.specs.Listings.{Passing}
 use Rattle.wl_edge.specs.Upstreams.{UpstreamLog}
 use Rattle.wl_edge.specs.Listeners.{ListenerLog}
 use Rattle.wl_edge.specs.declared.attestor.AttestorCall.{AttestorCall}
-use Rattle.wl_edge.specs.declared.signer.SignerCall.{SignerCall}
+use Rattle.ask_mail.specs.declared.mail.Delivery.{Delivery}
 use Rattle.wl_worker.specs.declared.seat.SeatEnd.{SeatEnd}
 use Rattle.wl_worker.specs.Served.{around}
 use Rattle.wl_worker.specs.Tended.{SeatWorld, seat_world}
 
--- A seat: its socket's number and room, its things of the outside with what they tell and their counts of faults, its
--- pass, and how it ended, once it was served.
+-- A seat: its socket's number and room, its things of the outside and its asks for tokens, with what they tell and their
+-- counts of faults, its pass, and how it ended, once it was served.
 pub record SeatView : Type 0 where
   pub socket : ℕ
   pub room : ℕ
@@ -19,15 +19,15 @@ pub record SeatView : Type 0 where
   pub ready_faults : ℕ
   pub attestor : Option (List AttestorCall)
   pub attestor_faults : ℕ
-  pub signer : Option (List SignerCall)
-  pub signer_faults : ℕ
+  pub asks : Option (List Delivery)
+  pub ask_faults : ℕ
   pub clock : Option (List ℕ)
   pub pass : Option Passing
   pub end : Option SeatEnd
 
 -- the seat's world, with this pass
 abbrev pub world_of : SeatView → Passing → SeatWorld
-world_of v pass = seat_world v.listener (around v.attestor v.attestor_faults v.signer v.signer_faults v.clock pass)
+world_of v pass = seat_world v.listener (around v.attestor v.attestor_faults v.asks v.ask_faults v.clock pass)
 
 -- the upstream's calls, where it tells them, its count of faults, and the seats
 pub record PartsView : Type 0 where

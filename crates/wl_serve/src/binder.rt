@@ -7,21 +7,27 @@ ghost use Rattle.wl_serve.specs.Prepared.{IsPrepared};
 
 use crate::seats::SeatShown;
 use crate::upkeep::Upkeep;
+use ask_mail::TokenAsks;
 use std::alloc::Global;
-use std::sync::Wait;
+use std::sync::{Arc, Wait};
 use std::thread::Threads;
 use wl_config::Config;
 use wl_edge::{Attestor, Bell, Clock, EdgeFault, Gate, Listener, Ready, Signer, Upstream};
 use wl_octets::Row;
-use wl_worker::Seat;
+use wl_worker::{AskHub, Seat, SeatAsks};
 
 /// What a host prepared: a seat for each socket, in the order of the configuration, with a bell for each, and what
 /// upkeep needs.
 #[derive(Drop)]
-pub struct Parts<B: Binder> {
+pub struct Parts<B: Binder>
+where
+    SeatAsks<<B::Sign as Signer>::V>: TokenAsks,
+{
     pub upkeep: Upkeep<B::Up, B::Sign, B::Time>,
     pub gate: B::Door,
-    pub seats: Vec<Seat<B::Listen, B::Sign, B::Att, B::Time, B::Poll>>,
+    /// Over which the seats ask the signers.
+    pub hub: Arc<AskHub<<B::Sign as Signer>::V>>,
+    pub seats: Vec<Seat<B::Listen, SeatAsks<<B::Sign as Signer>::V>, B::Att, B::Time, B::Poll>>,
     pub bells: Row<B::Ring>,
 }
 
@@ -34,7 +40,7 @@ impl<B: Binder> PartsShown for Parts<B> {
     ghost shown = { λ p. record {
       upstream = B.Up.told p.upkeep.upstream;
       upstream_faults = B.Up.faults p.upkeep.upstream;
-      seats = map ⟦<Seat<B::Listen, B::Sign, B::Att, B::Time, B::Poll> as SeatShown>⟧.shown p.seats.items;
+      seats = map ⟦<Seat<B::Listen, SeatAsks<<B::Sign as Signer>::V>, B::Att, B::Time, B::Poll> as SeatShown>⟧.shown p.seats.items;
     } };
 }
 
@@ -72,7 +78,7 @@ pub trait Binder {
         ensures prepared { IfOk result (λ p. IsPrepared tells config.now (record {
           upstream = Self.Up.told p.upkeep.upstream;
           upstream_faults = Self.Up.faults p.upkeep.upstream;
-          seats = map ⟦<Seat<Self::Listen, Self::Sign, Self::Att, Self::Time, Self::Poll> as SeatShown>⟧.shown p.seats.items;
+          seats = map ⟦<Seat<Self::Listen, SeatAsks<<Self::Sign as Signer>::V>, Self::Att, Self::Time, Self::Poll> as SeatShown>⟧.shown p.seats.items;
         })) }
         ensures signers { IfOk result (λ p. 0 < length p.upkeep.signers.items) }
         ensures bells { IfOk result (λ p. length p.bells ≡ length p.seats.items) }

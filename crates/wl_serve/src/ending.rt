@@ -4,9 +4,10 @@ ghost use Rattle.std.specs.Prelude.{◌≡◌, map};
 ghost use Rattle.std.specs.List.{list_any};
 ghost use Rattle.wl_serve.specs.Serving.{end_of, has_fault, lacks_memory};
 
+use ask_mail::TokenAsks;
 use wl_config::ConfigFault;
 use wl_document::DocFault;
-use wl_edge::{Listener, Signer};
+use wl_edge::Listener;
 use wl_worker::{Seat, SeatEnd};
 
 /// How serving ended.
@@ -43,21 +44,23 @@ fn is_memory(end: Option<SeatEnd>) -> bool
 }
 
 /// Whether one of the seats ended by such a fault.
-fn any_host_fault<L: Listener, S: Signer, A, C, P>(seats: &[Seat<L, S, A, C, P>]) -> bool
+fn any_host_fault<L: Listener, T: TokenAsks, A, C, P>(seats: &[Seat<L, T, A, C, P>]) -> bool
     ensures { result ≡ list_any (λ s. has_fault s.end) seats.now }
 {
     seats.iter().any(|seat| is_host_fault(seat.end))
 }
 
 /// Whether one of the seats ended for want of memory.
-fn any_memory<L: Listener, S: Signer, A, C, P>(seats: &[Seat<L, S, A, C, P>]) -> bool
+fn any_memory<L: Listener, T: TokenAsks, A, C, P>(seats: &[Seat<L, T, A, C, P>]) -> bool
     ensures { result ≡ list_any (λ s. lacks_memory s.end) seats.now }
 {
     seats.iter().any(|seat| is_memory(seat.end))
 }
 
 /// How serving ended, by the ends of its seats.
-pub(crate) fn end_of_all<L: Listener, S: Signer, A, C, P>(seats: &[Seat<L, S, A, C, P>]) -> ServeEnd
+pub(crate) fn end_of_all<L: Listener, T: TokenAsks, A, C, P>(
+    seats: &[Seat<L, T, A, C, P>],
+) -> ServeEnd
     ensures { result ≡ end_of (map (λ s. s.end) seats.now) }
 {
     if any_host_fault(seats) {

@@ -8,24 +8,23 @@ use crate::making::{SeatMaker, make_seats};
 use crate::memory_ready::CountedReady;
 use crate::upkeep::Upkeep;
 use std::alloc::{AllocError, Global};
-use std::sync::Wait;
+use std::sync::{Arc, Wait};
 use std::thread::Threads;
 use wl_config::{Config, SocketFact};
 use wl_edge::{
     EdgeFault, Gate, ListenerPlan, MemoryAttestor, MemoryBell, MemoryClock, MemoryListener,
     MemorySigner, MemoryUpstream, Script,
 };
-use wl_entry::{JwtToken, Signed};
-use wl_octets::{Octets, Row};
+use wl_entry::{Free, JwtToken, Signed};
+use wl_octets::{Memory, Octets, Row};
 use wl_selector::Selectors;
-use wl_worker::{Seat, Signing};
+use wl_worker::{AskHub, Seat, SeatAsks, Signing};
 
 /// What the things of one seat answer.
 #[derive(Drop)]
 pub struct SeatPlan {
     pub listener: ListenerPlan,
     pub selectors: Script<Selectors>,
-    pub tokens: Script<JwtToken>,
     pub times: Row<u64>,
     /// The calls of its watcher that fail, by their numbers from 0.
     pub failing: Row<u64>,
@@ -35,7 +34,9 @@ pub struct SeatPlan {
 #[derive(Drop)]
 pub struct HostPlan<G> {
     pub documents: Script<Octets>,
+    /// What the one signer answers.
     pub identities: Script<Signed>,
+    pub tokens: Script<JwtToken>,
     /// What the clocks of the puller, the keeper and the one signer give.
     pub puller_times: Row<u64>,
     pub keeper_times: Row<u64>,
@@ -54,12 +55,13 @@ pub struct MemoryHost<G> {
 }
 
 /// A seat in memory.
-type MemorySeat = Seat<MemoryListener, MemorySigner, MemoryAttestor, MemoryClock, CountedReady>;
+type MemorySeat = Seat<MemoryListener, SeatAsks<Free>, MemoryAttestor, MemoryClock, CountedReady>;
 
 /// The plans of the seats that are left to be made, that of the next socket last.
 #[derive(Drop)]
 struct SeatsLeft {
     plans: Vec<SeatPlan>,
+    hub: Arc<AskHub<Free>>,
 }
 
 impl SeatMaker for SeatsLeft {
@@ -81,15 +83,14 @@ impl SeatMaker for SeatsLeft {
         let SeatPlan {
             listener,
             selectors,
-            tokens,
             times,
             failing,
         } = plan;
-        let identities = Script::start(Row::empty(alloc), Row::empty(alloc));
         let seat = Seat {
             listener: MemoryListener::start(alloc, listener)?,
             socket: number,
-            signer: MemorySigner::start(alloc, identities, tokens),
+            asks: SeatAsks::start(alloc, &self.hub, number)?,
+            connections: 0,
             attestor: MemoryAttestor::start(alloc, selectors),
             clock: MemoryClock::start(times),
             pass: None,
@@ -101,15 +102,25 @@ impl SeatMaker for SeatsLeft {
     }
 }
 
-/// One signer of identities, with its clock.
+/// The posts of the sockets' seats, for one signer, with two owners.
+fn two_owners(
+    alloc: Global,
+    config: &Config,
+) -> Result<(Arc<AskHub<Free>>, Arc<AskHub<Free>>), Memory> {
+    let hub = AskHub::start(alloc, config.sockets.len(), 1)?;
+    let other = Arc::try_clone(&hub)?;
+    Ok((hub, other))
+}
+
+/// The one signer, with its clock.
 fn one_signer(
     alloc: Global,
     identities: Script<Signed>,
+    tokens: Script<JwtToken>,
     times: Row<u64>,
 ) -> Result<Vec<Signing<MemorySigner, MemoryClock>>, AllocError>
     ensures { IfOk result (λ s. 0 < length s.items) }
 {
-    let tokens = Script::start(Row::empty(alloc), Row::empty(alloc));
     let mut signers = Vec::new(alloc);
     signers.push(Signing {
         signer: MemorySigner::start(alloc, identities, tokens),
@@ -168,19 +179,26 @@ impl<G: Gate + Sync + Drop> Binder for MemoryHost<G> {
         let HostPlan {
             documents,
             identities,
+            tokens,
             puller_times,
             keeper_times,
             signer_times,
             gate,
             seats,
         } = plan;
-        let mut left = SeatsLeft { plans: seats };
+        let Ok((hub, shared)) = two_owners(alloc, config) else {
+            return Err(EdgeFault::Memory);
+        };
+        let mut left = SeatsLeft {
+            plans: seats,
+            hub: shared,
+        };
         let (seats, bells) = match make_seats(alloc, &mut left, config.sockets.as_slice()) {
             Ok(both) => both,
             Err(EdgeFault::Failed) => return Err(self.failed()),
             Err(EdgeFault::Memory) => return Err(EdgeFault::Memory),
         };
-        let Ok(signers) = one_signer(alloc, identities, signer_times) else {
+        let Ok(signers) = one_signer(alloc, identities, tokens, signer_times) else {
             return Err(EdgeFault::Memory);
         };
         Ok(Parts {
@@ -191,6 +209,7 @@ impl<G: Gate + Sync + Drop> Binder for MemoryHost<G> {
                 signers,
             },
             gate,
+            hub,
             seats,
             bells,
         })

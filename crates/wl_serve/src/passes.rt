@@ -7,10 +7,11 @@ ghost use Rattle.wl_publish.specs.Listings.{Passing};
 ghost use Rattle.wl_serve.specs.Seating.{with_pass, ArePassesOf};
 
 use crate::seats::SeatShown;
+use ask_mail::TokenAsks;
 use std::alloc::Global;
 use std::sync::Wait;
 use wl_desk::last_edition;
-use wl_edge::{Attestor, Clock, Listener, Ready, Signer};
+use wl_edge::{Attestor, Clock, Listener, Ready};
 use wl_entry::Voucher;
 use wl_manager::Manager;
 use wl_octets::{Memory, Row};
@@ -34,16 +35,16 @@ pub(crate) fn first_passes<V: Voucher, R: Wait>(
 }
 
 /// Each seat gets one of the passes, of which there are as many and which contracts see as one.
-fn hand_out<L: Listener, S: Signer, A: Attestor, C: Clock, P: Ready<L::L>>(
-    mut passes: Vec<Pass<S::V>>,
-    seats: &mut [Seat<L, S, A, C, P>],
+fn hand_out<L: Listener, T: TokenAsks, A: Attestor, C: Clock, P: Ready<L::L>>(
+    mut passes: Vec<Pass<T::V>>,
+    seats: &mut [Seat<L, T, A, C, P>],
 )
     requires count { length passes.items ≡ length seats.old }
     ensures count { length seats.new ≡ length seats.old }
     ensures given { (given : Passing) → AllByRecursion (λ p. p ≡ given) passes.items → (i : ℕ) (d : _)
         → i < length seats.old
-        → ⟦<Seat<L, S, A, C, P> as SeatShown>⟧.shown (slice_index_or seats.new i d)
-        ≡ with_pass given (⟦<Seat<L, S, A, C, P> as SeatShown>⟧.shown (slice_index_or seats.old i d)) }
+        → ⟦<Seat<L, T, A, C, P> as SeatShown>⟧.shown (slice_index_or seats.new i d)
+        ≡ with_pass given (⟦<Seat<L, T, A, C, P> as SeatShown>⟧.shown (slice_index_or seats.old i d)) }
 {
     for seat in seats.iter_mut() {
         let Some(pass) = passes.pop() else {
@@ -54,15 +55,15 @@ fn hand_out<L: Listener, S: Signer, A: Attestor, C: Clock, P: Ready<L::L>>(
 }
 
 /// The same, by what contracts see of the seats.
-pub(crate) fn give_passes<L: Listener, S: Signer, A: Attestor, C: Clock, P: Ready<L::L>>(
-    passes: Row<Pass<S::V>>,
-    seats: &mut [Seat<L, S, A, C, P>],
+pub(crate) fn give_passes<L: Listener, T: TokenAsks, A: Attestor, C: Clock, P: Ready<L::L>>(
+    passes: Row<Pass<T::V>>,
+    seats: &mut [Seat<L, T, A, C, P>],
 )
     requires { length passes ≡ length seats.old }
     ensures count { length seats.new ≡ length seats.old }
     ensures given { (given : Passing) → AllByRecursion (λ p. p ≡ given) passes
-        → map ⟦<Seat<L, S, A, C, P> as SeatShown>⟧.shown seats.new
-        ≡ map (with_pass given) (map ⟦<Seat<L, S, A, C, P> as SeatShown>⟧.shown seats.old) }
+        → map ⟦<Seat<L, T, A, C, P> as SeatShown>⟧.shown seats.new
+        ≡ map (with_pass given) (map ⟦<Seat<L, T, A, C, P> as SeatShown>⟧.shown seats.old) }
 {
     hand_out(passes.into_vec(), seats);
 }

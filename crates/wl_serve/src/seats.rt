@@ -7,12 +7,13 @@ ghost use Rattle.wl_serve.specs.Views.{SeatView};
 ghost use Rattle.wl_serve.specs.Seating.{IsReady, Served};
 
 use crate::upkeep::keep_up;
+use ask_mail::TokenAsks;
 use at_once::for_each_beside;
 use std::alloc::Global;
 use std::sync::{Mutex, Wait};
 use std::thread::Threads;
 use wl_desk::Desk;
-use wl_edge::{Attestor, Bell, Clock, Gate, Listener, Ready, Signer, Upstream};
+use wl_edge::{Attestor, Bell, Clock, Gate, Listener, Ready, Upstream};
 use wl_served::served_responses_are_answers;
 use wl_worker::{Seat, TicketQueue, serve_seat};
 
@@ -21,8 +22,8 @@ pub trait SeatShown {
     ghost shown: { Self → SeatView };
 }
 
-impl<L: Listener, S: Signer, A: Attestor, C: Clock, P: Ready<L::L>> SeatShown
-    for Seat<L, S, A, C, P> {
+impl<L: Listener, T: TokenAsks, A: Attestor, C: Clock, P: Ready<L::L>> SeatShown
+    for Seat<L, T, A, C, P> {
     ghost shown = { λ s. record {
       socket = s.socket;
       room = s.room;
@@ -31,8 +32,8 @@ impl<L: Listener, S: Signer, A: Attestor, C: Clock, P: Ready<L::L>> SeatShown
       ready_faults = P.faults s.ready;
       attestor = A.calls s.attestor;
       attestor_faults = A.faults s.attestor;
-      signer = S.calls s.signer;
-      signer_faults = S.faults s.signer;
+      asks = T.taken s.asks;
+      ask_faults = T.faults s.asks;
       clock = C.answers s.clock;
       pass = s.pass;
       end = s.end;
@@ -40,17 +41,17 @@ impl<L: Listener, S: Signer, A: Attestor, C: Clock, P: Ready<L::L>> SeatShown
 }
 
 /// Serves a seat, and writes its end.
-fn tend<L: Listener, S: Signer, A: Attestor, C: Clock, P: Ready<L::L>, G: Gate, R: Wait>(
+fn tend<L: Listener, T: TokenAsks, A: Attestor, C: Clock, P: Ready<L::L>, G: Gate, R: Wait>(
     rt: &R,
     alloc: Global,
-    desk: &Mutex<Desk<S::V>>,
-    seat: &mut Seat<L, S, A, C, P>,
+    desk: &Mutex<Desk<T::V>>,
+    seat: &mut Seat<L, T, A, C, P>,
     gate: &G,
 )
-    requires { IsReady (⟦<Seat<L, S, A, C, P> as SeatShown>⟧.shown seat.old) }
-    ensures { Served S.V.token ((l : L.L) → IsSome (L.L.told l))
-        (⟦<Seat<L, S, A, C, P> as SeatShown>⟧.shown seat.old)
-        (⟦<Seat<L, S, A, C, P> as SeatShown>⟧.shown seat.new) }
+    requires { IsReady (⟦<Seat<L, T, A, C, P> as SeatShown>⟧.shown seat.old) }
+    ensures { Served T.V.token ((l : L.L) → IsSome (L.L.told l))
+        (⟦<Seat<L, T, A, C, P> as SeatShown>⟧.shown seat.old)
+        (⟦<Seat<L, T, A, C, P> as SeatShown>⟧.shown seat.new) }
 {
     let end = serve_seat(rt, alloc, desk, seat, gate);
     // a law: what a seat's links took are responses
@@ -61,45 +62,45 @@ fn tend<L: Listener, S: Signer, A: Attestor, C: Clock, P: Ready<L::L>, G: Gate, 
 /// Serves all seats at once, each in a thread of its own, with the upkeep beside them.
 pub(crate) fn serve_all<
     L: Listener + Send,
-    S: Signer + Send,
+    T: TokenAsks + Send,
     A: Attestor + Send,
     C: Clock + Send,
     P: Ready<L::L> + Send,
     U: Upstream,
     G: Gate + Sync,
     B: Bell + Sync,
-    T: Send,
-    W: Fn(usize, &mut T) + Sync,
+    E: Send,
+    W: Fn(usize, &mut E) + Sync,
     R: Threads + Wait + Sync,
 >(
     rt: &R,
     alloc: Global,
-    desk: &Mutex<Desk<S::V>>,
-    queue: &TicketQueue,
+    desk: &Mutex<Desk<T::V>>,
+    queue: &TicketQueue<T::V>,
     gate: &G,
     bells: &[B],
     upstream: &mut U,
     puller: &mut C,
     keeper: &mut C,
     sign: &W,
-    signers: &mut [T],
-    seats: &mut [Seat<L, S, A, C, P>],
+    signers: &mut [E],
+    seats: &mut [Seat<L, T, A, C, P>],
 )
     requires some { 0 < length seats.old }
-    requires ready { All (λ s. IsReady (⟦<Seat<L, S, A, C, P> as SeatShown>⟧.shown s)) seats.old }
+    requires ready { All (λ s. IsReady (⟦<Seat<L, T, A, C, P> as SeatShown>⟧.shown s)) seats.old }
     requires signers { 0 < length signers.old }
     requires each { AcceptsEach W.Fn sign.now signers.old }
     ensures pulled { PulledAgain (U.told upstream.old) (U.told upstream.new) }
     ensures pull_faults { U.faults upstream.old ≤ U.faults upstream.new }
     ensures count { length seats.new ≡ length seats.old }
     ensures served { (i : ℕ) (d : _) → i < length seats.old
-        → Served S.V.token ((l : L.L) → IsSome (L.L.told l))
-        (⟦<Seat<L, S, A, C, P> as SeatShown>⟧.shown (slice_index_or seats.old i d))
-        (⟦<Seat<L, S, A, C, P> as SeatShown>⟧.shown (slice_index_or seats.new i d)) }
+        → Served T.V.token ((l : L.L) → IsSome (L.L.told l))
+        (⟦<Seat<L, T, A, C, P> as SeatShown>⟧.shown (slice_index_or seats.old i d))
+        (⟦<Seat<L, T, A, C, P> as SeatShown>⟧.shown (slice_index_or seats.new i d)) }
 {
     for_each_beside(
         rt,
-        &|_, seat: &mut Seat<L, S, A, C, P>|
+        &|_, seat: &mut Seat<L, T, A, C, P>|
             requires { IsReady (record {
               socket = seat.now.socket;
               room = seat.now.room;
@@ -108,13 +109,13 @@ pub(crate) fn serve_all<
               ready_faults = P.faults seat.now.ready;
               attestor = A.calls seat.now.attestor;
               attestor_faults = A.faults seat.now.attestor;
-              signer = S.calls seat.now.signer;
-              signer_faults = S.faults seat.now.signer;
+              asks = T.taken seat.now.asks;
+              ask_faults = T.faults seat.now.asks;
               clock = C.answers seat.now.clock;
               pass = seat.now.pass;
               end = seat.now.end;
             }) }
-            ensures { Served S.V.token ((l : L.L) → IsSome (L.L.told l)) (record {
+            ensures { Served T.V.token ((l : L.L) → IsSome (L.L.told l)) (record {
               socket = seat.entry.now.socket;
               room = seat.entry.now.room;
               listener = L.told seat.entry.now.listener;
@@ -122,8 +123,8 @@ pub(crate) fn serve_all<
               ready_faults = P.faults seat.entry.now.ready;
               attestor = A.calls seat.entry.now.attestor;
               attestor_faults = A.faults seat.entry.now.attestor;
-              signer = S.calls seat.entry.now.signer;
-              signer_faults = S.faults seat.entry.now.signer;
+              asks = T.taken seat.entry.now.asks;
+              ask_faults = T.faults seat.entry.now.asks;
               clock = C.answers seat.entry.now.clock;
               pass = seat.entry.now.pass;
               end = seat.entry.now.end;
@@ -135,8 +136,8 @@ pub(crate) fn serve_all<
               ready_faults = P.faults seat.exit.now.ready;
               attestor = A.calls seat.exit.now.attestor;
               attestor_faults = A.faults seat.exit.now.attestor;
-              signer = S.calls seat.exit.now.signer;
-              signer_faults = S.faults seat.exit.now.signer;
+              asks = T.taken seat.exit.now.asks;
+              ask_faults = T.faults seat.exit.now.asks;
               clock = C.answers seat.exit.now.clock;
               pass = seat.exit.now.pass;
               end = seat.exit.now.end;

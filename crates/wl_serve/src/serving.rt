@@ -13,7 +13,7 @@ use crate::passes::{first_passes, give_passes};
 use crate::seats::{SeatShown, serve_all};
 use crate::upkeep::Upkeep;
 use std::alloc::Global;
-use std::sync::{Mutex, Wait};
+use std::sync::{Arc, Mutex, Wait};
 use std::thread::Threads;
 use wl_config::{ConfigFault, read_config};
 use wl_desk::Desk;
@@ -21,7 +21,7 @@ use wl_document::DocFault;
 use wl_edge::{Attestor, Bell, Clock, EdgeFault, Gate, Listener, Ready, Signer, Upstream};
 use wl_manager::Manager;
 use wl_octets::{Memory, Octets};
-use wl_worker::{Seat, Signing, TicketQueue, sign_asks};
+use wl_worker::{AskHub, Seat, SeatAsks, Signing, TicketQueue, sign_asks};
 
 /// Serves the seats, each of which has its pass, and ends the desk with them.
 fn with_desk<
@@ -38,22 +38,23 @@ fn with_desk<
     rt: &R,
     alloc: Global,
     desk: Desk<S::V>,
+    hub: Arc<AskHub<S::V>>,
     gate: &G,
     bells: &[B],
     upkeep: &mut Upkeep<U, S, C>,
-    seats: &mut [Seat<L, S, A, C, P>],
+    seats: &mut [Seat<L, SeatAsks<S::V>, A, C, P>],
 )
     requires some { 0 < length seats.old }
-    requires ready { AllByRecursion IsReady (map ⟦<Seat<L, S, A, C, P> as SeatShown>⟧.shown seats.old) }
+    requires ready { AllByRecursion IsReady (map ⟦<Seat<L, SeatAsks<S::V>, A, C, P> as SeatShown>⟧.shown seats.old) }
     requires signers { 0 < length upkeep.old.signers.items }
     ensures pulled { PulledAgain (U.told upkeep.old.upstream) (U.told upkeep.new.upstream) }
     ensures pull_faults { U.faults upkeep.old.upstream ≤ U.faults upkeep.new.upstream }
     ensures served { AllZip (Served S.V.token ((l : L.L) → IsSome (L.L.told l)))
-        (map ⟦<Seat<L, S, A, C, P> as SeatShown>⟧.shown seats.old)
-        (map ⟦<Seat<L, S, A, C, P> as SeatShown>⟧.shown seats.new) }
+        (map ⟦<Seat<L, SeatAsks<S::V>, A, C, P> as SeatShown>⟧.shown seats.old)
+        (map ⟦<Seat<L, SeatAsks<S::V>, A, C, P> as SeatShown>⟧.shown seats.new) }
 {
     let desk = Mutex::new(desk);
-    let queue = TicketQueue::start(alloc);
+    let queue = TicketQueue::start(alloc, hub);
     serve_all(
         rt,
         alloc,
@@ -90,27 +91,29 @@ fn serve_manager<
     rt: &R,
     alloc: Global,
     manager: Manager<S::V>,
+    hub: &Arc<AskHub<S::V>>,
     gate: &G,
     bells: &[B],
     upkeep: &mut Upkeep<U, S, C>,
-    seats: &mut [Seat<L, S, A, C, P>],
+    seats: &mut [Seat<L, SeatAsks<S::V>, A, C, P>],
 ) -> Result<(), Memory>
     requires some { 0 < length seats.old }
     requires few { length seats.old ≤ 64 }
-    requires idle { AllByRecursion IsIdle (map ⟦<Seat<L, S, A, C, P> as SeatShown>⟧.shown seats.old) }
+    requires idle { AllByRecursion IsIdle (map ⟦<Seat<L, SeatAsks<S::V>, A, C, P> as SeatShown>⟧.shown seats.old) }
     requires signers { 0 < length upkeep.old.signers.items }
     ensures pulled { OnOk result (PulledAgain (U.told upkeep.old.upstream) (U.told upkeep.new.upstream)) }
     ensures served { OnOk result (AllZip
         (ServedFrom S.V.token ((l : L.L) → IsSome (L.L.told l)) manager.stored.published)
-        (map ⟦<Seat<L, S, A, C, P> as SeatShown>⟧.shown seats.old)
-        (map ⟦<Seat<L, S, A, C, P> as SeatShown>⟧.shown seats.new)) }
+        (map ⟦<Seat<L, SeatAsks<S::V>, A, C, P> as SeatShown>⟧.shown seats.old)
+        (map ⟦<Seat<L, SeatAsks<S::V>, A, C, P> as SeatShown>⟧.shown seats.new)) }
     ensures err { OnErr result (seats.new ≡ seats.old) }
 {
     let count = seats.len() as u32;
+    let hub = Arc::try_clone(hub)?;
     let (publisher, passes) = first_passes(rt, alloc, &manager, count)?;
     give_passes(passes, seats);
     let desk = Desk::start(manager, publisher, count);
-    with_desk(rt, alloc, desk, gate, bells, upkeep, seats);
+    with_desk(rt, alloc, desk, hub, gate, bells, upkeep, seats);
     Ok(())
 }
 
@@ -128,20 +131,21 @@ fn serve_first<
 >(
     rt: &R,
     alloc: Global,
+    hub: &Arc<AskHub<S::V>>,
     gate: &G,
     bells: &[B],
     upkeep: &mut Upkeep<U, S, C>,
-    seats: &mut [Seat<L, S, A, C, P>],
+    seats: &mut [Seat<L, SeatAsks<S::V>, A, C, P>],
 ) -> ServeEnd
     requires some { 0 < length seats.old }
     requires few { length seats.old ≤ 64 }
-    requires idle { AllByRecursion IsIdle (map ⟦<Seat<L, S, A, C, P> as SeatShown>⟧.shown seats.old) }
+    requires idle { AllByRecursion IsIdle (map ⟦<Seat<L, SeatAsks<S::V>, A, C, P> as SeatShown>⟧.shown seats.old) }
     requires signers { 0 < length upkeep.old.signers.items }
     ensures { SatTells S.V.token ((l : L.L) → IsSome (L.L.told l))
         (U.told upkeep.old.upstream) (U.told upkeep.new.upstream)
         (U.faults upkeep.old.upstream) (U.faults upkeep.new.upstream)
-        (map ⟦<Seat<L, S, A, C, P> as SeatShown>⟧.shown seats.old)
-        (map ⟦<Seat<L, S, A, C, P> as SeatShown>⟧.shown seats.new) result }
+        (map ⟦<Seat<L, SeatAsks<S::V>, A, C, P> as SeatShown>⟧.shown seats.old)
+        (map ⟦<Seat<L, SeatAsks<S::V>, A, C, P> as SeatShown>⟧.shown seats.new) result }
 {
     let mut document = Octets::empty(alloc);
     match upkeep.upstream.pull(&mut document) {
@@ -151,10 +155,12 @@ fn serve_first<
     }
     let manager = match Manager::start_strict(alloc, document.as_slice()) {
         Ok(manager) => manager,
-        Err(DocFault::Memory) => return ServeEnd::Memory,
-        Err(fault) => return ServeEnd::Document(fault),
+        Err(fault) => match fault {
+            DocFault::Memory => return ServeEnd::Memory,
+            fault => return ServeEnd::Document(fault),
+        },
     };
-    match serve_manager(rt, alloc, manager, gate, bells, upkeep, seats) {
+    match serve_manager(rt, alloc, manager, hub, gate, bells, upkeep, seats) {
         Ok(()) => end_of_all(seats),
         Err(Memory) => ServeEnd::Memory,
     }
@@ -181,6 +187,7 @@ fn serve_parts<B: Binder, R: Threads + Wait + Sync>(
     serve_first(
         rt,
         alloc,
+        &parts.hub,
         &parts.gate,
         parts.bells.as_slice(),
         &mut parts.upkeep,

@@ -42,21 +42,21 @@ part_told : Laws → (k : Known) (link : FinishedLink) (log : Option LinkLog) (p
 part_told laws k link None past took = tt
 part_told laws k link (Some log) past took = link_told laws log k.seen past took
 
-began_of_part : (k : Known) (log : Option LinkLog) (past : List Round) → IfSome log (λ l. Began l k.seen past × AreJudged k past) → IfSome log (λ l. Began l k.seen past)
-began_of_part k None past took = tt
-began_of_part k (Some log) past took = took.0
+began_of_part : (k : Known) (n : ℕ) (log : Option LinkLog) (past : List Round) → IfSome log (λ l. Began l k.seen past × AreJudged k n past) → IfSome log (λ l. Began l k.seen past)
+began_of_part k n None past took = tt
+began_of_part k n (Some log) past took = took.0
 
-began_of_full : (k : Known) (receives sends : ℕ) (log : Option LinkLog) (past : List Round) → IfSome log (λ l. Began l k.seen past × AreJudged k past × TookAllUnless receives sends l past) → IfSome log (λ l. Began l k.seen past)
-began_of_full k receives sends None past took = tt
-began_of_full k receives sends (Some log) past took = took.0
+began_of_full : (k : Known) (n receives sends : ℕ) (log : Option LinkLog) (past : List Round) → IfSome log (λ l. Began l k.seen past × AreJudged k n past × TookAllUnless receives sends l past) → IfSome log (λ l. Began l k.seen past)
+began_of_full k n receives sends None past took = tt
+began_of_full k n receives sends (Some log) past took = took.0
 
-all_parts : Laws → (k : Known) (rounds : List (ℕ × Round)) (links : List (ℕ × FinishedLink)) → AllByRecursion (λ f. TookPart k f.1 (owned_by f.0 rounds)) links → AllByRecursion (λ f. IsTold k.seen f.1 (owned_by f.0 rounds)) links
+all_parts : Laws → (k : Known) (rounds : List (ℕ × Round)) (links : List (ℕ × FinishedLink)) → AllByRecursion (λ f. TookPart k f.0 f.1 (owned_by f.0 rounds)) links → AllByRecursion (λ f. IsTold k.seen f.1 (owned_by f.0 rounds)) links
 all_parts laws k rounds [] all = tt
-all_parts laws k rounds (f ∷ more) all = (part_told laws k f.1 f.1.log (owned_by f.0 rounds) (began_of_part k f.1.log (owned_by f.0 rounds) all.0), all_parts laws k rounds more all.1)
+all_parts laws k rounds (f ∷ more) all = (part_told laws k f.1 f.1.log (owned_by f.0 rounds) (began_of_part k f.0 f.1.log (owned_by f.0 rounds) all.0), all_parts laws k rounds more all.1)
 
-all_fulls : Laws → (k : Known) (rounds : List (ℕ × Round)) (links rest : List (ℕ × FinishedLink)) → AllByRecursion (λ f. TookFully k f.1 (owned_by f.0 rounds)) links → AllByRecursion (λ f. IsTold k.seen f.1 (owned_by f.0 rounds)) rest → AllByRecursion (λ f. IsTold k.seen f.1 (owned_by f.0 rounds)) (links ++ rest)
+all_fulls : Laws → (k : Known) (rounds : List (ℕ × Round)) (links rest : List (ℕ × FinishedLink)) → AllByRecursion (λ f. TookFully k f.0 f.1 (owned_by f.0 rounds)) links → AllByRecursion (λ f. IsTold k.seen f.1 (owned_by f.0 rounds)) rest → AllByRecursion (λ f. IsTold k.seen f.1 (owned_by f.0 rounds)) (links ++ rest)
 all_fulls laws k rounds [] rest all then = then
-all_fulls laws k rounds (f ∷ more) rest all then = (part_told laws k f.1 f.1.log (owned_by f.0 rounds) (began_of_full k f.1.failed_receives f.1.failed_sends f.1.log (owned_by f.0 rounds) all.0), all_fulls laws k rounds more rest all.1 then)
+all_fulls laws k rounds (f ∷ more) rest all then = (part_told laws k f.1 f.1.log (owned_by f.0 rounds) (began_of_full k f.0 f.1.failed_receives f.1.failed_sends f.1.log (owned_by f.0 rounds) all.0), all_fulls laws k rounds more rest all.1 then)
 
 pub seat_tells : Laws → (vouched : Ask → List (List ℕ) → JwtToken → Type 0) (socket room : ℕ) (end : SeatEnd) (old new : SeatWorld) → Tends vouched socket room end old new → Tells vouched socket room end old new
 seat_tells laws vouched socket room end old new t =

@@ -5,14 +5,13 @@ use mathlib.Core.List.{IsPrefix}
 use Rattle.list_laws.specs.Lists.{BeginsWith}
 use Rattle.wl_entry.specs.declared.asks.Ask.{Ask}
 use Rattle.wl_entry.specs.declared.signing.Signed.{Signed}
-use Rattle.wl_entry.specs.declared.tokens.JwtToken.{JwtToken}
 use Rattle.wl_snapshot.specs.Snapshots.{Publication}
 use Rattle.wl_publish.specs.Lists.{NonFallingFrom}
 use Rattle.wl_publish.specs.Listings.{Passing}
 use Rattle.wl_edge.specs.Links.{LinkLog}
 use Rattle.wl_edge.specs.declared.link.Heard.{Heard}
 use Rattle.wl_edge.specs.declared.attestor.AttestorCall.{AttestorCall}
-use Rattle.wl_edge.specs.declared.signer.SignerCall.{SignerCall}
+use Rattle.ask_mail.specs.declared.mail.Delivery.{Delivery}
 use Rattle.wl_session.specs.declared.asks.JwtAsk.{JwtAsk}
 use Rattle.wl_session.specs.declared.asks.JwtOutcome.{JwtOutcome}
 use Rattle.wl_session.specs.Sessions.{SessionState, fresh_session}
@@ -23,7 +22,7 @@ use Rattle.wl_worker.specs.declared.ended.RoundEnd.{RoundEnd}
 use Rattle.wl_worker.specs.declared.ended.RoundEnd.TheVariants as ends
 use Rattle.wl_worker.specs.Rounds.{Round, HaveAsks, turned_session, session_after, trace, numbers, number_of, answers, outcomes, AreRounds, AreOutcomes, AreKnown, IsIn}
 use Rattle.wl_worker.specs.Counts.{RoseBy}
-use Rattle.wl_worker.specs.Outcomes.{unanswered, unsigned, GainsAll, attestor_call, attestor_calls, IsOutcome}
+use Rattle.wl_worker.specs.Outcomes.{Asker, unanswered, unsigned, GainsAll, attestor_call, attestor_calls, IsOutcome}
 use Rattle.wl_worker.specs.Served.{ServedState, Around, Stands, Began, ReadIn, ReadBy, OutcomesBy, RoundTells, HasSeenLast}
 use Rattle.wl_worker.specs.Connections.{CameTo, Gathers, ConnectionTells, Serving}
 use Rattle.wl_worker.proofs.Gaining.{gains_none, gains_then, ticked_none, ticked_then, link_none, link_then, rose_none, rose_then, unanswered_append, unsigned_append, in_front, in_back, outcome_grows, have_such}
@@ -78,8 +77,8 @@ module _ (valid : Ask → Signed → Type 0) where
 
 -- ---- from round to round
 
-module _ (valid : Ask → Signed → Type 0) (vouched : Ask → List (List ℕ) → JwtToken → Type 0) (socket : ℕ) where
-  pub gathers_on : {old new : ServedState} {k l m : Option LinkLog} {before mid now : Around} {e : RoundEnd} {heards : List Heard} {took : List ℕ} {past : List Round} {signed : List SignerCall} {times : List ℕ}
+module _ (valid : Ask → Signed → Type 0) (vouched : Asker) (socket : ℕ) where
+  pub gathers_on : {old new : ServedState} {k l m : Option LinkLog} {before mid now : Around} {e : RoundEnd} {heards : List Heard} {took : List ℕ} {past : List Round} {signed : List Delivery} {times : List ℕ}
       → Gathers vouched socket k l before mid heards took past signed times → old.session ≡ session_after past → AreKnown mid.pass.seen past → (tells : RoundTells valid vouched socket old new l m mid now e)
       → Gathers vouched socket k m before now (heards ++ tells.heards) (took ++ tells.took) (tells.added ++ past) (signed ++ tells.signed) (times ++ tells.times)
   gathers_on {old} {new} {k} {l} {m} {before} {mid} {now} {e} {heards} {took} {past} {signed} {times} so_far session known tells =
@@ -101,9 +100,9 @@ module _ (valid : Ask → Signed → Type 0) (vouched : Ask → List (List ℕ) 
             (outcome_grows vouched tells.signed (signed ++ tells.signed) tells.times (times ++ tells.times) (λ s is. in_back s signed tells.signed is) (λ s is. in_back s times tells.times is)) tells.added old.session tells.outcomes_are)
             (outcomes_such (IsOutcome vouched signed times) P
             (outcome_grows vouched signed (signed ++ tells.signed) times (times ++ tells.times) (λ s is. in_front s signed tells.signed is) (λ s is. in_front s times tells.times is)) past so_far.outcomes_are);
-        signer_fails = subst (λ (much : ℕ). RoseBy much before.signer_faults now.signer_faults)
+        ask_fails = subst (λ (much : ℕ). RoseBy much before.ask_faults now.ask_faults)
             (sym (ap unsigned (outcomes_added tells.added past) ∙ unsigned_append (outcomes past) (outcomes tells.added)))
-            (rose_then before.signer_faults mid.signer_faults now.signer_faults (unsigned (outcomes past)) (unsigned (outcomes tells.added)) so_far.signer_fails tells.signer_fails);
+            (rose_then before.ask_faults mid.ask_faults now.ask_faults (unsigned (outcomes past)) (unsigned (outcomes tells.added)) so_far.ask_fails tells.ask_fails);
         recent = λ p is. recent_on valid tells.added past mid.pass now.pass p tells.read known (known_longer p before.pass.seen mid.pass.seen so_far.seen is) (so_far.recent p is);
       }
 
@@ -117,7 +116,7 @@ module _ (valid : Ask → Signed → Type 0) (vouched : Ask → List (List ℕ) 
     signs = gains_none before.signed;
     clock = ticked_none before.times;
     outcomes_are = tt;
-    signer_fails = rose_none before.signer_faults;
+    ask_fails = rose_none before.ask_faults;
     recent = λ p is. tt;
   }
 

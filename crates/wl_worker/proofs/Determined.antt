@@ -7,7 +7,7 @@ use Rattle.wl_session.specs.declared.asks.JwtAsk.{JwtAsk}
 use Rattle.wl_session.specs.declared.asks.JwtOutcome.{JwtOutcome}
 use Rattle.wl_session.specs.declared.asks.SessionFault.{SessionFault}
 use Rattle.wl_session.specs.Sessions.{SessionState, unnamed_in, asks_in, failure_in}
-use Rattle.wl_worker.specs.Rounds.{Round, answer_told, answers_told, shown_told, given_told, outcomes_told, heard_told, heard_session, named_session, turned_session, round_told, HaveCalls, HaveAsks, IsAsk, any_outcome, IsWhole, session_after, pieces, answers, numbers, number_of, outcomes, AreWhole, IsIn, IsKnown, AreKnown}
+use Rattle.wl_worker.specs.Rounds.{Round, answer_told, answers_told, shown_told, given_told, outcomes_told, heard_told, heard_session, named_session, turned_session, round_told, HaveCalls, HaveAsks, IsAsk, any_outcome, IsWhole, session_after, pieces, answers, numbers, number_of, still, found, looks_of, looks, AreWhole, IsIn, IsKnown, AreKnown}
 
 -- ---- lists that end with one item
 
@@ -46,17 +46,29 @@ some_ask : (P : JwtAsk → Type 0) (o : Option JwtAsk) → IsAsk P o → is_some
 some_ask P None is = absurd is
 some_ask P (Some a) is = refl
 
-outcomes_split : (xs ys u v : List JwtOutcome) (s : SessionState) → HaveAsks any_outcome xs s → HaveAsks any_outcome ys s → asks_in (outcomes_told xs s).after ≡ None → asks_in (outcomes_told ys s).after ≡ None
-    → xs ++ u ≡ ys ++ v → (xs ≡ ys) × (u ≡ v)
+-- a look that found none, before one that found an outcome
+not_found : (P : JwtAsk → Type 0) {Q : Type 0} (ask : Option JwtAsk) (y : JwtOutcome) (u v : List (Option JwtOutcome)) → IsAsk P ask → still ask ++ u ≡ Some y ∷ v → Q
+not_found P None y u v there is = absurd there
+not_found P (Some a) y u v there is = absurd (cc is)
+
+still_behind : (ask : Option JwtAsk) (u v : List (Option JwtOutcome)) → still ask ++ u ≡ still ask ++ v → u ≡ v
+still_behind None u v is = is
+still_behind (Some a) u v is = cc is
+
+outcomes_split : (xs ys : List JwtOutcome) (u v : List (Option JwtOutcome)) (s : SessionState) → HaveAsks any_outcome xs s → HaveAsks any_outcome ys s
+    → (found xs ++ still (asks_in (outcomes_told xs s).after)) ++ u ≡ (found ys ++ still (asks_in (outcomes_told ys s).after)) ++ v → (xs ≡ ys) × (u ≡ v)
 unfolding HaveAsks outcomes_told
-outcomes_split [] [] u v s one other done all is = (refl, is)
-outcomes_split [] (y ∷ ys) u v s one other done all is = none_some (asks_in s) done (some_ask (λ a. any_outcome a y) (asks_in s) other.0)
-outcomes_split (x ∷ xs) [] u v s one other done all is = none_some (asks_in s) all (some_ask (λ a. any_outcome a x) (asks_in s) one.0)
-outcomes_split (x ∷ xs) (y ∷ ys) u v s one other done all is =
+outcomes_split [] [] u v s one other is = (refl, still_behind (asks_in s) u v is)
+outcomes_split [] (y ∷ ys) u v s one other is = not_found (λ a. any_outcome a y) (asks_in s) y u ((found ys ++ still (asks_in (outcomes_told ys (given_told y s).after).after)) ++ v) other.0 is
+outcomes_split (x ∷ xs) [] u v s one other is = not_found (λ a. any_outcome a x) (asks_in s) x v ((found xs ++ still (asks_in (outcomes_told xs (given_told x s).after).after)) ++ u) one.0 (sym is)
+outcomes_split (x ∷ xs) (y ∷ ys) u v s one other is =
     let first : x ≡ y = cc is in
+    let behind_x = (found xs ++ still (asks_in (outcomes_told xs (given_told x s).after).after)) ++ u in
+    let behind_y = (found ys ++ still (asks_in (outcomes_told ys (given_told y s).after).after)) ++ v in
+    let more : behind_x ≡ behind_y = cc is in
     let rest = outcomes_split xs ys u v (given_told x s).after one.1
-    (subst (λ (o : JwtOutcome). HaveAsks any_outcome ys (given_told o s).after) (sym first) other.1) done
-    (subst (λ (o : JwtOutcome). asks_in (outcomes_told ys (given_told o s).after).after ≡ None) (sym first) all) (cc is) in
+    (subst (λ (o : JwtOutcome). HaveAsks any_outcome ys (given_told o s).after) (sym first) other.1)
+    (subst (λ (o : JwtOutcome). behind_x ≡ (found ys ++ still (asks_in (outcomes_told ys (given_told o s).after).after)) ++ v) (sym first) more) in
     (cc (first, rest.0), rest.1)
 
 -- ---- the publication of a number
@@ -88,25 +100,25 @@ shown_split seen (Some p) (Some q) u v f numbered known other one two three four
 -- ---- one round
 
 -- what two rounds took, with what came behind, is the same
-pub record TookAlike (r q : Round) (xs ys : List (Option (List (List ℕ)))) (m n : List ℕ) (u v : List JwtOutcome) : Type 0 where
+pub record TookAlike (s : SessionState) (r q : Round) (xs ys : List (Option (List (List ℕ)))) (m n : List ℕ) (u v : List (Option JwtOutcome)) : Type 0 where
   pub piece : r.piece ≡ q.piece
   pub answers : r.answers ++ xs ≡ q.answers ++ ys
   pub numbers : number_of r.shown ++ m ≡ number_of q.shown ++ n
-  pub outcomes : r.outcomes ++ u ≡ q.outcomes ++ v
+  pub outcomes : looks_of r s ++ u ≡ looks_of q s ++ v
 
-pub record Alike (r q : Round) (xs ys : List (Option (List (List ℕ)))) (m n : List ℕ) (u v : List JwtOutcome) : Type 0 where
+pub record Alike (r q : Round) (xs ys : List (Option (List (List ℕ)))) (m n : List ℕ) (u v : List (Option JwtOutcome)) : Type 0 where
   pub round : r ≡ q
   pub answers : xs ≡ ys
   pub numbers : m ≡ n
   pub outcomes : u ≡ v
 
 -- with the same piece
-asked_after : (r : Round) (s : SessionState) → asks_in (round_told r s).after ≡ None → asks_in (outcomes_told r.outcomes (turned_session r s)).after ≡ None
-unfolding round_told
-asked_after r s none = none
+looks_after : (r : Round) (s : SessionState) → looks_of r s ≡ found r.outcomes ++ still (asks_in (outcomes_told r.outcomes (turned_session r s)).after)
+unfolding looks_of round_told
+looks_after r s = refl
 
-alike : (seen : List Publication) (r q : Round) (s : SessionState) {xs ys : List (Option (List (List ℕ)))} {m n : List ℕ} {u v : List JwtOutcome} → Numbered seen → IsWhole r s → IsWhole q s → IsKnown seen r.shown → IsKnown seen q.shown
-    → TookAlike r q xs ys m n u v → Alike r q xs ys m n u v
+alike : (seen : List Publication) (r q : Round) (s : SessionState) {xs ys : List (Option (List (List ℕ)))} {m n : List ℕ} {u v : List (Option JwtOutcome)} → Numbered seen → IsWhole r s → IsWhole q s → IsKnown seen r.shown → IsKnown seen q.shown
+    → TookAlike s r q xs ys m n u v → Alike r q xs ys m n u v
 alike seen r q s {xs} {ys} {m} {n} {u} {v} numbered whole other known too took =
     let heard : heard_session r s ≡ heard_session q s = ap (λ (p : List ℕ). (heard_told p s).after) took.piece in
     let answered = answers_split r.answers q.answers xs ys (heard_session r s) whole.round.answers (subst (λ (h : SessionState). HaveCalls q.answers h) (sym heard) other.round.answers)
@@ -115,8 +127,10 @@ alike seen r q s {xs} {ys} {m} {n} {u} {v} numbered whole other known too took =
     let shown = shown_split seen r.shown q.shown m n (failure_in (named_session r s)) numbered known too (λ there. (whole.round.shown there).0)
     (λ there. ap failure_in named ∙ (other.round.shown there).0) whole.read (λ none. other.read (ap failure_in (sym named) ∙ none)) took.numbers in
     let turned : turned_session r s ≡ turned_session q s = λ i. (shown_told (shown.0 i) (named i)).after in
+    let looked : (found r.outcomes ++ still (asks_in (outcomes_told r.outcomes (turned_session r s)).after)) ++ u ≡ (found q.outcomes ++ still (asks_in (outcomes_told q.outcomes (turned_session q s)).after)) ++ v =
+    ap (λ (l : List (Option JwtOutcome)). l ++ u) (sym (looks_after r s)) ∙ (took.outcomes ∙ ap (λ (l : List (Option JwtOutcome)). l ++ v) (looks_after q s)) in
     let given = outcomes_split r.outcomes q.outcomes u v (turned_session r s) whole.round.outcomes (subst (λ (t : SessionState). HaveAsks any_outcome q.outcomes t) (sym turned) other.round.outcomes)
-    (asked_after r s whole.asked) (subst (λ (t : SessionState). asks_in (outcomes_told q.outcomes t).after ≡ None) (sym turned) (asked_after q s other.asked)) took.outcomes in
+    (subst (λ (t : SessionState). (found r.outcomes ++ still (asks_in (outcomes_told r.outcomes (turned_session r s)).after)) ++ u ≡ (found q.outcomes ++ still (asks_in (outcomes_told q.outcomes t).after)) ++ v) (sym turned) looked) in
     record {
       round = λ i. record { piece = took.piece i; answers = answered.0 i; shown = shown.0 i; outcomes = given.0 i };
       answers = answered.1;
@@ -126,7 +140,7 @@ alike seen r q s {xs} {ys} {m} {n} {u} {v} numbered whole other known too took =
 
 -- ---- all rounds
 
-pub record AlikeAll (past other : List Round) (xs ys : List (Option (List (List ℕ)))) (m n : List ℕ) (u v : List JwtOutcome) : Type 0 where
+pub record AlikeAll (past other : List Round) (xs ys : List (Option (List (List ℕ)))) (m n : List ℕ) (u v : List (Option JwtOutcome)) : Type 0 where
   pub rounds : past ≡ other
   pub answers : xs ≡ ys
   pub numbers : m ≡ n
@@ -138,16 +152,16 @@ behind xs ys us vs a b is = sym (append_assoc xs us a) ∙ (is ∙ append_assoc 
 no_more : {A : Type 0} {P : Type 0} (xs : List A) (x : A) → [] ≡ xs ++ x ∷ [] → P
 no_more xs x is = absurd (omega (arith, ap length is, length-append xs (x ∷ [])))
 
-pub determined : (seen : List Publication) (past other : List Round) (xs ys : List (Option (List (List ℕ)))) (m n : List ℕ) (u v : List JwtOutcome) → Numbered seen → AreWhole past → AreWhole other → AreKnown seen past → AreKnown seen other
-    → pieces past ≡ pieces other → answers past ++ xs ≡ answers other ++ ys → numbers past ++ m ≡ numbers other ++ n → outcomes past ++ u ≡ outcomes other ++ v → AlikeAll past other xs ys m n u v
+pub determined : (seen : List Publication) (past other : List Round) (xs ys : List (Option (List (List ℕ)))) (m n : List ℕ) (u v : List (Option JwtOutcome)) → Numbered seen → AreWhole past → AreWhole other → AreKnown seen past → AreKnown seen other
+    → pieces past ≡ pieces other → answers past ++ xs ≡ answers other ++ ys → numbers past ++ m ≡ numbers other ++ n → looks past ++ u ≡ looks other ++ v → AlikeAll past other xs ys m n u v
 determined seen [] [] xs ys m n u v numbered whole too known also p a k o = record { rounds = refl; answers = a; numbers = k; outcomes = o }
 determined seen [] (q ∷ other) xs ys m n u v numbered whole too known also p a k o = no_more (pieces other) q.piece p
 determined seen (r ∷ past) [] xs ys m n u v numbered whole too known also p a k o = no_more (pieces past) r.piece (sym p)
 determined seen (r ∷ past) (q ∷ other) xs ys m n u v numbered whole too known also p a k o =
     let pieces_are = last_same (pieces past) (pieces other) r.piece q.piece p in
-    let before = determined seen past other (r.answers ++ xs) (q.answers ++ ys) (number_of r.shown ++ m) (number_of q.shown ++ n) (r.outcomes ++ u) (q.outcomes ++ v) numbered whole.2 too.2 known.1 also.1 pieces_are.0
-    (behind (answers past) (answers other) r.answers q.answers xs ys a) (behind (numbers past) (numbers other) (number_of r.shown) (number_of q.shown) m n k) (behind (outcomes past) (outcomes other) r.outcomes q.outcomes u v o) in
-    let its : TookAlike r q xs ys m n u v = record { piece = pieces_are.1; answers = before.answers; numbers = before.numbers; outcomes = before.outcomes } in
+    let before = determined seen past other (r.answers ++ xs) (q.answers ++ ys) (number_of r.shown ++ m) (number_of q.shown ++ n) (looks_of r (session_after past) ++ u) (looks_of q (session_after other) ++ v) numbered whole.2 too.2 known.1 also.1 pieces_are.0
+    (behind (answers past) (answers other) r.answers q.answers xs ys a) (behind (numbers past) (numbers other) (number_of r.shown) (number_of q.shown) m n k) (behind (looks past) (looks other) (looks_of r (session_after past)) (looks_of q (session_after other)) u v o) in
+    let its : TookAlike (session_after past) r q xs ys m n u v = record { piece = pieces_are.1; answers = before.answers; numbers = before.numbers; outcomes = subst (λ (rs : List Round). looks_of r (session_after past) ++ u ≡ looks_of q (session_after rs) ++ v) (sym before.rounds) before.outcomes } in
     let one = alike seen r q (session_after past) numbered whole.1 (subst (λ (rs : List Round). IsWhole q (session_after rs)) (sym before.rounds) too.1) known.0 also.0 its in
     record {
       rounds = λ i. one.round i ∷ before.rounds i;
@@ -157,6 +171,6 @@ determined seen (r ∷ past) (q ∷ other) xs ys m n u v numbered whole too know
     }
 
 pub determined_by : (seen : List Publication) (past other : List Round) → Numbered seen → AreWhole past → AreWhole other → AreKnown seen past → AreKnown seen other
-    → pieces past ≡ pieces other → answers past ≡ answers other → numbers past ≡ numbers other → outcomes past ≡ outcomes other → past ≡ other
+    → pieces past ≡ pieces other → answers past ≡ answers other → numbers past ≡ numbers other → looks past ≡ looks other → past ≡ other
 determined_by seen past other numbered whole too known also p a k o =
     (determined seen past other [] [] [] [] [] [] numbered whole too known also p (ap (λ xs. xs ++ []) a) (ap (λ ns. ns ++ []) k) (ap (λ os. os ++ []) o)).rounds

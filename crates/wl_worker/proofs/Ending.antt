@@ -4,7 +4,6 @@ use Rattle.std.proofs.lemmas.List.{append-nil}
 use Rattle.wl_octets.specs.declared.memory.Memory.{Memory}
 use Rattle.wl_entry.specs.declared.asks.Ask.{Ask}
 use Rattle.wl_entry.specs.declared.signing.Signed.{Signed}
-use Rattle.wl_entry.specs.declared.tokens.JwtToken.{JwtToken}
 use Rattle.wl_snapshot.specs.Snapshots.{Publication}
 use Rattle.wl_edge.specs.Links.{LinkLog}
 use Rattle.wl_edge.specs.declared.link.Heard.{Heard}
@@ -15,14 +14,14 @@ use Rattle.wl_worker.specs.declared.ended.Ended.TheVariants as ended
 use Rattle.wl_worker.specs.declared.ended.RoundEnd.{RoundEnd}
 use Rattle.wl_worker.specs.declared.ended.RoundEnd.TheVariants as ends
 use Rattle.wl_worker.specs.Rounds.{Round, HaveAsks, turned_session, pieces_given}
-use Rattle.wl_worker.specs.Outcomes.{IsOutcome}
+use Rattle.wl_worker.specs.Outcomes.{Asker, IsOutcome}
 use Rattle.wl_worker.specs.Served.{ServedState, Around, Stands, Began, StandsAt, log_on, LinkGains, HeardOne, EndIs, IsPiece, RoundTells}
 use Rattle.wl_worker.specs.Sending.{SentTo, Settles, end_of}
 use Rattle.wl_worker.specs.Stepping.{StepTells, HearTells}
 use Rattle.wl_worker.proofs.Gaining.{gains_none, ticked_none, rose_none, link_then, log_then}
 use Rattle.wl_worker.proofs.Standing.{stands_sent, stands_round, began, began_round}
 
-module _ (valid : Ask → Signed → Type 0) (vouched : Ask → List (List ℕ) → JwtToken → Type 0) (socket : ℕ) where
+module _ (valid : Ask → Signed → Type 0) (vouched : Asker) (socket : ℕ) where
   -- ---- it ends with the first sending
 
   done_open : (s : SessionState) → is_done_in s ≡ true → failure_in s ≡ None
@@ -63,7 +62,7 @@ module _ (valid : Ask → Signed → Type 0) (vouched : Ask → List (List ℕ) 
     signs = gains_none before.signed;
     clock = ticked_none before.times;
     outcomes_are = tt;
-    signer_fails = rose_none before.signer_faults;
+    ask_fails = rose_none before.ask_faults;
     goes_on = λ log past stands. stands_at e (log_on log [] settles.passes.took) new before.pass.seen past
         (stands_sent log old new before.pass.seen past [] settles.passes.took settles.session settles.passes.rest refl stands);
   }
@@ -89,7 +88,7 @@ module _ (valid : Ask → Signed → Type 0) (vouched : Ask → List (List ℕ) 
         signs = gains_none before.signed;
         clock = ticked_none before.times;
         outcomes_are = tt;
-        signer_fails = rose_none before.signer_faults;
+        ask_fails = rose_none before.ask_faults;
         goes_on = λ log past stands. stands_at (ends.Ended e) (log_on log heards (settles.passes.took ++ [])) mid before.pass.seen past
             (stands_sent log old mid before.pass.seen past heards (settles.passes.took ++ []) settles.session
             (settles.passes.rest ∙ ap (λ (xs : List ℕ). xs ++ mid.unsent) (sym (append-nil settles.passes.took))) none stands);
@@ -136,7 +135,7 @@ module _ (valid : Ask → Signed → Type 0) (vouched : Ask → List (List ℕ) 
         signs = step.signs;
         clock = step.clock;
         outcomes_are = subst (λ (x : SessionState). HaveAsks (IsOutcome vouched step.signed step.times) r.outcomes (turned_session r x)) first.session step.outcomes_are;
-        signer_fails = step.signer_fails;
+        ask_fails = step.ask_fails;
         goes_on = λ log past stands.
             let one : Stands (log_on log [] first.passes.took) mid before.pass.seen past =
             stands_sent log old mid before.pass.seen past [] first.passes.took first.session first.passes.rest refl stands in
@@ -169,7 +168,7 @@ module _ (valid : Ask → Signed → Type 0) (vouched : Ask → List (List ℕ) 
         signs = step.signs;
         clock = step.clock;
         outcomes_are = subst (λ (x : SessionState). HaveAsks (IsOutcome vouched step.signed step.times) r.outcomes (turned_session r x)) first.session step.outcomes_are;
-        signer_fails = step.signer_fails;
+        ask_fails = step.ask_fails;
         goes_on = λ log past stands.
             let one : Stands (log_on log [] first.passes.took) mid before.pass.seen past =
             stands_sent log old mid before.pass.seen past [] first.passes.took first.session first.passes.rest refl stands in

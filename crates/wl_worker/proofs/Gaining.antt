@@ -5,9 +5,8 @@ use Rattle.std.proofs.lemmas.List.{append-nil}
 use Rattle.wl_edge.specs.Edge.{Rose}
 use Rattle.wl_edge.specs.Links.{LinkLog}
 use Rattle.wl_edge.specs.declared.link.Heard.{Heard}
-use Rattle.wl_edge.specs.declared.signer.SignerCall.{SignerCall}
+use Rattle.ask_mail.specs.declared.mail.Delivery.{Delivery}
 use Rattle.wl_entry.specs.Fitness.{token_unfit, is_still_fresh}
-use Rattle.wl_entry.specs.declared.asks.Ask.{Ask}
 use Rattle.wl_entry.specs.declared.tokens.JwtToken.{JwtToken}
 use Rattle.wl_session.specs.Sessions.{SessionState, asks_in}
 use Rattle.wl_session.specs.declared.asks.JwtAsk.{JwtAsk}
@@ -15,7 +14,7 @@ use Rattle.wl_session.specs.declared.asks.JwtOutcome.{JwtOutcome}
 use Rattle.wl_session.specs.declared.asks.JwtOutcome.TheVariants as outcomes
 use Rattle.wl_worker.specs.Rounds.{IsIn, IsAsk, HaveAsks, given_told}
 use Rattle.wl_worker.specs.Counts.{RoseBy}
-use Rattle.wl_worker.specs.Outcomes.{unanswered, unsigned, GainsAll, Ticked, WasSigned, IsOutcome}
+use Rattle.wl_worker.specs.Outcomes.{Asker, unanswered, unsigned, GainsAll, Ticked, WasAnswered, IsOutcome}
 use Rattle.wl_worker.specs.Served.{log_on, LinkGains}
 
 -- ---- lists that are told
@@ -110,16 +109,16 @@ in_back x (z ∷ xs) ys is = inr (in_back x xs ys is)
 
 -- ---- outcomes
 
-module _ (vouched : Ask → List (List ℕ) → JwtToken → Type 0) where
-  judged : (signed more : List SignerCall) (now : ℕ) (a : JwtAsk) (t : JwtToken)
-      → ((x : SignerCall) → IsIn x signed → IsIn x more)
-      → ((WasSigned signed a (Some t) × (token_unfit now t ≡ None)) ⊎ (is_still_fresh now t ≡ true))
-      → ((WasSigned more a (Some t) × (token_unfit now t ≡ None)) ⊎ (is_still_fresh now t ≡ true))
+module _ (vouched : Asker) where
+  judged : (signed more : List Delivery) (now : ℕ) (a : JwtAsk) (t : JwtToken)
+      → ((x : Delivery) → IsIn x signed → IsIn x more)
+      → ((WasAnswered signed vouched.connection a (Some t) × (token_unfit now t ≡ None)) ⊎ (is_still_fresh now t ≡ true))
+      → ((WasAnswered more vouched.connection a (Some t) × (token_unfit now t ≡ None)) ⊎ (is_still_fresh now t ≡ true))
   judged signed more now a t grows (inl fit) = inl (grows _ fit.0, fit.1)
   judged signed more now a t grows (inr fresh) = inr fresh
 
   -- an outcome stays what it is where more calls and times are known
-  pub outcome_grows : (signed more : List SignerCall) (times later : List ℕ) → ((x : SignerCall) → IsIn x signed → IsIn x more) → ((n : ℕ) → IsIn n times → IsIn n later)
+  pub outcome_grows : (signed more : List Delivery) (times later : List ℕ) → ((x : Delivery) → IsIn x signed → IsIn x more) → ((n : ℕ) → IsIn n times → IsIn n later)
       → (a : JwtAsk) (o : JwtOutcome) → IsOutcome vouched signed times a o → IsOutcome vouched more later a o
   outcome_grows signed more times later calls ticks a (outcomes.Token t) is =
       (is.0, (is.1.0, ticks is.1.0 is.1.1, judged signed more is.1.0 a t calls is.1.2))

@@ -6,7 +6,6 @@ use Rattle.std.proofs.lemmas.List.Sums.{sum_by-cons}
 use mathlib.Core.List.{IsPrefix}
 use Rattle.wl_entry.specs.declared.asks.Ask.{Ask}
 use Rattle.wl_entry.specs.declared.signing.Signed.{Signed}
-use Rattle.wl_entry.specs.declared.tokens.JwtToken.{JwtToken}
 use Rattle.wl_snapshot.specs.Snapshots.{Publication}
 use Rattle.wl_publish.specs.Listings.{Passing}
 use Rattle.wl_edge.specs.Edge.{Rose}
@@ -17,6 +16,7 @@ use Rattle.wl_session.specs.Sessions.{fresh_session}
 use Rattle.wl_edge.specs.Links.{LinkLog}
 use Rattle.wl_worker.specs.Rounds.{Round}
 use Rattle.wl_worker.specs.declared.ended.RoundEnd.{RoundEnd}
+use Rattle.wl_worker.specs.Outcomes.{Asker}
 use Rattle.wl_worker.specs.Served.{Around, ServedState, HasSeenLast, ReadBy, RoundTells}
 use Rattle.wl_worker.specs.Tended.{SeatWorld, seat_world, HasNoEnd, HasLastEnd, AcceptsTo, ListenedTo}
 use Rattle.wl_worker.specs.Seating.{Under, SeatView, seat_view, seen_by, HasOpen, HaveSeenLast, Fit, ListensOn, Goes, StepAccepts, EndFits, StepFits, Stepped, EndedBy, Rests, RestsAt, seat_end_of}
@@ -139,7 +139,7 @@ read_sees : (valid : Ask → Signed → Type 0) (added : List Round) (v w : Pass
 read_sees valid [] v w read = subst (λ (k : Passing). IsPrefix v.seen k.seen) (sym read) (prefix_same v.seen)
 read_sees valid (r ∷ more) v w read = read_prefix valid r.shown v w read.1
 
-pub round_sees : {valid : Ask → Signed → Type 0} {vouched : Ask → List (List ℕ) → JwtToken → Type 0} {socket : ℕ} {old new : ServedState} {log_before log_now : Option LinkLog} {before now : Around} {end : RoundEnd}
+pub round_sees : {valid : Ask → Signed → Type 0} {vouched : Asker} {socket : ℕ} {old new : ServedState} {log_before log_now : Option LinkLog} {before now : Around} {end : RoundEnd}
     → RoundTells valid vouched socket old new log_before log_now before now end → IsPrefix before.pass.seen now.pass.seen
 round_sees {valid} {vouched} {socket} {old} {new} {log_before} {log_now} {before} {now} {end} round = read_sees valid round.added before.pass now.pass round.read
 
@@ -195,10 +195,10 @@ goes_first {A} a b f x xs ys zs j is goes = subst (λ (l : List A). Goes a b (ma
 
 -- ---- a round of the first link
 
-module _ (socket room listener_faults : ℕ) (before now : Around) (sees : IsPrefix before.pass.seen now.pass.seen) where
+module _ {next : ℕ} (socket room listener_faults : ℕ) (before now : Around) (sees : IsPrefix before.pass.seen now.pass.seen) where
   -- it goes to the end of the queue
   pub goes_round : (ready_faults : ℕ) (listener : Option ListenerLog) (u v : Under) (xs : List Under) → HasSeenLast now.pass.seen v.served.session
-      → Goes (seat_view socket room listener_faults ready_faults (seat_world listener before)) (seat_view socket room listener_faults ready_faults (seat_world listener now)) (u ∷ xs) (xs ++ v ∷ []) []
+      → Goes (seat_view socket room next listener_faults ready_faults (seat_world listener before)) (seat_view socket room next listener_faults ready_faults (seat_world listener now)) (u ∷ xs) (xs ++ v ∷ []) []
   goes_round ready_faults listener u v xs last =
       let same : length (u ∷ xs) ≡ length (xs ++ v ∷ []) = omega (arith, length-append xs (v ∷ [])) in
       record {
@@ -213,7 +213,7 @@ module _ (socket room listener_faults : ℕ) (before now : Around) (sees : IsPre
 
   -- it was over, and is finished
   pub goes_over : (ready_faults faults_now listens_now : ℕ) (listener listener_now : Option ListenerLog) (u : Under) (xs : List Under) (f : FinishedLink) → listens_now ≡ listener_faults → ready_faults ≤ faults_now → (listener ≡ None → listener_now ≡ None) → Finishes listener listener_now f
-      → Goes (seat_view socket room listener_faults ready_faults (seat_world listener before)) (seat_view socket room listens_now faults_now (seat_world listener_now now)) (u ∷ xs) xs []
+      → Goes (seat_view socket room next listener_faults ready_faults (seat_world listener before)) (seat_view socket room next listens_now faults_now (seat_world listener_now now)) (u ∷ xs) xs []
   goes_over ready_faults faults_now listens_now listener listener_now u xs f listens waits silent ends =
       let one : length xs + 1 ≡ length (u ∷ xs) = omega arith in
       record {
@@ -227,8 +227,8 @@ module _ (socket room listener_faults : ℕ) (before now : Around) (sees : IsPre
       }
 
 -- the watcher was asked
-pub goes_waited : (socket room listener_faults ready_faults faults_now : ℕ) (world : SeatWorld) (xs : List Under) → ready_faults ≤ faults_now
-    → Goes (seat_view socket room listener_faults ready_faults world) (seat_view socket room listener_faults faults_now world) xs xs []
+pub goes_waited : {next : ℕ} (socket room listener_faults ready_faults faults_now : ℕ) (world : SeatWorld) (xs : List Under) → ready_faults ≤ faults_now
+    → Goes (seat_view socket room next listener_faults ready_faults world) (seat_view socket room next listener_faults faults_now world) xs xs []
 goes_waited socket room listener_faults ready_faults faults_now world xs waits =
     record {
       socket = refl;
@@ -410,10 +410,10 @@ listened end a b ended = listened_at end a.world.listener b.world.listener ended
 pub still_idle : (w : SeatView) (xs : List Under) → Stepped w w xs xs step.Idle
 still_idle w xs = record { kinds = []; goes = goes_still w xs; accepts = tt; fits = tt }
 
-module _ (socket room faults faults_now : ℕ) (around : Around) (listener listener_now : Option ListenerLog) (xs : List Under) (later : faults ≤ faults_now) (silent : listener ≡ None → listener_now ≡ None) where
+module _ {next : ℕ} (socket room faults faults_now : ℕ) (around : Around) (listener listener_now : Option ListenerLog) (xs : List Under) (later : faults ≤ faults_now) (silent : listener ≡ None → listener_now ≡ None) where
   -- no link was there
   pub goes_answered : (ready_faults : ℕ) (answer : AcceptKind) → links_given (answer ∷ []) ≡ 0 → IfSome listener (λ log. listener_now ≡ Some (with_kind log answer))
-      → Goes (seat_view socket room faults ready_faults (seat_world listener around)) (seat_view socket room faults_now ready_faults (seat_world listener_now around)) xs xs (answer ∷ [])
+      → Goes (seat_view socket room next faults ready_faults (seat_world listener around)) (seat_view socket room next faults_now ready_faults (seat_world listener_now around)) xs xs (answer ∷ [])
   goes_answered ready_faults answer none answers =
       let same : length xs + links_given (answer ∷ []) ≡ length xs = omega (arith, none) in
       record {
@@ -427,16 +427,16 @@ module _ (socket room faults faults_now : ℕ) (around : Around) (listener liste
       }
 
   pub step_idle : (ready_faults : ℕ) → IfSome listener (λ log. listener_now ≡ Some (with_kind log kind.Idle))
-      → Stepped (seat_view socket room faults ready_faults (seat_world listener around)) (seat_view socket room faults_now ready_faults (seat_world listener_now around)) xs xs step.Idle
+      → Stepped (seat_view socket room next faults ready_faults (seat_world listener around)) (seat_view socket room next faults_now ready_faults (seat_world listener_now around)) xs xs step.Idle
   step_idle ready_faults answers = record { kinds = kind.Idle ∷ []; goes = goes_answered ready_faults kind.Idle refl answers; accepts = tt; fits = tt }
 
   pub step_closed : (ready_faults : ℕ) → IfSome listener (λ log. listener_now ≡ Some (with_kind log kind.End))
-      → Stepped (seat_view socket room faults ready_faults (seat_world listener around)) (seat_view socket room faults_now ready_faults (seat_world listener_now around)) xs xs step.Closed
+      → Stepped (seat_view socket room next faults ready_faults (seat_world listener around)) (seat_view socket room next faults_now ready_faults (seat_world listener_now around)) xs xs step.Closed
   step_closed ready_faults answers = record { kinds = kind.End ∷ []; goes = goes_answered ready_faults kind.End refl answers; accepts = ([], refl, tt); fits = tt }
 
   -- a link came, and is served
-  pub step_came : (ready_faults waits_now : ℕ) (v : Under) → ready_faults ≤ waits_now → IfSome listener (λ log. listener_now ≡ Some (with_kind log kind.Link)) → v.served ≡ record { session = fresh_session; unsent = [] }
-      → Stepped (seat_view socket room faults ready_faults (seat_world listener around)) (seat_view socket room faults_now waits_now (seat_world listener_now around)) xs (xs ++ v ∷ []) step.On
+  pub step_came : {next_now : ℕ} (ready_faults waits_now : ℕ) (v : Under) → ready_faults ≤ waits_now → IfSome listener (λ log. listener_now ≡ Some (with_kind log kind.Link)) → v.served ≡ record { session = fresh_session; unsent = [] }
+      → Stepped (seat_view socket room next faults ready_faults (seat_world listener around)) (seat_view socket room next_now faults_now waits_now (seat_world listener_now around)) xs (xs ++ v ∷ []) step.On
   step_came ready_faults waits_now v waits answers fresh =
       let one : links_given (kind.Link ∷ []) ≡ 1 = refl in
       let same : length xs + links_given (kind.Link ∷ []) ≡ length (xs ++ v ∷ []) = omega (arith, one, length-append xs (v ∷ [])) in
@@ -457,8 +457,8 @@ module _ (socket room faults faults_now : ℕ) (around : Around) (listener liste
       }
 
   -- a link came, and is finished at once
-  pub goes_went : (ready_faults waits_now faults_then : ℕ) (listener_then : Option ListenerLog) (f : FinishedLink) → ready_faults ≤ waits_now → faults_then ≡ faults_now → (listener_now ≡ None → listener_then ≡ None) → IfSome listener (λ log. listener_now ≡ Some (with_kind log kind.Link)) → Finishes listener_now listener_then f
-      → Goes (seat_view socket room faults ready_faults (seat_world listener around)) (seat_view socket room faults_then waits_now (seat_world listener_then around)) xs xs (kind.Link ∷ [])
+  pub goes_went : {next_now : ℕ} (ready_faults waits_now faults_then : ℕ) (listener_then : Option ListenerLog) (f : FinishedLink) → ready_faults ≤ waits_now → faults_then ≡ faults_now → (listener_now ≡ None → listener_then ≡ None) → IfSome listener (λ log. listener_now ≡ Some (with_kind log kind.Link)) → Finishes listener_now listener_then f
+      → Goes (seat_view socket room next faults ready_faults (seat_world listener around)) (seat_view socket room next_now faults_then waits_now (seat_world listener_then around)) xs xs (kind.Link ∷ [])
   goes_went ready_faults waits_now faults_then listener_then f waits same still answers ends =
       let one : links_given (kind.Link ∷ []) ≡ 1 = refl in
       let same_count : length xs + links_given (kind.Link ∷ []) ≡ length xs + 1 = omega (arith, one) in
@@ -484,9 +484,9 @@ failed_at faults (Some log) listener_now n silent (inl told) =
     (kind.Failed ∷ [], subst (λ (m : ℕ). ListensOn (Some log) listener_now n m (kind.Failed ∷ [])) same (listens_answered (Some log) listener_now n kind.Failed silent told), tt)
 failed_at faults (Some log) listener_now n silent (inr full) = ([], subst (λ (o : Option ListenerLog). ListensOn (Some log) o n n []) (sym full.1) (listens_none (Some log) n), tt)
 
-pub step_failed : (socket room faults faults_now ready_faults : ℕ) (around : Around) (listener listener_now : Option ListenerLog) (xs : List Under) → faults ≤ faults_now → Rose faults faults_now → (listener ≡ None → listener_now ≡ None)
+pub step_failed : {next : ℕ} (socket room faults faults_now ready_faults : ℕ) (around : Around) (listener listener_now : Option ListenerLog) (xs : List Under) → faults ≤ faults_now → Rose faults faults_now → (listener ≡ None → listener_now ≡ None)
     → IfSome listener (λ log. (listener_now ≡ Some (with_kind log kind.Failed)) ⊎ ((2 ^ 64 ≤ faults + 1) × (listener_now ≡ Some log)))
-    → Stepped (seat_view socket room faults ready_faults (seat_world listener around)) (seat_view socket room faults_now ready_faults (seat_world listener_now around)) xs xs (step.Over seat.ListenFault)
+    → Stepped (seat_view socket room next faults ready_faults (seat_world listener around)) (seat_view socket room next faults_now ready_faults (seat_world listener_now around)) xs xs (step.Over seat.ListenFault)
 step_failed socket room faults faults_now ready_faults around listener listener_now xs later rose silent tells =
     let how = failed_at faults listener listener_now (length xs) silent tells in
     record {

@@ -8,12 +8,12 @@ use Rattle.wl_entry.specs.declared.tokens.JwtToken.{JwtToken}
 use Rattle.wl_snapshot.specs.Snapshots.{Publication}
 use Rattle.wl_publish.specs.Listings.{Passing}
 use Rattle.wl_edge.specs.declared.attestor.AttestorCall.{AttestorCall}
-use Rattle.wl_edge.specs.declared.signer.SignerCall.{SignerCall}
+use Rattle.ask_mail.specs.declared.mail.Delivery.{Delivery}
 use Rattle.wl_edge.specs.declared.listener.AcceptKind.{AcceptKind}
 use Rattle.wl_edge.specs.declared.listener.AcceptKind.TheVariants as kind
 use Rattle.wl_edge.specs.Links.{LinkLog}
 use Rattle.wl_edge.specs.Listeners.{ListenerLog, FinishedLink, links_given, with_kind, Finishes}
-use Rattle.wl_worker.specs.Outcomes.{unanswered, unsigned, GainsAll, Ticked, attestor_calls, attestor_call, IsOutcome}
+use Rattle.wl_worker.specs.Outcomes.{Asker, asker, unanswered, unsigned, GainsAll, Ticked, attestor_calls, attestor_call, IsOutcome}
 use Rattle.wl_worker.specs.Owners.{owned_by, items_of, tag, one_apart, tally}
 use Rattle.wl_worker.specs.Numbering.{Numbered, none_apart}
 use Rattle.wl_worker.specs.Rounds.{Round, numbers, answers, outcomes, number_of, AreOutcomes}
@@ -137,24 +137,24 @@ gathers_none socket w =
       store = refl;
       signs = gains_none w.around.signed;
       clock = ticked_none w.around.times;
-      signer_fails = rose_none w.around.signer_faults;
+      ask_fails = rose_none w.around.ask_faults;
     }
 
 -- what a round adds to a seat
-pub record Adds (socket : ℕ) (old new : SeatWorld) (added : List Round) (signed : List SignerCall) (times : List ℕ) : Type 0 where
+pub record Adds (socket : ℕ) (old new : SeatWorld) (added : List Round) (signed : List Delivery) (times : List ℕ) : Type 0 where
   pub listener : new.listener ≡ old.listener
   pub attested : GainsAll old.around.attested new.around.attested (attestor_calls socket (answers added))
   pub attestor_fails : RoseBy (unanswered (answers added)) old.around.attestor_faults new.around.attestor_faults
   pub pass : Passed old.around.pass new.around.pass added
   pub signs : GainsAll old.around.signed new.around.signed signed
   pub clock : Ticked old.around.times new.around.times times
-  pub signer_fails : RoseBy (unsigned (outcomes added)) old.around.signer_faults new.around.signer_faults
+  pub ask_fails : RoseBy (unsigned (outcomes added)) old.around.ask_faults new.around.ask_faults
 
-pub gathers_round : (socket : ℕ) (old mid new : SeatWorld) (rounds added : List Round) (signed more : List SignerCall) (times later : List ℕ) (finished : List FinishedLink) (n : ℕ) →
+pub gathers_round : (socket : ℕ) (old mid new : SeatWorld) (rounds added : List Round) (signed more : List Delivery) (times later : List ℕ) (finished : List FinishedLink) (n : ℕ) →
     SeatGathers socket old mid rounds signed times finished n → Adds socket mid new added more later → SeatGathers socket old new (added ++ rounds) (signed ++ more) (times ++ later) finished n
 gathers_round socket old mid new rounds added signed more times later finished n gathers adds =
     let fails = rose_then old.around.attestor_faults mid.around.attestor_faults new.around.attestor_faults (unanswered (answers rounds)) (unanswered (answers added)) gathers.attestor_fails adds.attestor_fails in
-    let sign_fails = rose_then old.around.signer_faults mid.around.signer_faults new.around.signer_faults (unsigned (outcomes rounds)) (unsigned (outcomes added)) gathers.signer_fails adds.signer_fails in
+    let sign_fails = rose_then old.around.ask_faults mid.around.ask_faults new.around.ask_faults (unsigned (outcomes rounds)) (unsigned (outcomes added)) gathers.ask_fails adds.ask_fails in
     record {
       listener = subst (λ (l : Option ListenerLog). ListenerGains old.listener l finished n) (sym adds.listener) gathers.listener;
       attested =
@@ -171,11 +171,11 @@ gathers_round socket old mid new rounds added signed more times later finished n
       store = adds.pass.store ∙ gathers.store;
       signs = gains_then old.around.signed mid.around.signed new.around.signed signed more gathers.signs adds.signs;
       clock = ticked_then old.around.times mid.around.times new.around.times times later gathers.clock adds.clock;
-      signer_fails = subst (λ (m : ℕ). RoseBy m old.around.signer_faults new.around.signer_faults) (sym (unsigned_append (outcomes rounds) (outcomes added)) ∙ ap unsigned (sym (outcomes_added added rounds))) sign_fails;
+      ask_fails = subst (λ (m : ℕ). RoseBy m old.around.ask_faults new.around.ask_faults) (sym (unsigned_append (outcomes rounds) (outcomes added)) ∙ ap unsigned (sym (outcomes_added added rounds))) sign_fails;
     }
 
 -- only the listener changed
-pub gathers_listener : (socket : ℕ) (old mid new : SeatWorld) (rounds : List Round) (signed : List SignerCall) (times : List ℕ) (finished finished_then : List FinishedLink) (n m : ℕ) →
+pub gathers_listener : (socket : ℕ) (old mid new : SeatWorld) (rounds : List Round) (signed : List Delivery) (times : List ℕ) (finished finished_then : List FinishedLink) (n m : ℕ) →
     SeatGathers socket old mid rounds signed times finished n → new.around ≡ mid.around → ListenerGains old.listener new.listener finished_then m → SeatGathers socket old new rounds signed times finished_then m
 gathers_listener socket old mid new rounds signed times finished finished_then n m gathers same gained =
     record {
@@ -187,12 +187,12 @@ gathers_listener socket old mid new rounds signed times finished finished_then n
       store = ap (λ (a : Around). a.pass.store) same ∙ gathers.store;
       signs = subst (λ (a : Around). GainsAll old.around.signed a.signed signed) (sym same) gathers.signs;
       clock = subst (λ (a : Around). Ticked old.around.times a.times times) (sym same) gathers.clock;
-      signer_fails = subst (λ (a : Around). RoseBy (unsigned (outcomes rounds)) old.around.signer_faults a.signer_faults) (sym same) gathers.signer_fails;
+      ask_fails = subst (λ (a : Around). RoseBy (unsigned (outcomes rounds)) old.around.ask_faults a.ask_faults) (sym same) gathers.ask_fails;
     }
 
 -- ---- what is known stays known
 
-pub outcomes_longer : (vouched : Ask → List (List ℕ) → JwtToken → Type 0) (signed more : List SignerCall) (times later : List ℕ) (past : List Round) → AreOutcomes (IsOutcome vouched signed times) past → AreOutcomes (IsOutcome vouched (signed ++ more) (times ++ later)) past
+pub outcomes_longer : (vouched : Asker) (signed more : List Delivery) (times later : List ℕ) (past : List Round) → AreOutcomes (IsOutcome vouched signed times) past → AreOutcomes (IsOutcome vouched (signed ++ more) (times ++ later)) past
 outcomes_longer vouched signed more times later past are =
     outcomes_such (IsOutcome vouched signed times) (IsOutcome vouched (signed ++ more) (times ++ later)) (outcome_grows vouched signed (signed ++ more) times (times ++ later) (λ x. in_front x signed more) (λ n. in_front n times later)) past are
 
@@ -202,26 +202,26 @@ began_longer log seen list past pre began = record { pieces = began.pieces; part
 stands_longer : (log : LinkLog) (s : ServedState) (seen list : List Publication) (past : List Round) → IsPrefix seen list → Stands log s seen past → Stands log s list past
 stands_longer log s seen list past pre stands = record { pieces = stands.pieces; session = stands.session; talked = stands.talked; whole = stands.whole; known = are_longer seen list past pre stands.known; rising = stands.rising }
 
-module _ (vouched : Ask → List (List ℕ) → JwtToken → Type 0) (mid new : SeatWorld) (signed more : List SignerCall) (times later : List ℕ) (pre : IsPrefix mid.around.pass.seen new.around.pass.seen) where
-  runs_at : (told : Option LinkLog) (served : ServedState) (past : List Round) → IfSome told (λ log. Stands log served mid.around.pass.seen past × AreJudged (known vouched mid signed times) past) → IfSome told (λ log. Stands log served new.around.pass.seen past × AreJudged (known vouched new (signed ++ more) (times ++ later)) past)
+module _ (vouched : Ask → List (List ℕ) → JwtToken → Type 0) (mid new : SeatWorld) (signed more : List Delivery) (times later : List ℕ) (pre : IsPrefix mid.around.pass.seen new.around.pass.seen) (n : ℕ) where
+  runs_at : (told : Option LinkLog) (served : ServedState) (past : List Round) → IfSome told (λ log. Stands log served mid.around.pass.seen past × AreJudged (known vouched mid signed times) n past) → IfSome told (λ log. Stands log served new.around.pass.seen past × AreJudged (known vouched new (signed ++ more) (times ++ later)) n past)
   runs_at None served past is = tt
-  runs_at (Some log) served past is = (stands_longer log served mid.around.pass.seen new.around.pass.seen past pre is.0, outcomes_longer vouched signed more times later past is.1)
+  runs_at (Some log) served past is = (stands_longer log served mid.around.pass.seen new.around.pass.seen past pre is.0, outcomes_longer (asker n vouched) signed more times later past is.1)
 
-  runs_longer : (u : Under) (past : List Round) → Runs (known vouched mid signed times) u past → Runs (known vouched new (signed ++ more) (times ++ later)) u past
-  runs_longer u past is = runs_at u.link.log u.served past is
+  runs_longer : (u : Under) (past : List Round) → Runs (known vouched mid signed times) n u past → Runs (known vouched new (signed ++ more) (times ++ later)) n u past
+  runs_longer u past is = (is.0, runs_at u.link.log u.served past is.1)
 
-  part_at : (told : Option LinkLog) (past : List Round) → IfSome told (λ log. Began log mid.around.pass.seen past × AreJudged (known vouched mid signed times) past) → IfSome told (λ log. Began log new.around.pass.seen past × AreJudged (known vouched new (signed ++ more) (times ++ later)) past)
+  part_at : (told : Option LinkLog) (past : List Round) → IfSome told (λ log. Began log mid.around.pass.seen past × AreJudged (known vouched mid signed times) n past) → IfSome told (λ log. Began log new.around.pass.seen past × AreJudged (known vouched new (signed ++ more) (times ++ later)) n past)
   part_at None past is = tt
-  part_at (Some log) past is = (began_longer log mid.around.pass.seen new.around.pass.seen past pre is.0, outcomes_longer vouched signed more times later past is.1)
+  part_at (Some log) past is = (began_longer log mid.around.pass.seen new.around.pass.seen past pre is.0, outcomes_longer (asker n vouched) signed more times later past is.1)
 
-  part_longer : (f : FinishedLink) (past : List Round) → TookPart (known vouched mid signed times) f past → TookPart (known vouched new (signed ++ more) (times ++ later)) f past
+  part_longer : (f : FinishedLink) (past : List Round) → TookPart (known vouched mid signed times) n f past → TookPart (known vouched new (signed ++ more) (times ++ later)) n f past
   part_longer f past is = part_at f.log past is
 
-  fully_at : (told : Option LinkLog) (receives sends : ℕ) (past : List Round) → IfSome told (λ log. Began log mid.around.pass.seen past × AreJudged (known vouched mid signed times) past × TookAllUnless receives sends log past) → IfSome told (λ log. Began log new.around.pass.seen past × AreJudged (known vouched new (signed ++ more) (times ++ later)) past × TookAllUnless receives sends log past)
+  fully_at : (told : Option LinkLog) (receives sends : ℕ) (past : List Round) → IfSome told (λ log. Began log mid.around.pass.seen past × AreJudged (known vouched mid signed times) n past × TookAllUnless receives sends log past) → IfSome told (λ log. Began log new.around.pass.seen past × AreJudged (known vouched new (signed ++ more) (times ++ later)) n past × TookAllUnless receives sends log past)
   fully_at None receives sends past is = tt
-  fully_at (Some log) receives sends past is = (began_longer log mid.around.pass.seen new.around.pass.seen past pre is.0, outcomes_longer vouched signed more times later past is.1, is.2)
+  fully_at (Some log) receives sends past is = (began_longer log mid.around.pass.seen new.around.pass.seen past pre is.0, outcomes_longer (asker n vouched) signed more times later past is.1, is.2)
 
-  fully_longer : (f : FinishedLink) (past : List Round) → TookFully (known vouched mid signed times) f past → TookFully (known vouched new (signed ++ more) (times ++ later)) f past
+  fully_longer : (f : FinishedLink) (past : List Round) → TookFully (known vouched mid signed times) n f past → TookFully (known vouched new (signed ++ more) (times ++ later)) n f past
   fully_longer f past is = fully_at f.log f.failed_receives f.failed_sends past is
 
 -- ---- what was finished
@@ -239,86 +239,82 @@ finished_late : (fulls lates : List (ℕ × FinishedLink)) (o : ℕ) (f : Finish
 finished_late fulls lates o f = ap (λ (l : List FinishedLink). items_of fulls ++ l) (items_append lates ((o, f) ∷ [])) ∙ sym (append_assoc (items_of fulls) (items_of lates) (f ∷ []))
 
 -- what is known of these things of the outside
-abbrev knowing : (Ask → List (List ℕ) → JwtToken → Type 0) → Around → List SignerCall → List ℕ → Known
+abbrev knowing : (Ask → List (List ℕ) → JwtToken → Type 0) → Around → List Delivery → List ℕ → Known
 knowing vouched a signed times = record { seen = a.pass.seen; vouched = vouched; signed = signed; times = times }
 
 -- ---- the steps of a seat
 
--- A seat while it serves, where one link is held apart, which stood between these; P holds of its rounds.
-pub record Beside (P : Known → List Round → Type 0) (vouched : Ask → List (List ℕ) → JwtToken → Type 0) (socket : ℕ) (old new : SeatWorld) (broken : ℕ) (before after : List Under) : Type 0 where
+-- A seat while it serves, where one link is held apart, which stood between these; P holds of its number and rounds.
+pub record Beside (P : Known → ℕ → List Round → Type 0) (vouched : Ask → List (List ℕ) → JwtToken → Type 0) (socket next : ℕ) (old new : SeatWorld) (broken : ℕ) (before after : List Under) : Type 0 where
   pub front : List (ℕ × Under)
   pub back : List (ℕ × Under)
   pub owner : ℕ
   pub fulls : List (ℕ × FinishedLink)
   pub lates : List (ℕ × FinishedLink)
   pub rounds : List (ℕ × Round)
-  pub next : ℕ
-  pub signed : List SignerCall
+  pub signed : List Delivery
   pub times : List ℕ
   pub before_are : items_of front ≡ before
   pub after_are : items_of back ≡ after
   pub count : length lates ≡ broken
   pub gathers : SeatGathers socket old new (items_of rounds) signed times (items_of fulls ++ items_of lates) (length before + length after + 1)
   pub numbered : Numbered (Runs (known vouched new signed times)) (TookFully (known vouched new signed times)) (TookPart (known vouched new signed times)) (one_apart owner) (front ++ back) fulls lates rounds next
-  pub one : P (known vouched new signed times) (owned_by owner rounds)
+  pub one : P (known vouched new signed times) owner (owned_by owner rounds)
 
 -- before any link came
-pub tending_none : (vouched : Ask → List (List ℕ) → JwtToken → Type 0) (socket : ℕ) (w : SeatWorld) → Tending vouched socket w w 0 []
-tending_none vouched socket w =
+pub tending_none : {next : ℕ} (vouched : Ask → List (List ℕ) → JwtToken → Type 0) (socket : ℕ) (w : SeatWorld) → Tending vouched socket next w w 0 []
+tending_none {next} vouched socket w =
     record {
       running = [];
       fulls = [];
       lates = [];
       rounds = [];
-      next = 0;
       signed = [];
       times = [];
       links_are = refl;
       count = refl;
       gathers = gathers_none socket w;
-      numbered = numbering.none_numbered (Runs (known vouched w [] [])) (TookFully (known vouched w [] [])) (TookPart (known vouched w [] []));
+      numbered = numbering.none_numbered (Runs (known vouched w [] [])) (TookFully (known vouched w [] [])) (TookPart (known vouched w [] [])) next;
     }
 
 -- the listener gave no link, and none was finished
-pub tending_listened : (vouched : Ask → List (List ℕ) → JwtToken → Type 0) (socket : ℕ) (old mid new : SeatWorld) (broken : ℕ) (links : List Under) →
-    Tending vouched socket old mid broken links → new.around ≡ mid.around → ((finished : List FinishedLink) (n : ℕ) → ListenerGains old.listener mid.listener finished n → ListenerGains old.listener new.listener finished n) → Tending vouched socket old new broken links
-tending_listened vouched socket old mid new broken links held same keeps =
+pub tending_listened : {next : ℕ} (vouched : Ask → List (List ℕ) → JwtToken → Type 0) (socket : ℕ) (old mid new : SeatWorld) (broken : ℕ) (links : List Under) →
+    Tending vouched socket next old mid broken links → new.around ≡ mid.around → ((finished : List FinishedLink) (n : ℕ) → ListenerGains old.listener mid.listener finished n → ListenerGains old.listener new.listener finished n) → Tending vouched socket next old new broken links
+tending_listened {next} vouched socket old mid new broken links held same keeps =
     let all = items_of held.fulls ++ items_of held.lates in
     record {
       running = held.running;
       fulls = held.fulls;
       lates = held.lates;
       rounds = held.rounds;
-      next = held.next;
       signed = held.signed;
       times = held.times;
       links_are = held.links_are;
       count = held.count;
       gathers = gathers_listener socket old mid new (items_of held.rounds) held.signed held.times all all (length links) (length links) held.gathers same (keeps all (length links) held.gathers.listener);
-      numbered = subst (λ (a : Around). Numbered (Runs (knowing vouched a held.signed held.times)) (TookFully (knowing vouched a held.signed held.times)) (TookPart (knowing vouched a held.signed held.times)) none_apart held.running held.fulls held.lates held.rounds held.next) (sym same) held.numbered;
+      numbered = subst (λ (a : Around). Numbered (Runs (knowing vouched a held.signed held.times)) (TookFully (knowing vouched a held.signed held.times)) (TookPart (knowing vouched a held.signed held.times)) none_apart held.running held.fulls held.lates held.rounds next) (sym same) held.numbered;
     }
 
--- no round is a newcomer's
-abbrev pub HasNone : Known → List Round → Type 0
-HasNone k past = past ≡ []
+-- a newcomer has the next number, and no round
+abbrev pub HasNone : ℕ → Known → ℕ → List Round → Type 0
+HasNone next k n past = (n ≡ next) × (past ≡ [])
 
 -- a link comes
-pub tending_comes : (vouched : Ask → List (List ℕ) → JwtToken → Type 0) (socket : ℕ) (old mid new : SeatWorld) (broken : ℕ) (links : List Under) →
-    Tending vouched socket old mid broken links → new.around ≡ mid.around → IfSome mid.listener (λ log. new.listener ≡ Some (with_kind log kind.Link)) → Beside HasNone vouched socket old new broken links []
-tending_comes vouched socket old mid new broken links held same answers =
+pub tending_comes : {next : ℕ} (vouched : Ask → List (List ℕ) → JwtToken → Type 0) (socket : ℕ) (old mid new : SeatWorld) (broken : ℕ) (links : List Under) →
+    Tending vouched socket next old mid broken links → new.around ≡ mid.around → IfSome mid.listener (λ log. new.listener ≡ Some (with_kind log kind.Link)) → Beside (HasNone next) vouched socket (next + 1) old new broken links []
+tending_comes {next} vouched socket old mid new broken links held same answers =
     let all = items_of held.fulls ++ items_of held.lates in
     let gained = answered_on old.listener mid.listener new.listener all (length links) kind.Link held.gathers.listener answers in
     let one_link : links_given (kind.Link ∷ []) ≡ 1 = refl in
     let one_open : length links + links_given (kind.Link ∷ []) ≡ length links + 0 + 1 = omega (arith, one_link) in
-    let one = numbering.comes (Runs (known vouched mid held.signed held.times)) (TookFully (known vouched mid held.signed held.times)) (TookPart (known vouched mid held.signed held.times)) held.running held.fulls held.lates held.rounds held.next held.numbered in
+    let one = numbering.comes (Runs (known vouched mid held.signed held.times)) (TookFully (known vouched mid held.signed held.times)) (TookPart (known vouched mid held.signed held.times)) held.running held.fulls held.lates held.rounds next held.numbered in
     record {
       front = held.running;
       back = [];
-      owner = held.next;
+      owner = next;
       fulls = held.fulls;
       lates = held.lates;
       rounds = held.rounds;
-      next = held.next + 1;
       signed = held.signed;
       times = held.times;
       before_are = held.links_are;
@@ -326,19 +322,19 @@ tending_comes vouched socket old mid new broken links held same answers =
       count = held.count;
       gathers = gathers_listener socket old mid new (items_of held.rounds) held.signed held.times all all (length links) (length links + 0 + 1) held.gathers same (subst (λ (n : ℕ). ListenerGains old.listener new.listener all n) one_open gained);
       numbered =
-          subst (λ (running : List (ℕ × Under)). Numbered (Runs (known vouched new held.signed held.times)) (TookFully (known vouched new held.signed held.times)) (TookPart (known vouched new held.signed held.times)) (one_apart held.next) running held.fulls held.lates held.rounds (held.next + 1)) (sym (none_after held.running))
-          (subst (λ (a : Around). Numbered (Runs (knowing vouched a held.signed held.times)) (TookFully (knowing vouched a held.signed held.times)) (TookPart (knowing vouched a held.signed held.times)) (one_apart held.next) held.running held.fulls held.lates held.rounds (held.next + 1)) (sym same) one.0);
-      one = one.1;
+          subst (λ (running : List (ℕ × Under)). Numbered (Runs (known vouched new held.signed held.times)) (TookFully (known vouched new held.signed held.times)) (TookPart (known vouched new held.signed held.times)) (one_apart next) running held.fulls held.lates held.rounds (next + 1)) (sym (none_after held.running))
+          (subst (λ (a : Around). Numbered (Runs (knowing vouched a held.signed held.times)) (TookFully (knowing vouched a held.signed held.times)) (TookPart (knowing vouched a held.signed held.times)) (one_apart next) held.running held.fulls held.lates held.rounds (next + 1)) (sym same) one.0);
+      one = (refl, one.1);
     }
 
 -- a link is taken out
-pub tending_taken : (vouched : Ask → List (List ℕ) → JwtToken → Type 0) (socket : ℕ) (old new : SeatWorld) (broken : ℕ) (before after : List Under) (u : Under) →
-    Tending vouched socket old new broken (before ++ u ∷ after) → Beside (λ k past. Runs k u past) vouched socket old new broken before after
-tending_taken vouched socket old new broken before after u held =
+pub tending_taken : {next : ℕ} (vouched : Ask → List (List ℕ) → JwtToken → Type 0) (socket : ℕ) (old new : SeatWorld) (broken : ℕ) (before after : List Under) (u : Under) →
+    Tending vouched socket next old new broken (before ++ u ∷ after) → Beside (λ k n past. Runs k n u past) vouched socket next old new broken before after
+tending_taken {next} vouched socket old new broken before after u held =
     let at = split u before after held.running held.links_are in
-    let stood = subst (λ (running : List (ℕ × Under)). Numbered (Runs (known vouched new held.signed held.times)) (TookFully (known vouched new held.signed held.times)) (TookPart (known vouched new held.signed held.times)) none_apart running held.fulls held.lates held.rounds held.next) at.is held.numbered in
+    let stood = subst (λ (running : List (ℕ × Under)). Numbered (Runs (known vouched new held.signed held.times)) (TookFully (known vouched new held.signed held.times)) (TookPart (known vouched new held.signed held.times)) none_apart running held.fulls held.lates held.rounds next) at.is held.numbered in
     let count : length (before ++ u ∷ after) ≡ length before + length after + 1 = omega (arith, length-append before (u ∷ after)) in
-    let out = numbering.taken (Runs (known vouched new held.signed held.times)) (TookFully (known vouched new held.signed held.times)) (TookPart (known vouched new held.signed held.times)) at.front at.back at.owner u held.fulls held.lates held.rounds held.next stood in
+    let out = numbering.taken (Runs (known vouched new held.signed held.times)) (TookFully (known vouched new held.signed held.times)) (TookPart (known vouched new held.signed held.times)) at.front at.back at.owner u held.fulls held.lates held.rounds next stood in
     record {
       front = at.front;
       back = at.back;
@@ -346,7 +342,6 @@ tending_taken vouched socket old new broken before after u held =
       fulls = held.fulls;
       lates = held.lates;
       rounds = held.rounds;
-      next = held.next;
       signed = held.signed;
       times = held.times;
       before_are = at.front_is;
@@ -358,28 +353,27 @@ tending_taken vouched socket old new broken before after u held =
     }
 
 -- it is put back where it stood
-pub tending_put : (vouched : Ask → List (List ℕ) → JwtToken → Type 0) (socket : ℕ) (old new : SeatWorld) (broken : ℕ) (before after : List Under) (u : Under) →
-    Beside (λ k past. Runs k u past) vouched socket old new broken before after → Tending vouched socket old new broken (before ++ u ∷ after)
-tending_put vouched socket old new broken before after u beside =
+pub tending_put : {next : ℕ} (vouched : Ask → List (List ℕ) → JwtToken → Type 0) (socket : ℕ) (old new : SeatWorld) (broken : ℕ) (before after : List Under) (u : Under) →
+    Beside (λ k n past. Runs k n u past) vouched socket next old new broken before after → Tending vouched socket next old new broken (before ++ u ∷ after)
+tending_put {next} vouched socket old new broken before after u beside =
     let count : length before + length after + 1 ≡ length (before ++ u ∷ after) = omega (arith, length-append before (u ∷ after)) in
     record {
       running = beside.front ++ (beside.owner, u) ∷ beside.back;
       fulls = beside.fulls;
       lates = beside.lates;
       rounds = beside.rounds;
-      next = beside.next;
       signed = beside.signed;
       times = beside.times;
       links_are = items_append beside.front ((beside.owner, u) ∷ beside.back) ∙ (λ i. beside.before_are i ++ u ∷ beside.after_are i);
       count = beside.count;
       gathers = subst (λ (n : ℕ). SeatGathers socket old new (items_of beside.rounds) beside.signed beside.times (items_of beside.fulls ++ items_of beside.lates) n) count beside.gathers;
-      numbered = numbering.put (Runs (known vouched new beside.signed beside.times)) (TookFully (known vouched new beside.signed beside.times)) (TookPart (known vouched new beside.signed beside.times)) beside.front beside.back beside.owner u beside.fulls beside.lates beside.rounds beside.next beside.numbered beside.one;
+      numbered = numbering.put (Runs (known vouched new beside.signed beside.times)) (TookFully (known vouched new beside.signed beside.times)) (TookPart (known vouched new beside.signed beside.times)) beside.front beside.back beside.owner u beside.fulls beside.lates beside.rounds next beside.numbered beside.one;
     }
 
 -- to the end of the queue
-pub beside_aside : (P : Known → List Round → Type 0) (vouched : Ask → List (List ℕ) → JwtToken → Type 0) (socket : ℕ) (old new : SeatWorld) (broken : ℕ) (links : List Under) →
-    Beside P vouched socket old new broken [] links → Beside P vouched socket old new broken links []
-beside_aside P vouched socket old new broken links beside =
+pub beside_aside : {next : ℕ} (P : Known → ℕ → List Round → Type 0) (vouched : Ask → List (List ℕ) → JwtToken → Type 0) (socket : ℕ) (old new : SeatWorld) (broken : ℕ) (links : List Under) →
+    Beside P vouched socket next old new broken [] links → Beside P vouched socket next old new broken links []
+beside_aside {next} P vouched socket old new broken links beside =
     let count : 0 + length links + 1 ≡ length links + 0 + 1 = omega arith in
     record {
       front = beside.front ++ beside.back;
@@ -388,20 +382,19 @@ beside_aside P vouched socket old new broken links beside =
       fulls = beside.fulls;
       lates = beside.lates;
       rounds = beside.rounds;
-      next = beside.next;
       signed = beside.signed;
       times = beside.times;
       before_are = items_append beside.front beside.back ∙ (λ i. beside.before_are i ++ beside.after_are i);
       after_are = refl;
       count = beside.count;
       gathers = subst (λ (n : ℕ). SeatGathers socket old new (items_of beside.rounds) beside.signed beside.times (items_of beside.fulls ++ items_of beside.lates) n) count beside.gathers;
-      numbered = subst (λ (running : List (ℕ × Under)). Numbered (Runs (known vouched new beside.signed beside.times)) (TookFully (known vouched new beside.signed beside.times)) (TookPart (known vouched new beside.signed beside.times)) (one_apart beside.owner) running beside.fulls beside.lates beside.rounds beside.next) (sym (none_after (beside.front ++ beside.back))) beside.numbered;
+      numbered = subst (λ (running : List (ℕ × Under)). Numbered (Runs (known vouched new beside.signed beside.times)) (TookFully (known vouched new beside.signed beside.times)) (TookPart (known vouched new beside.signed beside.times)) (one_apart beside.owner) running beside.fulls beside.lates beside.rounds next) (sym (none_after (beside.front ++ beside.back))) beside.numbered;
       one = beside.one;
     }
 
-pub beside_weaken : (P Q : Known → List Round → Type 0) (vouched : Ask → List (List ℕ) → JwtToken → Type 0) (socket : ℕ) (old new : SeatWorld) (broken : ℕ) (before after : List Under) →
-    ((signed : List SignerCall) (times : List ℕ) (past : List Round) → P (known vouched new signed times) past → Q (known vouched new signed times) past) → Beside P vouched socket old new broken before after → Beside Q vouched socket old new broken before after
-beside_weaken P Q vouched socket old new broken before after follows beside =
+pub beside_weaken : {next : ℕ} (P Q : Known → ℕ → List Round → Type 0) (vouched : Ask → List (List ℕ) → JwtToken → Type 0) (socket : ℕ) (old new : SeatWorld) (broken : ℕ) (before after : List Under) →
+    ((signed : List Delivery) (times : List ℕ) (n : ℕ) (past : List Round) → P (known vouched new signed times) n past → Q (known vouched new signed times) n past) → Beside P vouched socket next old new broken before after → Beside Q vouched socket next old new broken before after
+beside_weaken {next} P Q vouched socket old new broken before after follows beside =
     record {
       front = beside.front;
       back = beside.back;
@@ -409,7 +402,6 @@ beside_weaken P Q vouched socket old new broken before after follows beside =
       fulls = beside.fulls;
       lates = beside.lates;
       rounds = beside.rounds;
-      next = beside.next;
       signed = beside.signed;
       times = beside.times;
       before_are = beside.before_are;
@@ -417,19 +409,19 @@ beside_weaken P Q vouched socket old new broken before after follows beside =
       count = beside.count;
       gathers = beside.gathers;
       numbered = beside.numbered;
-      one = follows beside.signed beside.times (owned_by beside.owner beside.rounds) beside.one;
+      one = follows beside.signed beside.times beside.owner (owned_by beside.owner beside.rounds) beside.one;
     }
 
 -- the link that is held apart gains a round
-pub beside_gains : (P Q : Known → List Round → Type 0) (vouched : Ask → List (List ℕ) → JwtToken → Type 0) (socket : ℕ) (old mid new : SeatWorld) (broken : ℕ) (before after : List Under) (added : List Round) (more : List SignerCall) (later : List ℕ) →
+pub beside_gains : {next : ℕ} (P Q : Known → ℕ → List Round → Type 0) (vouched : Ask → List (List ℕ) → JwtToken → Type 0) (socket : ℕ) (old mid new : SeatWorld) (broken : ℕ) (before after : List Under) (added : List Round) (more : List Delivery) (later : List ℕ) →
     Adds socket mid new added more later →
-    ((signed : List SignerCall) (times : List ℕ) (past : List Round) → P (known vouched mid signed times) past → Q (known vouched new (signed ++ more) (times ++ later)) (added ++ past)) →
-    Beside P vouched socket old mid broken before after → Beside Q vouched socket old new broken before after
-beside_gains P Q vouched socket old mid new broken before after added more later adds follows beside =
+    ((signed : List Delivery) (times : List ℕ) (n : ℕ) (past : List Round) → P (known vouched mid signed times) n past → Q (known vouched new (signed ++ more) (times ++ later)) n (added ++ past)) →
+    Beside P vouched socket next old mid broken before after → Beside Q vouched socket next old new broken before after
+beside_gains {next} P Q vouched socket old mid new broken before after added more later adds follows beside =
     let signed = beside.signed in
     let times = beside.times in
     let known_then : Known = known vouched new (signed ++ more) (times ++ later) in
-    let wider = numbering.weaken (Runs (known vouched mid signed times)) (Runs known_then) (TookFully (known vouched mid signed times)) (TookFully known_then) (TookPart (known vouched mid signed times)) (TookPart known_then) (one_apart beside.owner) (beside.front ++ beside.back) beside.fulls beside.lates beside.rounds beside.next (runs_longer vouched mid new signed more times later adds.pass.seen) (fully_longer vouched mid new signed more times later adds.pass.seen) (part_longer vouched mid new signed more times later adds.pass.seen) beside.numbered in
+    let wider = numbering.weaken (Runs (known vouched mid signed times)) (Runs known_then) (TookFully (known vouched mid signed times)) (TookFully known_then) (TookPart (known vouched mid signed times)) (TookPart known_then) (one_apart beside.owner) (beside.front ++ beside.back) beside.fulls beside.lates beside.rounds next (runs_longer vouched mid new signed more times later adds.pass.seen) (fully_longer vouched mid new signed more times later adds.pass.seen) (part_longer vouched mid new signed more times later adds.pass.seen) beside.numbered in
     record {
       front = beside.front;
       back = beside.back;
@@ -437,7 +429,6 @@ beside_gains P Q vouched socket old mid new broken before after added more later
       fulls = beside.fulls;
       lates = beside.lates;
       rounds = tag beside.owner added ++ beside.rounds;
-      next = beside.next;
       signed = signed ++ more;
       times = times ++ later;
       before_are = beside.before_are;
@@ -447,14 +438,14 @@ beside_gains P Q vouched socket old mid new broken before after added more later
           subst (λ (all : List Round). SeatGathers socket old new all (signed ++ more) (times ++ later) (items_of beside.fulls ++ items_of beside.lates) (length before + length after + 1))
           (sym (items_append (tag beside.owner added) beside.rounds ∙ ap (λ (l : List Round). l ++ items_of beside.rounds) (items_tag beside.owner added)))
           (gathers_round socket old mid new (items_of beside.rounds) added signed more times later (items_of beside.fulls ++ items_of beside.lates) (length before + length after + 1) beside.gathers adds);
-      numbered = numbering.gains (Runs known_then) (TookFully known_then) (TookPart known_then) (beside.front ++ beside.back) beside.fulls beside.lates beside.rounds beside.next beside.owner added wider;
-      one = subst (λ (past : List Round). Q known_then past) (sym (numbering.own_front beside.owner added beside.rounds)) (follows signed times (owned_by beside.owner beside.rounds) beside.one);
+      numbered = numbering.gains (Runs known_then) (TookFully known_then) (TookPart known_then) (beside.front ++ beside.back) beside.fulls beside.lates beside.rounds next beside.owner added wider;
+      one = subst (λ (past : List Round). Q known_then beside.owner past) (sym (numbering.own_front beside.owner added beside.rounds)) (follows signed times beside.owner (owned_by beside.owner beside.rounds) beside.one);
     }
 
 -- it was over, and is finished
-pub beside_finishes : (vouched : Ask → List (List ℕ) → JwtToken → Type 0) (socket : ℕ) (old mid new : SeatWorld) (before after : List Under) (f : FinishedLink) →
-    Beside (λ k past. TookFully k f past) vouched socket old mid 0 before after → new.around ≡ mid.around → Finishes mid.listener new.listener f → Tending vouched socket old new 0 (before ++ after)
-beside_finishes vouched socket old mid new before after f beside same ends =
+pub beside_finishes : {next : ℕ} (vouched : Ask → List (List ℕ) → JwtToken → Type 0) (socket : ℕ) (old mid new : SeatWorld) (before after : List Under) (f : FinishedLink) →
+    Beside (λ k n past. TookFully k n f past) vouched socket next old mid 0 before after → new.around ≡ mid.around → Finishes mid.listener new.listener f → Tending vouched socket next old new 0 (before ++ after)
+beside_finishes {next} vouched socket old mid new before after f beside same ends =
     let none : beside.lates ≡ [] = no_items beside.lates beside.count in
     let gained = finished_on old.listener mid.listener new.listener (items_of beside.fulls ++ items_of beside.lates) (length before + length after) f beside.gathers.listener ends in
     let listed = finished_full beside.fulls beside.lates beside.owner f none in
@@ -463,20 +454,19 @@ beside_finishes vouched socket old mid new before after f beside same ends =
       fulls = beside.fulls ++ (beside.owner, f) ∷ [];
       lates = beside.lates;
       rounds = beside.rounds;
-      next = beside.next;
       signed = beside.signed;
       times = beside.times;
       links_are = items_append beside.front beside.back ∙ (λ i. beside.before_are i ++ beside.after_are i);
       count = beside.count;
       gathers = gathers_listener socket old mid new (items_of beside.rounds) beside.signed beside.times (items_of beside.fulls ++ items_of beside.lates) (items_of (beside.fulls ++ (beside.owner, f) ∷ []) ++ items_of beside.lates) (length before + length after + 1) (length (before ++ after)) beside.gathers same
           (subst (λ (n : ℕ). ListenerGains old.listener new.listener (items_of (beside.fulls ++ (beside.owner, f) ∷ []) ++ items_of beside.lates) n) (sym (length-append before after)) (subst (λ (l : List FinishedLink). ListenerGains old.listener new.listener l (length before + length after)) (sym listed) gained));
-      numbered = subst (λ (a : Around). Numbered (Runs (knowing vouched a beside.signed beside.times)) (TookFully (knowing vouched a beside.signed beside.times)) (TookPart (knowing vouched a beside.signed beside.times)) none_apart (beside.front ++ beside.back) (beside.fulls ++ (beside.owner, f) ∷ []) beside.lates beside.rounds beside.next) (sym same) (numbering.finishes (Runs (known vouched mid beside.signed beside.times)) (TookFully (known vouched mid beside.signed beside.times)) (TookPart (known vouched mid beside.signed beside.times)) (beside.front ++ beside.back) beside.fulls beside.lates beside.rounds beside.next beside.owner f beside.numbered beside.one);
+      numbered = subst (λ (a : Around). Numbered (Runs (knowing vouched a beside.signed beside.times)) (TookFully (knowing vouched a beside.signed beside.times)) (TookPart (knowing vouched a beside.signed beside.times)) none_apart (beside.front ++ beside.back) (beside.fulls ++ (beside.owner, f) ∷ []) beside.lates beside.rounds next) (sym same) (numbering.finishes (Runs (known vouched mid beside.signed beside.times)) (TookFully (known vouched mid beside.signed beside.times)) (TookPart (known vouched mid beside.signed beside.times)) (beside.front ++ beside.back) beside.fulls beside.lates beside.rounds next beside.owner f beside.numbered beside.one);
     }
 
 -- it is finished as it stands
-pub beside_breaks : (vouched : Ask → List (List ℕ) → JwtToken → Type 0) (socket : ℕ) (old mid new : SeatWorld) (broken : ℕ) (before after : List Under) (f : FinishedLink) →
-    Beside (λ k past. TookPart k f past) vouched socket old mid broken before after → new.around ≡ mid.around → Finishes mid.listener new.listener f → Tending vouched socket old new (broken + 1) (before ++ after)
-beside_breaks vouched socket old mid new broken before after f beside same ends =
+pub beside_breaks : {next : ℕ} (vouched : Ask → List (List ℕ) → JwtToken → Type 0) (socket : ℕ) (old mid new : SeatWorld) (broken : ℕ) (before after : List Under) (f : FinishedLink) →
+    Beside (λ k n past. TookPart k n f past) vouched socket next old mid broken before after → new.around ≡ mid.around → Finishes mid.listener new.listener f → Tending vouched socket next old new (broken + 1) (before ++ after)
+beside_breaks {next} vouched socket old mid new broken before after f beside same ends =
     let gained = finished_on old.listener mid.listener new.listener (items_of beside.fulls ++ items_of beside.lates) (length before + length after) f beside.gathers.listener ends in
     let listed = finished_late beside.fulls beside.lates beside.owner f in
     record {
@@ -484,14 +474,13 @@ beside_breaks vouched socket old mid new broken before after f beside same ends 
       fulls = beside.fulls;
       lates = beside.lates ++ (beside.owner, f) ∷ [];
       rounds = beside.rounds;
-      next = beside.next;
       signed = beside.signed;
       times = beside.times;
       links_are = items_append beside.front beside.back ∙ (λ i. beside.before_are i ++ beside.after_are i);
       count = length-append beside.lates ((beside.owner, f) ∷ []) ∙ ap (λ n. n + 1) beside.count;
       gathers = gathers_listener socket old mid new (items_of beside.rounds) beside.signed beside.times (items_of beside.fulls ++ items_of beside.lates) (items_of beside.fulls ++ items_of (beside.lates ++ (beside.owner, f) ∷ [])) (length before + length after + 1) (length (before ++ after)) beside.gathers same
           (subst (λ (n : ℕ). ListenerGains old.listener new.listener (items_of beside.fulls ++ items_of (beside.lates ++ (beside.owner, f) ∷ [])) n) (sym (length-append before after)) (subst (λ (l : List FinishedLink). ListenerGains old.listener new.listener l (length before + length after)) (sym listed) gained));
-      numbered = subst (λ (a : Around). Numbered (Runs (knowing vouched a beside.signed beside.times)) (TookFully (knowing vouched a beside.signed beside.times)) (TookPart (knowing vouched a beside.signed beside.times)) none_apart (beside.front ++ beside.back) beside.fulls (beside.lates ++ (beside.owner, f) ∷ []) beside.rounds beside.next) (sym same) (numbering.breaks (Runs (known vouched mid beside.signed beside.times)) (TookFully (known vouched mid beside.signed beside.times)) (TookPart (known vouched mid beside.signed beside.times)) (beside.front ++ beside.back) beside.fulls beside.lates beside.rounds beside.next beside.owner f beside.numbered beside.one);
+      numbered = subst (λ (a : Around). Numbered (Runs (knowing vouched a beside.signed beside.times)) (TookFully (knowing vouched a beside.signed beside.times)) (TookPart (knowing vouched a beside.signed beside.times)) none_apart (beside.front ++ beside.back) beside.fulls (beside.lates ++ (beside.owner, f) ∷ []) beside.rounds next) (sym same) (numbering.breaks (Runs (known vouched mid beside.signed beside.times)) (TookFully (known vouched mid beside.signed beside.times)) (TookPart (known vouched mid beside.signed beside.times)) (beside.front ++ beside.back) beside.fulls beside.lates beside.rounds next beside.owner f beside.numbered beside.one);
     }
 
 -- where there are none, none has a number
@@ -500,8 +489,8 @@ no_tally k [] none = refl
 no_tally k (x ∷ xs) none = absurd (cc none)
 
 -- no link is under way any more
-pub tending_tends : (vouched : Ask → List (List ℕ) → JwtToken → Type 0) (socket room : ℕ) (end : SeatEnd) (old new : SeatWorld) (broken : ℕ) → Tending vouched socket old new broken [] → broken ≤ room → (end ≡ seat.End → broken ≡ 0) → Tends vouched socket room end old new
-tending_tends vouched socket room end old new broken held few ended =
+pub tending_tends : {next : ℕ} (vouched : Ask → List (List ℕ) → JwtToken → Type 0) (socket room : ℕ) (end : SeatEnd) (old new : SeatWorld) (broken : ℕ) → Tending vouched socket next old new broken [] → broken ≤ room → (end ≡ seat.End → broken ≡ 0) → Tends vouched socket room end old new
+tending_tends {next} vouched socket room end old new broken held few ended =
     record {
       fulls = held.fulls;
       lates = held.lates;

@@ -1,5 +1,5 @@
 -- What the parts of a seat's serving do for its links, one after another.
-use Rattle.std.specs.Prelude.{◌≡◌, ◌⊎◌, ℕ, ◌<◌, ◌≤◌, List, [], ◌∷◌, ◌++◌, length, map, Option, Some, IfSome, IsSome, Result, Ok, Err, IsErr, OnOk, OnErr}
+use Rattle.std.specs.Prelude.{◌≡◌, ◌⊎◌, ℕ, ◌+◌, ◌<◌, ◌≤◌, List, [], ◌∷◌, ◌++◌, length, map, Option, Some, IfSome, IsSome, Result, Ok, Err, IsErr, OnOk, OnErr}
 use Rattle.std.proofs.Common.{arith, refl, sym, ◌∙◌, subst}
 use Rattle.std.proofs.lemmas.List.{length-map}
 use Rattle.wl_octets.specs.declared.memory.Memory.{Memory}
@@ -22,6 +22,7 @@ use Rattle.wl_worker.specs.declared.seat.SeatEnd.{SeatEnd}
 use Rattle.wl_worker.specs.declared.seat.SeatEnd.TheVariants as seat
 use Rattle.wl_worker.specs.declared.step.Step.{Step}
 use Rattle.wl_worker.specs.declared.step.Step.TheVariants as step
+use Rattle.wl_worker.specs.Outcomes.{asker}
 use Rattle.wl_worker.specs.Served.{ServedState, Around, RoundTells}
 use Rattle.wl_worker.specs.Tended.{SeatWorld, seat_world, Tends}
 use Rattle.wl_worker.specs.Seating.{Under, under, finished_link, SeatView, seat_view, IsWithMemory, seat_end_of, TendsRest, TendsBy, KeepsTending, FinishesTending, served_step}
@@ -77,13 +78,13 @@ rest_fault : (vouched : Ask → List (List ℕ) → JwtToken → Type 0) (first 
 rest_fault vouched first edge.Failed w xs rest = rest
 rest_fault vouched first edge.Memory w xs rest = rest
 
-module _ (tells : Type 0) (vouched : Ask → List (List ℕ) → JwtToken → Type 0) (socket room listener_faults ready_faults faults_now : ℕ) (world : SeatWorld) (xs : List Under) where
-  pub keeps_waited : KeepsTending tells vouched (seat_view socket room listener_faults ready_faults world) (seat_view socket room listener_faults faults_now world) xs xs step.On
+module _ {next : ℕ} (tells : Type 0) (vouched : Ask → List (List ℕ) → JwtToken → Type 0) (socket room listener_faults ready_faults faults_now : ℕ) (world : SeatWorld) (xs : List Under) where
+  pub keeps_waited : KeepsTending tells vouched (seat_view socket room next listener_faults ready_faults world) (seat_view socket room next listener_faults faults_now world) xs xs step.On
   keeps_waited = record { keeps = λ t first on. on }
 
   -- it had no answer
-  pub keeps_unwaited : (fault : EdgeFault) → KeepsTending tells vouched (seat_view socket room listener_faults ready_faults world) (seat_view socket room listener_faults faults_now world) xs xs (step.Over (seat_end_of fault))
-  keeps_unwaited fault = record { keeps = λ t first on. rest_fault vouched first fault (seat_view socket room listener_faults faults_now world) xs (rest_on vouched first (seat_view socket room listener_faults faults_now world) xs on) }
+  pub keeps_unwaited : (fault : EdgeFault) → KeepsTending tells vouched (seat_view socket room next listener_faults ready_faults world) (seat_view socket room next listener_faults faults_now world) xs xs (step.Over (seat_end_of fault))
+  keeps_unwaited fault = record { keeps = λ t first on. rest_fault vouched first fault (seat_view socket room next listener_faults faults_now world) xs (rest_on vouched first (seat_view socket room next listener_faults faults_now world) xs on) }
 
 -- ---- a round of the first link
 
@@ -96,58 +97,58 @@ by_memory : (tells : Type 0) (vouched : Ask → List (List ℕ) → JwtToken →
 by_memory tells vouched a b xs ys (Ok done) e some none on over = on (no_memory e some)
 by_memory tells vouched a b xs ys (Err m) e some none on over = over none
 
-module _ (tells : Type 0) (valid : Ask → Signed → Type 0) (vouched : Ask → List (List ℕ) → JwtToken → Type 0) (socket room listener_faults : ℕ) (old new : ServedState) (told told_now : Option LinkLog) (before now : Around) (r s t r2 s2 t2 : ℕ) (shows : tells → IsSome told) where
+module _ {next connection : ℕ} (tells : Type 0) (valid : Ask → Signed → Type 0) (vouched : Ask → List (List ℕ) → JwtToken → Type 0) (socket room listener_faults : ℕ) (old new : ServedState) (told told_now : Option LinkLog) (before now : Around) (r s t r2 s2 t2 : ℕ) (shows : tells → IsSome told) where
   -- it goes to the end of the queue
-  pub keeps_round : (ready_faults : ℕ) (listener : Option ListenerLog) (xs : List Under) (end : RoundEnd) (round : RoundTells valid vouched socket old new told told_now before now end) → IsOn end
-      → KeepsTending tells vouched (seat_view socket room listener_faults ready_faults (seat_world listener before)) (seat_view socket room listener_faults ready_faults (seat_world listener now)) (under (finished_link told r s t) old ∷ xs) (xs ++ under (finished_link told_now r2 s2 t2) new ∷ []) step.On
+  pub keeps_round : (ready_faults : ℕ) (listener : Option ListenerLog) (xs : List Under) (end : RoundEnd) (round : RoundTells valid (asker connection vouched) socket old new told told_now before now end) → IsOn end
+      → KeepsTending tells vouched (seat_view socket room next listener_faults ready_faults (seat_world listener before)) (seat_view socket room next listener_faults ready_faults (seat_world listener now)) (under connection (finished_link told r s t) old ∷ xs) (xs ++ under connection (finished_link told_now r2 s2 t2) new ∷ []) step.On
   keeps_round ready_faults listener xs end round on = record { keeps = λ tell first going. going_round valid vouched first socket room listener_faults old new told told_now before now r s t r2 s2 t2 ready_faults listener xs end round on (shows tell) going }
 
   -- it is over, and is finished
-  pub keeps_over : (ready_faults faults_now listens_now : ℕ) (listener listener_now : Option ListenerLog) (xs : List Under) (e : Ended) (round : RoundTells valid vouched socket old new told told_now before now (ends.Ended e))
+  pub keeps_over : (ready_faults faults_now listens_now : ℕ) (listener listener_now : Option ListenerLog) (xs : List Under) (e : Ended) (round : RoundTells valid (asker connection vouched) socket old new told told_now before now (ends.Ended e))
       → (ends.Ended e ≡ ends.Ended ended.ReadFault → Rose r r2) → (ends.Ended e ≡ ends.Ended ended.WriteFault → Rose s s2) → Finishes listener listener_now (finished_link told_now r2 s2 t2)
       → (result : Result (Unit {0}) Memory) → OnOk result (IsWithMemory e) → OnErr result (e ≡ ended.Memory)
-      → KeepsTending tells vouched (seat_view socket room listener_faults ready_faults (seat_world listener before)) (seat_view socket room listens_now faults_now (seat_world listener_now now)) (under (finished_link told r s t) old ∷ xs) xs (served_step result)
+      → KeepsTending tells vouched (seat_view socket room next listener_faults ready_faults (seat_world listener before)) (seat_view socket room next listens_now faults_now (seat_world listener_now now)) (under connection (finished_link told r s t) old ∷ xs) xs (served_step result)
   keeps_over ready_faults faults_now listens_now listener listener_now xs e round reads writes finishes result some none =
-      by_memory tells vouched (seat_view socket room listener_faults ready_faults (seat_world listener before)) (seat_view socket room listens_now faults_now (seat_world listener_now now)) (under (finished_link told r s t) old ∷ xs) xs result e some none
+      by_memory tells vouched (seat_view socket room next listener_faults ready_faults (seat_world listener before)) (seat_view socket room next listens_now faults_now (seat_world listener_now now)) (under connection (finished_link told r s t) old ∷ xs) xs result e some none
       (λ other. record { keeps = λ tell first going. going_over valid vouched first socket room listener_faults old new told told_now before now r s t r2 s2 t2 ready_faults faults_now listens_now listener listener_now xs e round other reads writes (shows tell) finishes going })
       (λ is. record { keeps = λ tell first going. rest_round valid vouched first socket room listener_faults old new told told_now before now r s t r2 s2 t2 ready_faults faults_now listens_now listener listener_now xs e round is (shows tell) finishes going })
 
 -- ---- an accept
 
-module _ (tells : Type 0) (vouched : Ask → List (List ℕ) → JwtToken → Type 0) (socket room faults faults_now : ℕ) (around : Around) (listener listener_now : Option ListenerLog) (xs : List Under) where
+module _ {next : ℕ} (tells : Type 0) (vouched : Ask → List (List ℕ) → JwtToken → Type 0) (socket room faults faults_now : ℕ) (around : Around) (listener listener_now : Option ListenerLog) (xs : List Under) where
   -- no link was there
   pub keeps_unanswered : (ready_faults : ℕ) → IfSome listener (λ log. listener_now ≡ Some (with_kind log kind.Idle))
-      → KeepsTending tells vouched (seat_view socket room faults ready_faults (seat_world listener around)) (seat_view socket room faults_now ready_faults (seat_world listener_now around)) xs xs step.Idle
+      → KeepsTending tells vouched (seat_view socket room next faults ready_faults (seat_world listener around)) (seat_view socket room next faults_now ready_faults (seat_world listener_now around)) xs xs step.Idle
   keeps_unanswered ready_faults answers = record { keeps = λ t first on. going_answered vouched first socket room faults ready_faults faults_now around listener listener_now kind.Idle xs refl answers on }
 
   -- there will be no more
   pub keeps_ending : (ready_faults : ℕ) → IfSome listener (λ log. listener_now ≡ Some (with_kind log kind.End))
-      → KeepsTending tells vouched (seat_view socket room faults ready_faults (seat_world listener around)) (seat_view socket room faults_now ready_faults (seat_world listener_now around)) xs xs step.Closed
+      → KeepsTending tells vouched (seat_view socket room next faults ready_faults (seat_world listener around)) (seat_view socket room next faults_now ready_faults (seat_world listener_now around)) xs xs step.Closed
   keeps_ending ready_faults answers = record { keeps = λ t first on. going_answered vouched first socket room faults ready_faults faults_now around listener listener_now kind.End xs refl answers on }
 
   -- it failed
   pub keeps_failed : (ready_faults : ℕ) (full : Type 0) → IfSome listener (λ log. (listener_now ≡ Some (with_kind log kind.Failed)) ⊎ (full × (listener_now ≡ Some log)))
-      → KeepsTending tells vouched (seat_view socket room faults ready_faults (seat_world listener around)) (seat_view socket room faults_now ready_faults (seat_world listener_now around)) xs xs (step.Over seat.ListenFault)
+      → KeepsTending tells vouched (seat_view socket room next faults ready_faults (seat_world listener around)) (seat_view socket room next faults_now ready_faults (seat_world listener_now around)) xs xs (step.Over seat.ListenFault)
   keeps_failed ready_faults full answers =
-      record { keeps = λ t first on. rest_on vouched first (seat_view socket room faults_now ready_faults (seat_world listener_now around)) xs (going_failed vouched first socket room faults ready_faults faults_now around listener listener_now full xs answers on) }
+      record { keeps = λ t first on. rest_on vouched first (seat_view socket room next faults_now ready_faults (seat_world listener_now around)) xs (going_failed vouched first socket room faults ready_faults faults_now around listener listener_now full xs answers on) }
 
 -- a link came
-module _ (tells : Type 0) (vouched : Ask → List (List ℕ) → JwtToken → Type 0) (socket room faults faults_now ready_faults waits_now : ℕ) (around : Around) (listener listener_now : Option ListenerLog) (xs : List Under) (answers : IfSome listener (λ log. listener_now ≡ Some (with_kind log kind.Link))) (few : length xs < room) (told : Option LinkLog) (r s t : ℕ) (fresh : IsFresh told r s t) where
+module _ {next : ℕ} (tells : Type 0) (vouched : Ask → List (List ℕ) → JwtToken → Type 0) (socket room faults faults_now ready_faults waits_now : ℕ) (around : Around) (listener listener_now : Option ListenerLog) (xs : List Under) (answers : IfSome listener (λ log. listener_now ≡ Some (with_kind log kind.Link))) (few : length xs < room) (told : Option LinkLog) (r s t : ℕ) (fresh : IsFresh told r s t) where
   -- it is served
   pub keeps_came : (served : ServedState) → served ≡ record { session = fresh_session; unsent = [] }
-      → KeepsTending tells vouched (seat_view socket room faults ready_faults (seat_world listener around)) (seat_view socket room faults_now waits_now (seat_world listener_now around)) xs (xs ++ under (finished_link told r s t) served ∷ []) step.On
+      → KeepsTending tells vouched (seat_view socket room next faults ready_faults (seat_world listener around)) (seat_view socket room (next + 1) faults_now waits_now (seat_world listener_now around)) xs (xs ++ under next (finished_link told r s t) served ∷ []) step.On
   keeps_came served start = record { keeps = λ tell first on. going_comes vouched first socket room faults ready_faults waits_now faults_now around listener listener_now told r s t served xs answers fresh start few on }
 
   -- it is finished at once
   pub keeps_went : (listener_then : Option ListenerLog) → Finishes listener_now listener_then (finished_link told r s t)
-      → KeepsTending tells vouched (seat_view socket room faults ready_faults (seat_world listener around)) (seat_view socket room faults_now waits_now (seat_world listener_then around)) xs xs (step.Over seat.Memory)
+      → KeepsTending tells vouched (seat_view socket room next faults ready_faults (seat_world listener around)) (seat_view socket room (next + 1) faults_now waits_now (seat_world listener_then around)) xs xs (step.Over seat.Memory)
   keeps_went listener_then finishes = record { keeps = λ tell first on. rest_new vouched first socket room faults ready_faults waits_now faults_now around listener listener_now listener_then told r s t xs answers finishes fresh few on }
 
   -- the same, since it could not be watched
   pub keeps_unwatched : (listener_then : Option ListenerLog) (fault : EdgeFault) → Finishes listener_now listener_then (finished_link told r s t)
-      → KeepsTending tells vouched (seat_view socket room faults ready_faults (seat_world listener around)) (seat_view socket room faults_now waits_now (seat_world listener_then around)) xs xs (step.Over (seat_end_of fault))
+      → KeepsTending tells vouched (seat_view socket room next faults ready_faults (seat_world listener around)) (seat_view socket room (next + 1) faults_now waits_now (seat_world listener_then around)) xs xs (step.Over (seat_end_of fault))
   keeps_unwatched listener_then fault finishes =
-      record { keeps = λ tell first on. rest_fault vouched first fault (seat_view socket room faults_now waits_now (seat_world listener_then around)) xs (rest_new vouched first socket room faults ready_faults waits_now faults_now around listener listener_now listener_then told r s t xs answers finishes fresh few on) }
+      record { keeps = λ tell first on. rest_fault vouched first fault (seat_view socket room (next + 1) faults_now waits_now (seat_world listener_then around)) xs (rest_new vouched first socket room faults ready_faults waits_now faults_now around listener listener_now listener_then told r s t xs answers finishes fresh few on) }
 
 -- there is a place for one more
 pub few_of : {A : Type 0} (f : A → Under) (xs : List A) (n room : ℕ) → n ≡ length xs → n < room → length (map f xs) < room
@@ -179,9 +180,9 @@ module _ (vouched : Ask → List (List ℕ) → JwtToken → Type 0) where
   finishes_first {A} a b f x xs ys zs is keeps = subst (λ (l : List A). FinishesTending vouched a b (map f l) zs) (sym is) keeps
 
   -- the first one is finished
-  pub finishes_one : (socket room listener_faults listens_now ready_faults faults_now : ℕ) (around : Around) (listener listener_now : Option ListenerLog) (u : Under) (xs : List Under) → Finishes listener listener_now u.link
-      → FinishesTending vouched (seat_view socket room listener_faults ready_faults (seat_world listener around)) (seat_view socket room listens_now faults_now (seat_world listener_now around)) (u ∷ xs) xs
-  finishes_one socket room listener_faults listens_now ready_faults faults_now around listener listener_now u xs finishes =
+  pub finishes_one : {next : ℕ} (socket room listener_faults listens_now ready_faults faults_now : ℕ) (around : Around) (listener listener_now : Option ListenerLog) (u : Under) (xs : List Under) → Finishes listener listener_now u.link
+      → FinishesTending vouched (seat_view socket room next listener_faults ready_faults (seat_world listener around)) (seat_view socket room next listens_now faults_now (seat_world listener_now around)) (u ∷ xs) xs
+  finishes_one {next} socket room listener_faults listens_now ready_faults faults_now around listener listener_now u xs finishes =
       record { keeps = λ first n last. last_more vouched first socket room listener_faults listens_now ready_faults faults_now n around listener listener_now u xs finishes last }
 
 -- ---- from its start to its end
@@ -190,7 +191,7 @@ module _ (vouched : Ask → List (List ℕ) → JwtToken → Type 0) where
   -- no link was served
   pub tends_none : (socket room : ℕ) (world : SeatWorld) → Tends vouched socket room seat.Memory world world
   tends_none socket room world =
-      let w = seat_view socket room 0 0 world in
+      let w = seat_view socket room 0 0 0 world in
       let last = last_by vouched world w [] seat.Memory (rest_on vouched world w [] (going_none vouched world w)) in
       last_tends vouched world w last.0 seat.Memory last.1 last.2 last.3
 

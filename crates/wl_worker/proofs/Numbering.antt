@@ -47,11 +47,11 @@ each_with P (y ∷ front) back x all one = (all.0, each_with P front back x all.
 -- ---- steps
 
 -- before any link came
-pub none_numbered : {U F R : Type 0} (runs : U → List R → Type 0) (full late : F → List R → Type 0) → Numbered runs full late none_apart [] [] [] [] 0
-none_numbered runs full late = record { once = λ k. omega arith; fresh = λ k above. refl; owners = λ k none. refl; each_running = tt; each_full = tt; each_late = tt }
+pub none_numbered : {U F R : Type 0} (runs : ℕ → U → List R → Type 0) (full late : ℕ → F → List R → Type 0) (next : ℕ) → Numbered runs full late none_apart [] [] [] [] next
+none_numbered runs full late next = record { once = λ k. omega arith; fresh = λ k above. refl; owners = λ k none. refl; each_running = tt; each_full = tt; each_late = tt }
 
 -- a link comes, and no round is its own
-pub comes : {U F R : Type 0} (runs : U → List R → Type 0) (full late : F → List R → Type 0) (running : List (ℕ × U)) (fulls lates : List (ℕ × F)) (rounds : List (ℕ × R)) (next : ℕ) →
+pub comes : {U F R : Type 0} (runs : ℕ → U → List R → Type 0) (full late : ℕ → F → List R → Type 0) (running : List (ℕ × U)) (fulls lates : List (ℕ × F)) (rounds : List (ℕ × R)) (next : ℕ) →
     Numbered runs full late none_apart running fulls lates rounds next → Numbered runs full late (one_apart next) running fulls lates rounds (next + 1) × (owned_by next rounds ≡ [])
 comes {U} {F} {R} runs full late running fulls lates rounds next n = (
   record {
@@ -70,10 +70,10 @@ comes {U} {F} {R} runs full late running fulls lates rounds next n = (
 )
 
 -- a link is taken out
-pub taken : {U F R : Type 0} (runs : U → List R → Type 0) (full late : F → List R → Type 0) (front back : List (ℕ × U)) (o : ℕ) (x : U) (fulls lates : List (ℕ × F)) (rounds : List (ℕ × R)) (next : ℕ) →
-    Numbered runs full late none_apart (front ++ (o, x) ∷ back) fulls lates rounds next → Numbered runs full late (one_apart o) (front ++ back) fulls lates rounds next × runs x (owned_by o rounds)
+pub taken : {U F R : Type 0} (runs : ℕ → U → List R → Type 0) (full late : ℕ → F → List R → Type 0) (front back : List (ℕ × U)) (o : ℕ) (x : U) (fulls lates : List (ℕ × F)) (rounds : List (ℕ × R)) (next : ℕ) →
+    Numbered runs full late none_apart (front ++ (o, x) ∷ back) fulls lates rounds next → Numbered runs full late (one_apart o) (front ++ back) fulls lates rounds next × runs o x (owned_by o rounds)
 taken {U} {F} {R} runs full late front back o x fulls lates rounds next n =
-    let parts = each_without (λ (u : ℕ × U). runs u.1 (owned_by u.0 rounds)) front back (o, x) n.each_running in (
+    let parts = each_without (λ (u : ℕ × U). runs u.0 u.1 (owned_by u.0 rounds)) front back (o, x) n.each_running in (
       record {
         once = λ k. omega (arith, n.once k, tally_mid k o x front back);
         fresh = λ k above. omega (arith, n.fresh k above, tally_mid k o x front back);
@@ -86,20 +86,20 @@ taken {U} {F} {R} runs full late front back o x fulls lates rounds next n =
     )
 
 -- it is put back, wherever it comes to stand
-pub put : {U F R : Type 0} (runs : U → List R → Type 0) (full late : F → List R → Type 0) (front back : List (ℕ × U)) (o : ℕ) (x : U) (fulls lates : List (ℕ × F)) (rounds : List (ℕ × R)) (next : ℕ) →
-    Numbered runs full late (one_apart o) (front ++ back) fulls lates rounds next → runs x (owned_by o rounds) → Numbered runs full late none_apart (front ++ (o, x) ∷ back) fulls lates rounds next
+pub put : {U F R : Type 0} (runs : ℕ → U → List R → Type 0) (full late : ℕ → F → List R → Type 0) (front back : List (ℕ × U)) (o : ℕ) (x : U) (fulls lates : List (ℕ × F)) (rounds : List (ℕ × R)) (next : ℕ) →
+    Numbered runs full late (one_apart o) (front ++ back) fulls lates rounds next → runs o x (owned_by o rounds) → Numbered runs full late none_apart (front ++ (o, x) ∷ back) fulls lates rounds next
 put {U} {F} {R} runs full late front back o x fulls lates rounds next n stands =
     record {
       once = λ k. omega (arith, n.once k, tally_mid k o x front back);
       fresh = λ k above. omega (arith, n.fresh k above, tally_mid k o x front back);
       owners = λ k none. n.owners k (omega (arith, none, tally_mid k o x front back));
-      each_running = each_with (λ (u : ℕ × U). runs u.1 (owned_by u.0 rounds)) front back (o, x) n.each_running stands;
+      each_running = each_with (λ (u : ℕ × U). runs u.0 u.1 (owned_by u.0 rounds)) front back (o, x) n.each_running stands;
       each_full = n.each_full;
       each_late = n.each_late;
     }
 
 -- the link that is held apart gains rounds; the others keep theirs
-pub gains : {U F R : Type 0} (runs : U → List R → Type 0) (full late : F → List R → Type 0) (running : List (ℕ × U)) (fulls lates : List (ℕ × F)) (rounds : List (ℕ × R)) (next o : ℕ) (added : List R) →
+pub gains : {U F R : Type 0} (runs : ℕ → U → List R → Type 0) (full late : ℕ → F → List R → Type 0) (running : List (ℕ × U)) (fulls lates : List (ℕ × F)) (rounds : List (ℕ × R)) (next o : ℕ) (added : List R) →
     Numbered runs full late (one_apart o) running fulls lates rounds next → Numbered runs full late (one_apart o) running fulls lates (tag o added ++ rounds) next
 gains {U} {F} {R} runs full late running fulls lates rounds next o added n =
     let alone = n.once o in
@@ -108,27 +108,27 @@ gains {U} {F} {R} runs full late running fulls lates rounds next o added n =
       once = n.once;
       fresh = n.fresh;
       owners = λ k none. other_front o k added rounds (apart o k (omega (arith, none))) ∙ n.owners k none;
-      each_running = each_other {P = λ (x : ℕ × U). runs x.1 (owned_by x.0 rounds)} {Q = λ (x : ℕ × U). runs x.1 (owned_by x.0 (tag o added ++ rounds))} o running (omega (arith, alone, one)) (λ (u : ℕ × U) other runs_on. subst (λ (past : List R). runs u.1 past) (sym (other_front o u.0 added rounds (turned u.0 o other))) runs_on) n.each_running;
-      each_full = each_other {P = λ (x : ℕ × F). full x.1 (owned_by x.0 rounds)} {Q = λ (x : ℕ × F). full x.1 (owned_by x.0 (tag o added ++ rounds))} o fulls (omega (arith, alone, one)) (λ (f : ℕ × F) other is_full. subst (λ (past : List R). full f.1 past) (sym (other_front o f.0 added rounds (turned f.0 o other))) is_full) n.each_full;
-      each_late = each_other {P = λ (x : ℕ × F). late x.1 (owned_by x.0 rounds)} {Q = λ (x : ℕ × F). late x.1 (owned_by x.0 (tag o added ++ rounds))} o lates (omega (arith, alone, one)) (λ (f : ℕ × F) other is_late. subst (λ (past : List R). late f.1 past) (sym (other_front o f.0 added rounds (turned f.0 o other))) is_late) n.each_late;
+      each_running = each_other {P = λ (x : ℕ × U). runs x.0 x.1 (owned_by x.0 rounds)} {Q = λ (x : ℕ × U). runs x.0 x.1 (owned_by x.0 (tag o added ++ rounds))} o running (omega (arith, alone, one)) (λ (u : ℕ × U) other runs_on. subst (λ (past : List R). runs u.0 u.1 past) (sym (other_front o u.0 added rounds (turned u.0 o other))) runs_on) n.each_running;
+      each_full = each_other {P = λ (x : ℕ × F). full x.0 x.1 (owned_by x.0 rounds)} {Q = λ (x : ℕ × F). full x.0 x.1 (owned_by x.0 (tag o added ++ rounds))} o fulls (omega (arith, alone, one)) (λ (f : ℕ × F) other is_full. subst (λ (past : List R). full f.0 f.1 past) (sym (other_front o f.0 added rounds (turned f.0 o other))) is_full) n.each_full;
+      each_late = each_other {P = λ (x : ℕ × F). late x.0 x.1 (owned_by x.0 rounds)} {Q = λ (x : ℕ × F). late x.0 x.1 (owned_by x.0 (tag o added ++ rounds))} o lates (omega (arith, alone, one)) (λ (f : ℕ × F) other is_late. subst (λ (past : List R). late f.0 f.1 past) (sym (other_front o f.0 added rounds (turned f.0 o other))) is_late) n.each_late;
     }
 
 -- it was over, and is finished
-pub finishes : {U F R : Type 0} (runs : U → List R → Type 0) (full late : F → List R → Type 0) (running : List (ℕ × U)) (fulls lates : List (ℕ × F)) (rounds : List (ℕ × R)) (next o : ℕ) (f : F) →
-    Numbered runs full late (one_apart o) running fulls lates rounds next → full f (owned_by o rounds) → Numbered runs full late none_apart running (fulls ++ (o, f) ∷ []) lates rounds next
+pub finishes : {U F R : Type 0} (runs : ℕ → U → List R → Type 0) (full late : ℕ → F → List R → Type 0) (running : List (ℕ × U)) (fulls lates : List (ℕ × F)) (rounds : List (ℕ × R)) (next o : ℕ) (f : F) →
+    Numbered runs full late (one_apart o) running fulls lates rounds next → full o f (owned_by o rounds) → Numbered runs full late none_apart running (fulls ++ (o, f) ∷ []) lates rounds next
 finishes {U} {F} {R} runs full late running fulls lates rounds next o f n is =
     record {
       once = λ k. omega (arith, n.once k, tally_append k fulls ((o, f) ∷ []));
       fresh = λ k above. omega (arith, n.fresh k above, tally_append k fulls ((o, f) ∷ []));
       owners = λ k none. n.owners k (omega (arith, none, tally_append k fulls ((o, f) ∷ [])));
       each_running = n.each_running;
-      each_full = each_append (λ (g : ℕ × F). full g.1 (owned_by g.0 rounds)) fulls ((o, f) ∷ []) n.each_full (is, tt);
+      each_full = each_append (λ (g : ℕ × F). full g.0 g.1 (owned_by g.0 rounds)) fulls ((o, f) ∷ []) n.each_full (is, tt);
       each_late = n.each_late;
     }
 
 -- it is finished as it stands
-pub breaks : {U F R : Type 0} (runs : U → List R → Type 0) (full late : F → List R → Type 0) (running : List (ℕ × U)) (fulls lates : List (ℕ × F)) (rounds : List (ℕ × R)) (next o : ℕ) (f : F) →
-    Numbered runs full late (one_apart o) running fulls lates rounds next → late f (owned_by o rounds) → Numbered runs full late none_apart running fulls (lates ++ (o, f) ∷ []) rounds next
+pub breaks : {U F R : Type 0} (runs : ℕ → U → List R → Type 0) (full late : ℕ → F → List R → Type 0) (running : List (ℕ × U)) (fulls lates : List (ℕ × F)) (rounds : List (ℕ × R)) (next o : ℕ) (f : F) →
+    Numbered runs full late (one_apart o) running fulls lates rounds next → late o f (owned_by o rounds) → Numbered runs full late none_apart running fulls (lates ++ (o, f) ∷ []) rounds next
 breaks {U} {F} {R} runs full late running fulls lates rounds next o f n is =
     record {
       once = λ k. omega (arith, n.once k, tally_append k lates ((o, f) ∷ []));
@@ -136,19 +136,19 @@ breaks {U} {F} {R} runs full late running fulls lates rounds next o f n is =
       owners = λ k none. n.owners k (omega (arith, none, tally_append k lates ((o, f) ∷ [])));
       each_running = n.each_running;
       each_full = n.each_full;
-      each_late = each_append (λ (g : ℕ × F). late g.1 (owned_by g.0 rounds)) lates ((o, f) ∷ []) n.each_late (is, tt);
+      each_late = each_append (λ (g : ℕ × F). late g.0 g.1 (owned_by g.0 rounds)) lates ((o, f) ∷ []) n.each_late (is, tt);
     }
 
 -- what holds of each link may follow from something else
-pub weaken : {U F R : Type 0} (runs runs_then : U → List R → Type 0) (full full_then late late_then : F → List R → Type 0) (aside : ℕ → ℕ) (running : List (ℕ × U)) (fulls lates : List (ℕ × F)) (rounds : List (ℕ × R)) (next : ℕ) →
-    ((u : U) (past : List R) → runs u past → runs_then u past) → ((f : F) (past : List R) → full f past → full_then f past) → ((f : F) (past : List R) → late f past → late_then f past) →
+pub weaken : {U F R : Type 0} (runs runs_then : ℕ → U → List R → Type 0) (full full_then late late_then : ℕ → F → List R → Type 0) (aside : ℕ → ℕ) (running : List (ℕ × U)) (fulls lates : List (ℕ × F)) (rounds : List (ℕ × R)) (next : ℕ) →
+    ((k : ℕ) (u : U) (past : List R) → runs k u past → runs_then k u past) → ((k : ℕ) (f : F) (past : List R) → full k f past → full_then k f past) → ((k : ℕ) (f : F) (past : List R) → late k f past → late_then k f past) →
     Numbered runs full late aside running fulls lates rounds next → Numbered runs_then full_then late_then aside running fulls lates rounds next
 weaken {U} {F} {R} runs runs_then full full_then late late_then aside running fulls lates rounds next a b c n =
     record {
       once = n.once;
       fresh = n.fresh;
       owners = n.owners;
-      each_running = each_weaker (λ (u : ℕ × U). runs u.1 (owned_by u.0 rounds)) (λ (u : ℕ × U). runs_then u.1 (owned_by u.0 rounds)) running (λ (u : ℕ × U) runs_on. a u.1 (owned_by u.0 rounds) runs_on) n.each_running;
-      each_full = each_weaker (λ (f : ℕ × F). full f.1 (owned_by f.0 rounds)) (λ (f : ℕ × F). full_then f.1 (owned_by f.0 rounds)) fulls (λ (f : ℕ × F) is. b f.1 (owned_by f.0 rounds) is) n.each_full;
-      each_late = each_weaker (λ (f : ℕ × F). late f.1 (owned_by f.0 rounds)) (λ (f : ℕ × F). late_then f.1 (owned_by f.0 rounds)) lates (λ (f : ℕ × F) is. c f.1 (owned_by f.0 rounds) is) n.each_late;
+      each_running = each_weaker (λ (u : ℕ × U). runs u.0 u.1 (owned_by u.0 rounds)) (λ (u : ℕ × U). runs_then u.0 u.1 (owned_by u.0 rounds)) running (λ (u : ℕ × U) runs_on. a u.0 u.1 (owned_by u.0 rounds) runs_on) n.each_running;
+      each_full = each_weaker (λ (f : ℕ × F). full f.0 f.1 (owned_by f.0 rounds)) (λ (f : ℕ × F). full_then f.0 f.1 (owned_by f.0 rounds)) fulls (λ (f : ℕ × F) is. b f.0 f.1 (owned_by f.0 rounds) is) n.each_full;
+      each_late = each_weaker (λ (f : ℕ × F). late f.0 f.1 (owned_by f.0 rounds)) (λ (f : ℕ × F). late_then f.0 f.1 (owned_by f.0 rounds)) lates (λ (f : ℕ × F) is. c f.0 f.1 (owned_by f.0 rounds) is) n.each_late;
     }

@@ -5,12 +5,11 @@ use Rattle.h2_conn.specs.declared.fault.ConnFault.{ConnFault}
 use Rattle.wl_octets.specs.declared.memory.Memory.{Memory}
 use Rattle.wl_entry.specs.declared.asks.Ask.{Ask}
 use Rattle.wl_entry.specs.declared.signing.Signed.{Signed}
-use Rattle.wl_entry.specs.declared.tokens.JwtToken.{JwtToken}
 use Rattle.wl_snapshot.specs.Snapshots.{Publication}
 use Rattle.wl_publish.specs.Listings.{Passing}
 use Rattle.wl_publish.specs.Reading.{Reads}
 use Rattle.wl_edge.specs.declared.attestor.AttestorCall.{AttestorCall}
-use Rattle.wl_edge.specs.declared.signer.SignerCall.{SignerCall}
+use Rattle.ask_mail.specs.declared.mail.Delivery.{Delivery}
 use Rattle.wl_session.specs.declared.asks.JwtAsk.{JwtAsk}
 use Rattle.wl_session.specs.declared.asks.JwtOutcome.{JwtOutcome}
 use Rattle.wl_session.specs.declared.asks.SessionFault.{SessionFault}
@@ -18,7 +17,7 @@ use Rattle.wl_session.specs.declared.asks.SessionFault.TheVariants as faults
 use Rattle.wl_session.specs.Sessions.{SessionState, Running, Fallen, OutOfMemory, unnamed_in, asks_in, failure_in}
 use Rattle.wl_session.specs.Steps.{turn_told}
 use Rattle.wl_worker.specs.Rounds.{Round, then_told, heard_told, name_told_at, answer_told, answers_told, shown_told, outcomes_told, heard_session, named_session, turned_session, round_told, HaveCalls, HaveAsks, any_outcome, IsRound, IsWhole, IsIn}
-use Rattle.wl_worker.specs.Outcomes.{IsOutcome}
+use Rattle.wl_worker.specs.Outcomes.{Asker, IsOutcome}
 use Rattle.wl_worker.specs.Served.{Around, around, last_shown, HasSeenLast}
 use Rattle.wl_worker.specs.Stepping.{Came, Attests, Gives, TurnTells, StepTells}
 use Rattle.wl_worker.proofs.Gaining.{gains_none, ticked_none, rose_none, have_such}
@@ -87,7 +86,7 @@ round_came r s0 s1 s2 s3 s4 o0 o1 o2 o3 o4 heard named turned given =
     (came_then (heard_told r.piece s0) (answers_told r.answers) s1 s2 o0 o1 o2 heard named) turned) given
 
 -- the talk fails with the piece
-pub step_failed : (valid : Ask → Signed → Type 0) (vouched : Ask → List (List ℕ) → JwtToken → Type 0) (socket : ℕ) (before : Around) {piece : List ℕ} {s0 s1 : SessionState} {o0 o1 : List ℕ} {f : ConnFault}
+pub step_failed : (valid : Ask → Signed → Type 0) (vouched : Asker) (socket : ℕ) (before : Around) {piece : List ℕ} {s0 s1 : SessionState} {o0 o1 : List ℕ} {f : ConnFault}
     → FedLast piece s0 s1 o0 o1 f → StepTells valid vouched socket piece s0 s1 o0 o1 before before (Ok tt)
 step_failed valid vouched socket before {piece} {s0} {s1} {o0} {o1} {f} fed =
     let r : Round = record { piece = piece; answers = []; shown = None; outcomes = [] } in
@@ -111,20 +110,19 @@ step_failed valid vouched socket before {piece} {s0} {s1} {o0} {o1} {f} fed =
       signs = gains_none before.signed;
       clock = ticked_none before.times;
       outcomes_are = no_asks (IsOutcome vouched [] []) (turned_session r s0);
-      signer_fails = rose_none before.signer_faults;
+      ask_fails = rose_none before.ask_faults;
       fits = fits;
       seen = λ _. subst (λ (o : Option Publication). IfSome o (λ p. IsIn p before.pass.seen)) (sym fed.none) tt;
       whole = record {
         round = fits;
         named = failed_unnamed (named_session r s0) (faults.Protocol f) fails;
         read = λ goes. absurd (cc (fails, goes));
-        asked = failed_asks (round_told r s0).after (faults.Protocol f) (ap failure_in (sym came.after) ∙ fed.fails);
       };
       came = came;
     }
 
 -- memory runs out with the piece
-pub step_unfed : (valid : Ask → Signed → Type 0) (vouched : Ask → List (List ℕ) → JwtToken → Type 0) (socket : ℕ) (before : Around) (piece : List ℕ) (s0 s1 : SessionState) (o0 o1 : List ℕ) (m : Memory)
+pub step_unfed : (valid : Ask → Signed → Type 0) (vouched : Asker) (socket : ℕ) (before : Around) (piece : List ℕ) (s0 s1 : SessionState) (o0 o1 : List ℕ) (m : Memory)
     → last_shown s1 ≡ None → StepTells valid vouched socket piece s0 s1 o0 o1 before before (Err m)
 step_unfed valid vouched socket before piece s0 s1 o0 o1 m none =
     let r : Round = record { piece = piece; answers = []; shown = None; outcomes = [] } in
@@ -139,7 +137,7 @@ step_unfed valid vouched socket before piece s0 s1 o0 o1 m none =
       signs = gains_none before.signed;
       clock = ticked_none before.times;
       outcomes_are = no_asks (IsOutcome vouched [] []) (turned_session r s0);
-      signer_fails = rose_none before.signer_faults;
+      ask_fails = rose_none before.ask_faults;
       fits = record {
         answers = no_calls (heard_session r s0);
         shown = λ is. nothing_shown is;
@@ -152,7 +150,7 @@ step_unfed valid vouched socket before piece s0 s1 o0 o1 m none =
     }
 
 -- memory runs out with the names, or where nothing was read
-pub step_unread : (valid : Ask → Signed → Type 0) (vouched : Ask → List (List ℕ) → JwtToken → Type 0) (socket : ℕ) (signed : Option (List SignerCall)) (signing : ℕ) (times : Option (List ℕ)) (v w : Passing) (m : Memory)
+pub step_unread : (valid : Ask → Signed → Type 0) (vouched : Asker) (socket : ℕ) (signed : Option (List Delivery)) (signing : ℕ) (times : Option (List ℕ)) (v w : Passing) (m : Memory)
     {piece : List ℕ} {s0 s1 s2 : SessionState} {o0 o1 o2 : List ℕ} {c0 c1 : Option (List AttestorCall)} {n0 n1 : ℕ} {r : Result (Unit {0}) Memory}
     → Fed piece s0 s1 o0 o1 → Attests socket s1 s2 o1 o2 c0 c1 n0 n1 r → w ≡ v
     → StepTells valid vouched socket piece s0 s2 o0 o2 (around c0 n0 signed signing times v) (around c1 n1 signed signing times w) (Err m)
@@ -169,7 +167,7 @@ step_unread valid vouched socket signed signing times v w m {piece} {s0} {s1} {s
       signs = gains_none signed;
       clock = ticked_none times;
       outcomes_are = no_asks (IsOutcome vouched [] []) (turned_session round s0);
-      signer_fails = rose_none signing;
+      ask_fails = rose_none signing;
       fits = record {
         answers = subst (λ (s : SessionState). HaveCalls attests.answers s) fed.came.after attests.have;
         shown = λ is. nothing_shown is;
@@ -216,7 +214,7 @@ read_seen {valid} {v} {w} {p} s reads shows = go (last_shown s) shows
     go (Some last) is = subst (λ (q : Publication). IsIn q w.seen) (sym is) (last_in p w.seen reads.last)
 
 -- memory runs out before the turn, after it was read
-pub step_unturned : (valid : Ask → Signed → Type 0) (vouched : Ask → List (List ℕ) → JwtToken → Type 0) (socket : ℕ) (signed : Option (List SignerCall)) (signing : ℕ) (times : Option (List ℕ)) (m : Memory) (s3 : SessionState) (o3 : List ℕ)
+pub step_unturned : (valid : Ask → Signed → Type 0) (vouched : Asker) (socket : ℕ) (signed : Option (List Delivery)) (signing : ℕ) (times : Option (List ℕ)) (m : Memory) (s3 : SessionState) (o3 : List ℕ)
     {v w : Passing} {p : Publication} {piece : List ℕ} {s0 s1 s2 : SessionState} {o0 o1 o2 : List ℕ} {c0 c1 : Option (List AttestorCall)} {n0 n1 : ℕ}
     → Attested socket piece s0 s1 s2 o0 o1 o2 c0 c1 n0 n1 → Reads valid v p w → (HasSeenLast v.seen s0 → HasSeenLast w.seen s3)
     → StepTells valid vouched socket piece s0 s3 o0 o3 (around c0 n0 signed signing times v) (around c1 n1 signed signing times w) (Err m)
@@ -234,7 +232,7 @@ step_unturned valid vouched socket signed signing times m s3 o3 {v} {w} {p} {pie
       signs = gains_none signed;
       clock = ticked_none times;
       outcomes_are = no_asks (IsOutcome vouched [] []) (turned_session round s0);
-      signer_fails = rose_none signing;
+      ask_fails = rose_none signing;
       fits = record {
         answers = there.have;
         shown = λ _. (there.goes, there.named);
@@ -257,7 +255,7 @@ unturned_seen {valid} {v} {w} {p} {socket} {piece} {s0} {s1} {s2} a reads has =
     seen_longer v.seen w.seen s2 reads.seen (keeps_seen v.seen s0 s2 (keeps_then s0 s1 s2 a.fed.keeps a.attests.keeps) has)
 
 -- memory runs out where the pass is read
-pub step_refused : (valid : Ask → Signed → Type 0) (vouched : Ask → List (List ℕ) → JwtToken → Type 0) (socket : ℕ) (signed : Option (List SignerCall)) (signing : ℕ) (times : Option (List ℕ)) (v w : Passing) (m : Memory)
+pub step_refused : (valid : Ask → Signed → Type 0) (vouched : Asker) (socket : ℕ) (signed : Option (List Delivery)) (signing : ℕ) (times : Option (List ℕ)) (v w : Passing) (m : Memory)
     {piece : List ℕ} {s0 s1 s2 : SessionState} {o0 o1 o2 : List ℕ} {c0 c1 : Option (List AttestorCall)} {n0 n1 : ℕ}
     → Attested socket piece s0 s1 s2 o0 o1 o2 c0 c1 n0 n1 → (w ≡ v) ⊎ ((p : Publication) × Reads valid v p w)
     → StepTells valid vouched socket piece s0 s2 o0 o2 (around c0 n0 signed signing times v) (around c1 n1 signed signing times w) (Err m)
@@ -280,17 +278,17 @@ came_on (Err m) round s0 s1 s2 s3 s4 o0 o1 o2 o3 o4 heard named turned given = t
 came_on (Ok done) round s0 s1 s2 s3 s4 o0 o1 o2 o3 o4 heard named turned given = round_came round s0 s1 s2 s3 s4 o0 o1 o2 o3 o4 heard named turned given
 
 whole_on : (r : Result (Unit {0}) Memory) (round : Round) (s0 s4 : SessionState) (o0 o4 : List ℕ) → IsRound round s0 → unnamed_in (named_session round s0) ≡ None → IsSome round.shown
-    → OnOk r (Came (round_told round s0) s4 o0 o4) → OnOk r (asks_in s4 ≡ None) → OnOk r (IsWhole round s0)
-whole_on (Err m) round s0 s4 o0 o4 fits named shown came none = tt
-whole_on (Ok done) round s0 s4 o0 o4 fits named shown came none =
-    record { round = fits; named = named; read = λ _. shown; asked = ap asks_in (sym came.after) ∙ none }
+    → OnOk r (Came (round_told round s0) s4 o0 o4) → OnOk r (IsWhole round s0)
+whole_on (Err m) round s0 s4 o0 o4 fits named shown came = tt
+whole_on (Ok done) round s0 s4 o0 o4 fits named shown came =
+    record { round = fits; named = named; read = λ _. shown }
 
-pub step_answered : (valid : Ask → Signed → Type 0) (vouched : Ask → List (List ℕ) → JwtToken → Type 0) (socket : ℕ)
+pub step_answered : (valid : Ask → Signed → Type 0) (vouched : Asker) (socket : ℕ)
     {v w : Passing} {p : Publication} {piece : List ℕ} {s0 s1 s2 s3 s4 : SessionState} {o0 o1 o2 o3 o4 : List ℕ} {c0 c1 : Option (List AttestorCall)} {n0 n1 : ℕ}
-    {g0 g1 : Option (List SignerCall)} {f0 f1 : ℕ} {t0 t1 : Option (List ℕ)} {r : Result (Unit {0}) Memory}
-    → Attested socket piece s0 s1 s2 o0 o1 o2 c0 c1 n0 n1 → Reads valid v p w → TurnTells p s2 s3 o2 o3 (Ok tt) → Gives vouched s3 s4 o3 o4 g0 g1 f0 f1 t0 t1 r → OnOk r (asks_in s4 ≡ None)
+    {g0 g1 : Option (List Delivery)} {f0 f1 : ℕ} {t0 t1 : Option (List ℕ)} {r : Result (Unit {0}) Memory}
+    → Attested socket piece s0 s1 s2 o0 o1 o2 c0 c1 n0 n1 → Reads valid v p w → TurnTells p s2 s3 o2 o3 (Ok tt) → Gives vouched s3 s4 o3 o4 g0 g1 f0 f1 t0 t1 r
     → StepTells valid vouched socket piece s0 s4 o0 o4 (around c0 n0 g0 f0 t0 v) (around c1 n1 g1 f1 t1 w) r
-step_answered valid vouched socket {v} {w} {p} {piece} {s0} {s1} {s2} {s3} {s4} {o0} {o1} {o2} {o3} {o4} {c0} {c1} {n0} {n1} {g0} {g1} {f0} {f1} {t0} {t1} {r} a reads turned gives none =
+step_answered valid vouched socket {v} {w} {p} {piece} {s0} {s1} {s2} {s3} {s4} {o0} {o1} {o2} {o3} {o4} {c0} {c1} {n0} {n1} {g0} {g1} {f0} {f1} {t0} {t1} {r} a reads turned gives =
     let round : Round = record { piece = piece; answers = a.attests.answers; shown = Some p; outcomes = gives.outcomes } in
     let there = ready a (Some p) gives.outcomes in
     let shown : Came (shown_told (Some p) s2) s3 o2 o3 = shown_came p s2 s3 o2 o3 turned.came in
@@ -315,9 +313,9 @@ step_answered valid vouched socket {v} {w} {p} {piece} {s0} {s1} {s2} {s3} {s4} 
       signs = gives.signed_is;
       clock = gives.clock;
       outcomes_are = asks;
-      signer_fails = gives.fails;
+      ask_fails = gives.fails;
       fits = fits;
       seen = λ _. keeps_seen w.seen s3 s4 gives.keeps (read_seen s3 reads turned.shows);
-      whole = whole_on r round s0 s4 o0 o4 fits there.named refl came none;
+      whole = whole_on r round s0 s4 o0 o4 fits there.named refl came;
       came = came;
     }

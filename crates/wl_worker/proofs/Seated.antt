@@ -3,18 +3,17 @@ use Rattle.std.specs.Prelude.{◌≡◌, ℕ, ◌<◌, List, ◌++◌, Option, S
 use Rattle.std.proofs.Common.{arith, refl, sym, subst, inl, inr, true≢false}
 use Rattle.wl_entry.specs.declared.asks.Ask.{Ask}
 use Rattle.wl_entry.specs.declared.signing.Signed.{Signed}
-use Rattle.wl_entry.specs.declared.tokens.JwtToken.{JwtToken}
 use Rattle.wl_publish.specs.Listings.{Passing}
 use Rattle.wl_edge.specs.Edge.{Rose}
 use Rattle.wl_edge.specs.Links.{LinkLog}
 use Rattle.wl_edge.specs.Listeners.{ListenerLog}
-use Rattle.wl_edge.specs.declared.signer.SignerCall.{SignerCall}
+use Rattle.ask_mail.specs.declared.mail.Delivery.{Delivery}
 use Rattle.wl_session.specs.Sessions.{SessionState}
 use Rattle.wl_worker.specs.declared.ended.Ended.{Ended}
 use Rattle.wl_worker.specs.declared.ended.Ended.TheVariants as ended
 use Rattle.wl_worker.specs.declared.ended.RoundEnd.{RoundEnd}
 use Rattle.wl_worker.specs.declared.ended.RoundEnd.TheVariants as ends
-use Rattle.wl_worker.specs.Outcomes.{IsOutcome}
+use Rattle.wl_worker.specs.Outcomes.{Asker, IsOutcome}
 use Rattle.wl_worker.specs.Rounds.{Round, session_after, AreOutcomes}
 use Rattle.wl_worker.specs.Served.{Around, ServedState, Stands, Began, StandsAt, log_on, OutcomesBy, ReadBy, RoundTells}
 use Rattle.wl_worker.specs.Tended.{TookAllUnless, seat_world}
@@ -24,7 +23,7 @@ use Rattle.wl_worker.proofs.Coming.{came_closed, came_failed}
 use Rattle.wl_worker.proofs.Connecting.{outcomes_on, outcomes_by_such}
 use Rattle.wl_worker.proofs.Holding.{Adds, passed, outcomes_longer}
 
-module _ (valid : Ask → Signed → Type 0) (vouched : Ask → List (List ℕ) → JwtToken → Type 0) (socket : ℕ) (old new : ServedState) (log_before log_now : Option LinkLog) (before now : Around) (end : RoundEnd) (round : RoundTells valid vouched socket old new log_before log_now before now end) where
+module _ (valid : Ask → Signed → Type 0) (vouched : Asker) (socket : ℕ) (old new : ServedState) (log_before log_now : Option LinkLog) (before now : Around) (end : RoundEnd) (round : RoundTells valid vouched socket old new log_before log_now before now end) where
   -- what the round adds to the seat
   pub adds : (listener : Option ListenerLog) → Adds socket (seat_world listener before) (seat_world listener now) round.added round.signed round.times
   adds listener =
@@ -35,11 +34,11 @@ module _ (valid : Ask → Signed → Type 0) (vouched : Ask → List (List ℕ) 
         pass = passed valid round.added before.pass now.pass round.read;
         signs = round.signs;
         clock = round.clock;
-        signer_fails = round.signer_fails;
+        ask_fails = round.ask_fails;
       }
 
 -- the outcomes of the round, beside those of the rounds before it
-judged_by : (valid : Ask → Signed → Type 0) (vouched : Ask → List (List ℕ) → JwtToken → Type 0) (signed more : List SignerCall) (times later : List ℕ) (added past : List Round) (s : SessionState) (v w : Passing) → s ≡ session_after past → ReadBy valid added v w
+judged_by : (valid : Ask → Signed → Type 0) (vouched : Asker) (signed more : List Delivery) (times later : List ℕ) (added past : List Round) (s : SessionState) (v w : Passing) → s ≡ session_after past → ReadBy valid added v w
     → OutcomesBy (IsOutcome vouched more later) added s → AreOutcomes (IsOutcome vouched signed times) past → AreOutcomes (IsOutcome vouched (signed ++ more) (times ++ later)) (added ++ past)
 judged_by valid vouched signed more times later added past s v w is read outcomes all =
     let P = IsOutcome vouched (signed ++ more) (times ++ later) in
@@ -52,9 +51,9 @@ above_none : (before now : ℕ) → Rose before now → 0 < now
 above_none before now (inl less) = omega (arith, less)
 above_none before now (inr end) = omega (arith, end)
 
-module _ (valid : Ask → Signed → Type 0) (vouched : Ask → List (List ℕ) → JwtToken → Type 0) (socket : ℕ) (old new : ServedState) (log : LinkLog) (log_now : Option LinkLog) (before now : Around) where
+module _ (valid : Ask → Signed → Type 0) (vouched : Asker) (socket : ℕ) (old new : ServedState) (log : LinkLog) (log_now : Option LinkLog) (before now : Around) where
   -- what the link stands for after the round
-  gone_on : (end : RoundEnd) (round : RoundTells valid vouched socket old new (Some log) log_now before now end) (signed : List SignerCall) (times : List ℕ) (past : List Round)
+  gone_on : (end : RoundEnd) (round : RoundTells valid vouched socket old new (Some log) log_now before now end) (signed : List Delivery) (times : List ℕ) (past : List Round)
       → Stands log old before.pass.seen past → AreOutcomes (IsOutcome vouched signed times) past
       → StandsAt end (log_on log round.heards round.took) new now.pass.seen (round.added ++ past) × AreOutcomes (IsOutcome vouched (signed ++ round.signed) (times ++ round.times)) (round.added ++ past)
   gone_on end round signed times past stands all = (
@@ -63,7 +62,7 @@ module _ (valid : Ask → Signed → Type 0) (vouched : Ask → List (List ℕ) 
   )
 
   -- a round that ended the connection, but not for want of memory
-  fully_on : (e : Ended) (round : RoundTells valid vouched socket old new (Some log) log_now before now (ends.Ended e)) (signed : List SignerCall) (times : List ℕ) (past : List Round) (receives failed_receives sends failed_sends : ℕ)
+  fully_on : (e : Ended) (round : RoundTells valid vouched socket old new (Some log) log_now before now (ends.Ended e)) (signed : List Delivery) (times : List ℕ) (past : List Round) (receives failed_receives sends failed_sends : ℕ)
       → (e ≡ ended.Memory → ⊥) → (ends.Ended e ≡ ends.Ended ended.ReadFault → Rose receives failed_receives) → (ends.Ended e ≡ ends.Ended ended.WriteFault → Rose sends failed_sends)
       → Stands log old before.pass.seen past → AreOutcomes (IsOutcome vouched signed times) past
       → Began (log_on log round.heards round.took) now.pass.seen (round.added ++ past) × AreOutcomes (IsOutcome vouched (signed ++ round.signed) (times ++ round.times)) (round.added ++ past) × TookAllUnless failed_receives failed_sends (log_on log round.heards round.took) (round.added ++ past)
@@ -85,8 +84,8 @@ module _ (valid : Ask → Signed → Type 0) (vouched : Ask → List (List ℕ) 
 
 -- ---- the same of a link that tells its content
 
-module _ (valid : Ask → Signed → Type 0) (vouched : Ask → List (List ℕ) → JwtToken → Type 0) (socket : ℕ) (old new : ServedState) (log_now : Option LinkLog) (before now : Around) where
-  pub stands_on : (told : Option LinkLog) (end : RoundEnd) (round : RoundTells valid vouched socket old new told log_now before now end) (signed : List SignerCall) (times : List ℕ) (past : List Round)
+module _ (valid : Ask → Signed → Type 0) (vouched : Asker) (socket : ℕ) (old new : ServedState) (log_now : Option LinkLog) (before now : Around) where
+  pub stands_on : (told : Option LinkLog) (end : RoundEnd) (round : RoundTells valid vouched socket old new told log_now before now end) (signed : List Delivery) (times : List ℕ) (past : List Round)
       → IsSome told → IfSome told (λ log. Stands log old before.pass.seen past × AreOutcomes (IsOutcome vouched signed times) past)
       → IfSome log_now (λ log. StandsAt end log new now.pass.seen (round.added ++ past) × AreOutcomes (IsOutcome vouched (signed ++ round.signed) (times ++ round.times)) (round.added ++ past))
   stands_on None end round signed times past tells stands = absurd (true≢false (sym tells))
@@ -94,7 +93,7 @@ module _ (valid : Ask → Signed → Type 0) (vouched : Ask → List (List ℕ) 
       subst (λ (m : Option LinkLog). IfSome m (λ l. StandsAt end l new now.pass.seen (round.added ++ past) × AreOutcomes (IsOutcome vouched (signed ++ round.signed) (times ++ round.times)) (round.added ++ past))) (sym round.link)
       (gone_on valid vouched socket old new log log_now before now end round signed times past stands.0 stands.1)
 
-  pub took_fully : (told : Option LinkLog) (e : Ended) (round : RoundTells valid vouched socket old new told log_now before now (ends.Ended e)) (signed : List SignerCall) (times : List ℕ) (past : List Round) (receives failed_receives sends failed_sends : ℕ)
+  pub took_fully : (told : Option LinkLog) (e : Ended) (round : RoundTells valid vouched socket old new told log_now before now (ends.Ended e)) (signed : List Delivery) (times : List ℕ) (past : List Round) (receives failed_receives sends failed_sends : ℕ)
       → (e ≡ ended.Memory → ⊥) → (ends.Ended e ≡ ends.Ended ended.ReadFault → Rose receives failed_receives) → (ends.Ended e ≡ ends.Ended ended.WriteFault → Rose sends failed_sends)
       → IsSome told → IfSome told (λ log. Stands log old before.pass.seen past × AreOutcomes (IsOutcome vouched signed times) past)
       → IfSome log_now (λ log. Began log now.pass.seen (round.added ++ past) × AreOutcomes (IsOutcome vouched (signed ++ round.signed) (times ++ round.times)) (round.added ++ past) × TookAllUnless failed_receives failed_sends log (round.added ++ past))

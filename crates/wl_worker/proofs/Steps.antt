@@ -5,8 +5,6 @@ use Rattle.std.proofs.lemmas.List.{append-nil, map-append}
 use Rattle.h2_conn.specs.declared.fault.ConnFault.{ConnFault}
 use Rattle.h2_frame.specs.Reading.{End, reading_from}
 use Rattle.wl_octets.specs.declared.memory.Memory.{Memory}
-use Rattle.wl_entry.specs.declared.asks.Ask.{Ask}
-use Rattle.wl_entry.specs.declared.tokens.JwtToken.{JwtToken}
 use Rattle.wl_snapshot.specs.Snapshots.{Publication}
 use Rattle.wl_session.specs.Talks.{Talking}
 use Rattle.wl_session.specs.declared.asks.JwtAsk.{JwtAsk}
@@ -16,10 +14,10 @@ use Rattle.wl_session.specs.declared.asks.SessionFault.TheVariants as faults
 use Rattle.wl_session.specs.Sessions.{SessionState, Running, Fallen, OutOfMemory, state_of_fault, feed_said, unnamed_in, asks_in, failure_in, Feeds, Names, Turns, GivesOutcome}
 use Rattle.wl_session.specs.Steps.{Told, quiet, turn_told, outcome_told}
 use Rattle.wl_edge.specs.declared.attestor.AttestorCall.{AttestorCall}
-use Rattle.wl_edge.specs.declared.signer.SignerCall.{SignerCall}
+use Rattle.ask_mail.specs.declared.mail.Delivery.{Delivery}
 use Rattle.wl_worker.specs.Rounds.{then_told, heard_told, name_told, name_told_at, answer_told, answers_told, given_told_at, given_told, outcomes_told, HaveCalls, HaveAsks}
 use Rattle.wl_worker.specs.Counts.{RoseBy}
-use Rattle.wl_worker.specs.Outcomes.{unanswered, unsigned, GainsAll, attestor_call, attestor_calls, IsOutcome}
+use Rattle.wl_worker.specs.Outcomes.{Asker, unanswered, unsigned, GainsAll, attestor_call, attestor_calls, IsOutcome}
 use Rattle.wl_worker.specs.Served.{last_shown}
 use Rattle.wl_worker.specs.Stepping.{Came, KeepsLast, Attests, Gives, TurnTells}
 use Rattle.wl_worker.proofs.Gaining.{gains_none, gains_then, ticked_none, ticked_then, rose_none, rose_then, unanswered_append, unsigned_append, in_front, in_back, outcome_grows, have_such}
@@ -128,6 +126,12 @@ pub fed_last : (piece : List ℕ) (s new : SessionState) (f : ConnFault) (o n : 
 fed_last piece (Running e t shown) new f o n feeds = last_by piece e t shown f new o n feeds
 fed_last piece (Fallen g begun) new f o n feeds = last_fallen piece g f begun new o n (cc feeds.0) feeds.1 feeds.2
 fed_last piece OutOfMemory new f o n feeds = absurd (cc feeds.0)
+
+-- a talk that has failed has no ask that waits
+pub asks_gone : (s : SessionState) (f : SessionFault) → failure_in s ≡ Some f → asks_in s ≡ None
+asks_gone (Running e t shown) f fails = absurd (cc fails)
+asks_gone (Fallen g begun) f fails = refl
+asks_gone OutOfMemory f fails = refl
 
 -- out of memory nothing was shown
 pub fed_none : (piece : List ℕ) (s new : SessionState) (o n : List ℕ) → Feeds piece s (Err faults.Memory) o n new → last_shown new ≡ None
@@ -254,8 +258,8 @@ attests_then socket a b c o p q x y z k m n r one other =
         subst (λ (told : Told). Came told c o q) (sym (answers_append one.answers other.answers a))
         (came_then (answers_told one.answers a) (answers_told other.answers) b c o p q one.came came)
 
-pub gives_then : (vouched : Ask → List (List ℕ) → JwtToken → Type 0) (a b c : SessionState) (o p q : List ℕ) (x y z : Option (List SignerCall)) (k m n : ℕ) (t u v : Option (List ℕ)) (r : Result (Unit {0}) Memory)
-    → Gives vouched a b o p x y k m t u (Ok tt) → Gives vouched b c p q y z m n u v r → Gives vouched a c o q x z k n t v r
+pub gives_then : (vouched : Asker) (a b c : SessionState) (o p q : List ℕ) (x y z : Option (List Delivery)) (k m n : ℕ) (t u v : Option (List ℕ)) (r : Result (Unit {0}) Memory)
+    → Gives {A = Unit {0}} vouched a b o p x y k m t u (Ok tt) → Gives vouched b c p q y z m n u v r → Gives vouched a c o q x z k n t v r
 gives_then vouched a b c o p q x y z k m n t u v r one other =
     let signs = one.signs ++ other.signs in
     let ticks = one.ticks ++ other.ticks in
@@ -296,7 +300,18 @@ attests_none socket s out told count =
       came = quiet_came s out;
     }
 
-pub gives_none : (vouched : Ask → List (List ℕ) → JwtToken → Type 0) (s : SessionState) (out : List ℕ) (told : Option (List SignerCall)) (count : ℕ) (times : Option (List ℕ)) → Gives vouched s s out out told told count count times times (Ok tt)
+-- whatever was answered beside it
+pub gives_as : {A B : Type 0} (vouched : Asker) (a b : SessionState) (o p : List ℕ) (x y : Option (List Delivery)) (k m : ℕ) (t u : Option (List ℕ)) (one : A) (other : B)
+    → Gives {A = A} vouched a b o p x y k m t u (Ok one) → Gives {A = B} vouched a b o p x y k m t u (Ok other)
+gives_as vouched a b o p x y k m t u one other is =
+    record { outcomes = is.outcomes; signs = is.signs; ticks = is.ticks; signed_is = is.signed_is; clock = is.clock; fails = is.fails; have = is.have; keeps = is.keeps; came = is.came }
+
+pub gives_failed : {A B : Type 0} (vouched : Asker) (a b : SessionState) (o p : List ℕ) (x y : Option (List Delivery)) (k m : ℕ) (t u : Option (List ℕ)) (one other : Memory)
+    → Gives {A = A} vouched a b o p x y k m t u (Err one) → Gives {A = B} vouched a b o p x y k m t u (Err other)
+gives_failed vouched a b o p x y k m t u one other is =
+    record { outcomes = is.outcomes; signs = is.signs; ticks = is.ticks; signed_is = is.signed_is; clock = is.clock; fails = is.fails; have = is.have; keeps = is.keeps; came = tt }
+
+pub gives_none : (vouched : Asker) (s : SessionState) (out : List ℕ) (told : Option (List Delivery)) (count : ℕ) (times : Option (List ℕ)) → Gives {A = Unit {0}} vouched s s out out told told count count times times (Ok tt)
 unfolding HaveAsks outcomes_told
 gives_none vouched s out told count times =
     record {

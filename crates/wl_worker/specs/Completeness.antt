@@ -1,14 +1,12 @@
 -- Completeness of a served connection (own rule).
 use Rattle.std.specs.Prelude.{◌≡◌, ℕ, List, Option}
-use Rattle.wl_entry.specs.declared.asks.Ask.{Ask}
-use Rattle.wl_entry.specs.declared.tokens.JwtToken.{JwtToken}
 use Rattle.wl_edge.specs.Edge.{Rose}
 use Rattle.wl_edge.specs.Links.{LinkLog}
 use Rattle.wl_session.specs.Items.{talk}
 use Rattle.wl_worker.specs.declared.ended.Ended.{Ended}
 use Rattle.wl_worker.specs.declared.ended.Ended.TheVariants as ended
 use Rattle.wl_worker.specs.Rounds.{Round, trace, answers, outcomes}
-use Rattle.wl_worker.specs.Outcomes.{unanswered, unsigned}
+use Rattle.wl_worker.specs.Outcomes.{Asker, unanswered, unsigned}
 use Rattle.wl_worker.specs.Served.{Around}
 use Rattle.wl_worker.specs.Connections.{ConnectionTells}
 
@@ -36,14 +34,14 @@ pub record LinkFaults : Type 0 where
 abbrev pub link_faults : ℕ → ℕ → LinkFaults
 link_faults receives sends = record { receives = receives; sends = sends }
 
--- no count of the link, the attestor and the signer rose
+-- no count of the link, the attestor and the asks rose
 pub record NoneRose (link_before link_now : LinkFaults) (before now : Around) : Type 0 where
   pub receives : Rose link_before.receives link_now.receives → ⊥
   pub sends : Rose link_before.sends link_now.sends → ⊥
   pub attestor : Rose before.attestor_faults now.attestor_faults → ⊥
-  pub signer : Rose before.signer_faults now.signer_faults → ⊥
+  pub asks : Rose before.ask_faults now.ask_faults → ⊥
 
 -- Then whatever its rounds and the bytes that the link took, by what a connection tells, it is complete.
-abbrev pub Completes : (Ask → List (List ℕ) → JwtToken → Type 0) → ℕ → Option LinkLog → Option LinkLog → LinkFaults → LinkFaults → Around → Around → Ended → Type 0
-Completes vouched socket log_before log_now link_before link_now before now end =
-    NoneRose link_before link_now before now → (tells : ConnectionTells vouched socket log_before log_now before now end) → IsComplete end tells.took tells.past
+abbrev pub Completes : Asker → ℕ → Option LinkLog → Option LinkLog → LinkFaults → LinkFaults → Around → Around → Ended → Type 0
+Completes by socket log_before log_now link_before link_now before now end =
+    NoneRose link_before link_now before now → (tells : ConnectionTells by socket log_before log_now before now end) → IsComplete end tells.took tells.past

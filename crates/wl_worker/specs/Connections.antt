@@ -2,14 +2,12 @@
 use Rattle.std.specs.Prelude.{◌≡◌, ◌⊎◌, ◌+◌, ℕ, true, List, [], ◌∷◌, ◌++◌, length, Option, Some}
 use mathlib.Core.List.{IsPrefix}
 use Rattle.list_laws.specs.Lists.{BeginsWith}
-use Rattle.wl_entry.specs.declared.asks.Ask.{Ask}
-use Rattle.wl_entry.specs.declared.tokens.JwtToken.{JwtToken}
 use Rattle.wl_snapshot.specs.Snapshots.{Publication}
 use Rattle.wl_publish.specs.Lists.{NonFallingFrom}
 use Rattle.wl_edge.specs.Links.{LinkLog}
 use Rattle.wl_edge.specs.declared.link.Heard.{Heard}
 use Rattle.wl_edge.specs.declared.link.Heard.TheVariants as heard
-use Rattle.wl_edge.specs.declared.signer.SignerCall.{SignerCall}
+use Rattle.ask_mail.specs.declared.mail.Delivery.{Delivery}
 use Rattle.wl_session.specs.declared.asks.SessionFault.TheVariants as faults
 use Rattle.wl_session.specs.Sessions.{is_done_in, failure_in}
 use Rattle.wl_session.specs.Items.{talk}
@@ -17,7 +15,7 @@ use Rattle.wl_worker.specs.declared.ended.Ended.{Ended}
 use Rattle.wl_worker.specs.declared.ended.Ended.TheVariants as ended
 use Rattle.wl_worker.specs.Rounds.{Round, session_after, trace, pieces, numbers, answers, outcomes, AreWhole, AreRounds, AreOutcomes, AreKnown, IsIn, pieces_given}
 use Rattle.wl_worker.specs.Counts.{RoseBy}
-use Rattle.wl_worker.specs.Outcomes.{unanswered, unsigned, GainsAll, Ticked, attestor_calls, IsOutcome}
+use Rattle.wl_worker.specs.Outcomes.{Asker, unanswered, unsigned, GainsAll, Ticked, attestor_calls, IsOutcome}
 use Rattle.wl_worker.specs.Served.{Around, LinkGains, ServedState, Stands}
 
 -- the link gave its end
@@ -37,9 +35,9 @@ CameTo ended.WriteFault heards took past = BeginsWith (talk (trace past)) took �
 CameTo ended.Memory heards took past = BeginsWith (talk (trace past)) took × AreRounds past
 
 -- What the rounds of a connection took from the outside. The answers are the attestor's to the socket; the
--- numbers are those by which the pass's grew; the outcomes are the signer's answers or kept tokens; no more
--- answers and outcomes are failures than the counts rose.
-pub record Gathers (vouched : Ask → List (List ℕ) → JwtToken → Type 0) (socket : ℕ) (log_before log_now : Option LinkLog) (before now : Around) (heards : List Heard) (took : List ℕ) (past : List Round) (signed : List SignerCall) (times : List ℕ) : Type 0 where
+-- numbers are those by which the pass's grew; the outcomes are what came for the connection, or kept tokens; no
+-- more answers and outcomes are failures than the counts rose.
+pub record Gathers (vouched : Asker) (socket : ℕ) (log_before log_now : Option LinkLog) (before now : Around) (heards : List Heard) (took : List ℕ) (past : List Round) (signed : List Delivery) (times : List ℕ) : Type 0 where
   pub link : LinkGains log_before log_now heards took
   pub attested : GainsAll before.attested now.attested (attestor_calls socket (answers past))
   pub attestor_fails : RoseBy (unanswered (answers past)) before.attestor_faults now.attestor_faults
@@ -48,16 +46,16 @@ pub record Gathers (vouched : Ask → List (List ℕ) → JwtToken → Type 0) (
   pub signs : GainsAll before.signed now.signed signed
   pub clock : Ticked before.times now.times times
   pub outcomes_are : AreOutcomes (IsOutcome vouched signed times) past
-  pub signer_fails : RoseBy (unsigned (outcomes past)) before.signer_faults now.signer_faults
+  pub ask_fails : RoseBy (unsigned (outcomes past)) before.ask_faults now.ask_faults
   -- they do not fall, and are not below what had been seen before
   pub recent : (p : Publication) → IsIn p before.pass.seen → NonFallingFrom p.number (numbers past)
 
 -- A served connection: its rounds, what they took, and what it came to.
-pub record ConnectionTells (vouched : Ask → List (List ℕ) → JwtToken → Type 0) (socket : ℕ) (log_before log_now : Option LinkLog) (before now : Around) (end : Ended) : Type 0 where
+pub record ConnectionTells (vouched : Asker) (socket : ℕ) (log_before log_now : Option LinkLog) (before now : Around) (end : Ended) : Type 0 where
   pub heards : List Heard
   pub took : List ℕ
   pub past : List Round
-  pub signed : List SignerCall
+  pub signed : List Delivery
   pub times : List ℕ
   pub gathers : Gathers vouched socket log_before log_now before now heards took past signed times
   pub pieces_are : pieces_given heards ≡ pieces past
@@ -66,11 +64,11 @@ pub record ConnectionTells (vouched : Ask → List (List ℕ) → JwtToken → T
   pub came_to : CameTo end heards took past
 
 -- between two rounds
-pub record Serving (vouched : Ask → List (List ℕ) → JwtToken → Type 0) (socket : ℕ) (served : ServedState) (log_before log_now : Option LinkLog) (before now : Around) : Type 0 where
+pub record Serving (vouched : Asker) (socket : ℕ) (served : ServedState) (log_before log_now : Option LinkLog) (before now : Around) : Type 0 where
   pub heards : List Heard
   pub took : List ℕ
   pub past : List Round
-  pub signed : List SignerCall
+  pub signed : List Delivery
   pub times : List ℕ
   pub gathers : Gathers vouched socket log_before log_now before now heards took past signed times
   pub stands : Stands (record { gave = heards; took = took }) served now.pass.seen past

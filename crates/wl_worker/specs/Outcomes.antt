@@ -4,9 +4,9 @@ use Rattle.wl_selector.specs.Selectors.{sorted_texts}
 use Rattle.wl_entry.specs.Fitness.{token_unfit, is_still_fresh}
 use Rattle.wl_entry.specs.declared.asks.Ask.{Ask}
 use Rattle.wl_entry.specs.declared.tokens.JwtToken.{JwtToken}
+use Rattle.ask_mail.specs.Mail.{delivery}
 use Rattle.wl_edge.specs.declared.attestor.AttestorCall.{AttestorCall}
-use Rattle.wl_edge.specs.declared.signer.SignerCall.{SignerCall}
-use Rattle.wl_edge.specs.declared.signer.SignerCall.TheVariants as calls
+use Rattle.ask_mail.specs.declared.mail.Delivery.{Delivery}
 use Rattle.wl_session.specs.declared.asks.JwtAsk.{JwtAsk}
 use Rattle.wl_session.specs.declared.asks.JwtOutcome.{JwtOutcome}
 use Rattle.wl_session.specs.declared.asks.JwtOutcome.TheVariants as outcomes
@@ -20,7 +20,7 @@ unanswered [] = 0
 unanswered (None ∷ more) = 1 + unanswered more
 unanswered (Some selectors ∷ more) = unanswered more
 
--- how many outcomes are that the signer failed
+-- how many outcomes are that the ask failed
 abbrev pub unsigned : List JwtOutcome → ℕ
 unsigned [] = 0
 unsigned (outcomes.Token t ∷ more) = unsigned more
@@ -46,17 +46,25 @@ attestor_calls socket answers = map (attestor_call socket) answers
 
 -- ---- what an ask gets
 
--- the signer was asked for a token for this ask and its audiences, and answered so
-abbrev pub WasSigned : List SignerCall → JwtAsk → Option JwtToken → Type 0
-WasSigned signed a answer = IsIn (calls.Jwt a.ask a.audience answer) signed
+-- Whose asks they are, by the number of the connection, and in which way tokens are vouched for.
+pub record Asker : Type 1 where
+  pub connection : ℕ
+  pub token : Ask → List (List ℕ) → JwtToken → Type 0
 
--- The outcome of an ask, where the signer got these calls, the clock answered these times, and tokens are
--- vouched for in this way: the signer's answer to that very ask, judged at one of the times; or a vouched
--- token that is still fresh then; or that the signer failed.
-abbrev pub IsOutcome : (Ask → List (List ℕ) → JwtToken → Type 0) → List SignerCall → List ℕ → JwtAsk → JwtOutcome → Type 0
-IsOutcome vouched signed times a (outcomes.Token t) =
-    vouched a.ask (sorted_texts a.audience) t
-    × ((now : ℕ) × IsIn now times × ((WasSigned signed a (Some t) × (token_unfit now t ≡ None)) ⊎ (is_still_fresh now t ≡ true)))
-IsOutcome vouched signed times a (outcomes.Unfit u) =
-    (now : ℕ) × IsIn now times × ((t : JwtToken) × WasSigned signed a (Some t) × (token_unfit now t ≡ Some u))
-IsOutcome vouched signed times a outcomes.Failed = WasSigned signed a None
+abbrev pub asker : ℕ → (Ask → List (List ℕ) → JwtToken → Type 0) → Asker
+asker connection token = record { connection = connection; token = token }
+
+-- this answer came for this ask and its audiences of this connection
+abbrev pub WasAnswered : List Delivery → ℕ → JwtAsk → Option JwtToken → Type 0
+WasAnswered taken connection a answer = IsIn (delivery connection a.ask a.audience answer) taken
+
+-- The outcome of an ask, where these deliveries were taken, the clock answered these times, and tokens are
+-- vouched for in this way: what came for that very ask of that connection, judged at one of the times; or a
+-- vouched token that is still fresh then; or that there is none.
+abbrev pub IsOutcome : Asker → List Delivery → List ℕ → JwtAsk → JwtOutcome → Type 0
+IsOutcome by taken times a (outcomes.Token t) =
+    by.token a.ask (sorted_texts a.audience) t
+    × ((now : ℕ) × IsIn now times × ((WasAnswered taken by.connection a (Some t) × (token_unfit now t ≡ None)) ⊎ (is_still_fresh now t ≡ true)))
+IsOutcome by taken times a (outcomes.Unfit u) =
+    (now : ℕ) × IsIn now times × ((t : JwtToken) × WasAnswered taken by.connection a (Some t) × (token_unfit now t ≡ Some u))
+IsOutcome by taken times a outcomes.Failed = WasAnswered taken by.connection a None

@@ -154,12 +154,11 @@ pub record IsRound (r : Round) (s : SessionState) : Type 0 where
   pub later : r.shown ≡ None → r.outcomes ≡ []
 
 -- A whole round: each call that became ready has its answer, one publication is read unless the talk has
--- failed, and each ask has its outcome.
+-- failed. An ask may wait on.
 pub record IsWhole (r : Round) (s : SessionState) : Type 0 where
   pub round : IsRound r s
   pub named : unnamed_in (named_session r s) ≡ None
   pub read : failure_in (named_session r s) ≡ None → IsSome r.shown
-  pub asked : asks_in (round_told r s).after ≡ None
 
 -- ---- all rounds, the newest first
 
@@ -173,8 +172,8 @@ abbrev pub trace : List Round → List Item
 trace [] = []
 trace (r ∷ past) = trace past ++ round_items r (session_after past) (trace past)
 
--- what was taken from the outside, each in its order: pieces, the attestor's answers, numbers read, and
--- outcomes
+-- what was taken from the outside, each in its order: pieces, the attestor's answers, numbers read, outcomes,
+-- and looks for them
 abbrev pub pieces : List Round → List (List ℕ)
 pieces [] = []
 pieces (r ∷ past) = pieces past ++ r.piece ∷ []
@@ -194,6 +193,22 @@ numbers (r ∷ past) = numbers past ++ number_of r.shown
 abbrev pub outcomes : List Round → List JwtOutcome
 outcomes [] = []
 outcomes (r ∷ past) = outcomes past ++ r.outcomes
+
+-- each look for the outcome of the ask that waits: one that found it, and one that found none, at which a round stops
+abbrev pub still : Option JwtAsk → List (Option JwtOutcome)
+still None = []
+still (Some a) = None ∷ []
+
+abbrev pub found : List JwtOutcome → List (Option JwtOutcome)
+found [] = []
+found (o ∷ more) = Some o ∷ found more
+
+unfoldable pub looks_of : Round → SessionState → List (Option JwtOutcome)
+looks_of r s = found r.outcomes ++ still (asks_in (round_told r s).after)
+
+abbrev pub looks : List Round → List (Option JwtOutcome)
+looks [] = []
+looks (r ∷ past) = looks past ++ looks_of r (session_after past)
 
 -- a session goes on: its talk has not failed and is not done
 abbrev pub GoesOn : SessionState → Type 0
@@ -238,8 +253,8 @@ pieces_given (heard.Failed ∷ more) = pieces_given more
 
 -- ---- the rounds are determined (law)
 
--- Whole rounds that took the same pieces, answers, numbers of these publications, and outcomes from the outside are the
--- same, and so is their trace.
+-- Whole rounds that took the same pieces, answers, numbers of these publications, and looks for outcomes from the
+-- outside are the same, and so is their trace.
 abbrev pub RoundsAreDetermined : Type 0
 RoundsAreDetermined = (seen : List Publication) (past other : List Round) → Numbered seen → AreWhole past → AreWhole other → AreKnown seen past → AreKnown seen other
-    → pieces past ≡ pieces other → answers past ≡ answers other → numbers past ≡ numbers other → outcomes past ≡ outcomes other → past ≡ other
+    → pieces past ≡ pieces other → answers past ≡ answers other → numbers past ≡ numbers other → looks past ≡ looks other → past ≡ other

@@ -12,7 +12,7 @@ use Rattle.wl_edge.specs.declared.fault.EdgeFault.{EdgeFault}
 use Rattle.wl_edge.specs.declared.fault.EdgeFault.TheVariants as edge
 use Rattle.wl_edge.specs.Listeners.{ListenerLog, FinishedLink, links_given}
 use Rattle.wl_edge.specs.declared.listener.AcceptKind.{AcceptKind}
-use Rattle.wl_edge.specs.declared.signer.SignerCall.{SignerCall}
+use Rattle.ask_mail.specs.declared.mail.Delivery.{Delivery}
 use Rattle.wl_worker.specs.Owners.{items_of}
 use Rattle.wl_worker.specs.Numbering.{Numbered, none_apart}
 use Rattle.wl_worker.specs.Rounds.{Round}
@@ -27,28 +27,30 @@ use Rattle.wl_worker.specs.declared.step.Step.TheVariants as step
 
 -- ---- what is seen
 
--- a link that is served
+-- a link that is served, and the number of its connection
 pub record Under : Type 0 where
+  pub connection : ℕ
   pub link : FinishedLink
   pub served : ServedState
 
 abbrev pub finished_link : Option LinkLog → ℕ → ℕ → ℕ → FinishedLink
 finished_link log failed_receives failed_sends stalls = record { log = log; failed_receives = failed_receives; failed_sends = failed_sends; stalls = stalls }
 
-abbrev pub under : FinishedLink → ServedState → Under
-under link served = record { link = link; served = served }
+abbrev pub under : ℕ → FinishedLink → ServedState → Under
+under connection link served = record { connection = connection; link = link; served = served }
 
--- a seat with its pass
+-- a seat with its pass; `next` is the number of the next connection
 pub record SeatView : Type 0 where
   pub socket : ℕ
   pub room : ℕ
+  pub next : ℕ
   pub listener_faults : ℕ
   pub ready_faults : ℕ
   pub world : SeatWorld
 
-abbrev pub seat_view : ℕ → ℕ → ℕ → ℕ → SeatWorld → SeatView
-seat_view socket room listener_faults ready_faults world =
-    record { socket = socket; room = room; listener_faults = listener_faults; ready_faults = ready_faults; world = world }
+abbrev pub seat_view : ℕ → ℕ → ℕ → ℕ → ℕ → SeatWorld → SeatView
+seat_view socket room next listener_faults ready_faults world =
+    record { socket = socket; room = room; next = next; listener_faults = listener_faults; ready_faults = ready_faults; world = world }
 
 abbrev pub seen_by : SeatView → List Publication
 seen_by w = w.world.around.pass.seen
@@ -152,18 +154,18 @@ pub record EndedBy (old new : SeatView) (links_before links_now : List Under) (e
 
 -- ---- what holds of all links of a seat
 
--- It stands between two of its rounds.
-abbrev pub Runs : Known → Under → List Round → Type 0
-Runs k u past = IfSome u.link.log (λ log. Stands log u.served k.seen past × AreJudged k past)
+-- It has this number, and stands between two of its rounds.
+abbrev pub Runs : Known → ℕ → Under → List Round → Type 0
+Runs k n u past = (u.connection ≡ n) × IfSome u.link.log (λ log. Stands log u.served k.seen past × AreJudged k n past)
 
--- A seat while it serves: the links under way, in their order, and so many that were finished as they stood.
-pub record Tending (vouched : Ask → List (List ℕ) → JwtToken → Type 0) (socket : ℕ) (old new : SeatWorld) (broken : ℕ) (links : List Under) : Type 0 where
+-- A seat while it serves: the links under way, in their order, and so many that were finished as they stood. No link has a number
+-- from `next` on.
+pub record Tending (vouched : Ask → List (List ℕ) → JwtToken → Type 0) (socket next : ℕ) (old new : SeatWorld) (broken : ℕ) (links : List Under) : Type 0 where
   pub running : List (ℕ × Under)
   pub fulls : List (ℕ × FinishedLink)
   pub lates : List (ℕ × FinishedLink)
   pub rounds : List (ℕ × Round)
-  pub next : ℕ
-  pub signed : List SignerCall
+  pub signed : List Delivery
   pub times : List ℕ
   pub links_are : items_of running ≡ links
   pub count : length lates ≡ broken
@@ -174,15 +176,15 @@ pub record Tending (vouched : Ask → List (List ℕ) → JwtToken → Type 0) (
 module _ (vouched : Ask → List (List ℕ) → JwtToken → Type 0) (first : SeatWorld) where
   -- it goes on
   abbrev pub TendsOn : SeatView → List Under → Type 0
-  TendsOn w links = Tending vouched w.socket first w.world 0 links × (length links ≤ w.room)
+  TendsOn w links = Tending vouched w.socket w.next first w.world 0 links × (length links ≤ w.room)
 
   -- It has ended, but for these links; with those that it finished as they stood they are no more than its room.
   abbrev pub TendsRest : SeatView → List Under → Type 0
-  TendsRest w links = (broken : ℕ) × Tending vouched w.socket first w.world broken links × (broken + length links ≤ w.room)
+  TendsRest w links = (broken : ℕ) × Tending vouched w.socket w.next first w.world broken links × (broken + length links ≤ w.room)
 
   -- The same, where those links and these are so many together.
   abbrev pub TendsLast : SeatView → ℕ → List Under → Type 0
-  TendsLast w n links = (broken : ℕ) × Tending vouched w.socket first w.world broken links × (broken + length links ≡ n)
+  TendsLast w n links = (broken : ℕ) × Tending vouched w.socket w.next first w.world broken links × (broken + length links ≡ n)
 
   -- by its end
   abbrev pub TendsBy : SeatView → List Under → SeatEnd → Type 0

@@ -3,7 +3,6 @@ use Rattle.std.specs.Prelude.{◌≡◌, ◌⊎◌, ℕ, true, List, [], ◌∷�
 use Rattle.list_laws.specs.Lists.{BeginsWith}
 use Rattle.wl_entry.specs.declared.asks.Ask.{Ask}
 use Rattle.wl_entry.specs.declared.signing.Signed.{Signed}
-use Rattle.wl_entry.specs.declared.tokens.JwtToken.{JwtToken}
 use Rattle.wl_snapshot.specs.Snapshots.{Publication}
 use Rattle.wl_publish.specs.Lists.{NonFallingFrom}
 use Rattle.wl_publish.specs.Listings.{Passing}
@@ -12,7 +11,7 @@ use Rattle.wl_edge.specs.Links.{LinkLog}
 use Rattle.wl_edge.specs.declared.link.Heard.{Heard}
 use Rattle.wl_edge.specs.declared.link.Heard.TheVariants as heard
 use Rattle.wl_edge.specs.declared.attestor.AttestorCall.{AttestorCall}
-use Rattle.wl_edge.specs.declared.signer.SignerCall.{SignerCall}
+use Rattle.ask_mail.specs.declared.mail.Delivery.{Delivery}
 use Rattle.wl_session.specs.declared.asks.JwtAsk.{JwtAsk}
 use Rattle.wl_session.specs.declared.asks.JwtOutcome.{JwtOutcome}
 use Rattle.wl_session.specs.declared.asks.SessionFault.TheVariants as faults
@@ -23,7 +22,7 @@ use Rattle.wl_worker.specs.declared.ended.RoundEnd.{RoundEnd}
 use Rattle.wl_worker.specs.declared.ended.RoundEnd.TheVariants as ends
 use Rattle.wl_worker.specs.Rounds.{Round, session_after, trace, pieces, numbers, answers, outcomes, AreWhole, AreRounds, AreKnown, GoesOn, HaveAsks, turned_session, IsIn, pieces_given}
 use Rattle.wl_worker.specs.Counts.{RoseBy}
-use Rattle.wl_worker.specs.Outcomes.{unanswered, unsigned, GainsAll, Ticked, attestor_calls, IsOutcome}
+use Rattle.wl_worker.specs.Outcomes.{Asker, unanswered, unsigned, GainsAll, Ticked, attestor_calls, IsOutcome}
 
 -- the session, and what it wrote that the link did not take yet
 pub record ServedState : Type 0 where
@@ -64,19 +63,19 @@ StandsAt (ends.Ended ended.Memory) log s seen past = Began log seen past
 
 -- ---- what a round does
 
--- What is seen of the outside beside the link: the attestor's calls and its count of faults, those of the
--- signer, and the clock's answers, each where it is told; and the pass.
+-- What is seen of the outside beside the link: the attestor's calls and its count of faults, what came for asks
+-- for tokens and how often one failed, and the clock's answers, each where it is told; and the pass.
 pub record Around : Type 0 where
   pub attested : Option (List AttestorCall)
   pub attestor_faults : ℕ
-  pub signed : Option (List SignerCall)
-  pub signer_faults : ℕ
+  pub signed : Option (List Delivery)
+  pub ask_faults : ℕ
   pub times : Option (List ℕ)
   pub pass : Passing
 
-abbrev pub around : Option (List AttestorCall) → ℕ → Option (List SignerCall) → ℕ → Option (List ℕ) → Passing → Around
-around attested attestor_faults signed signer_faults times pass =
-    record { attested = attested; attestor_faults = attestor_faults; signed = signed; signer_faults = signer_faults; times = times; pass = pass }
+abbrev pub around : Option (List AttestorCall) → ℕ → Option (List Delivery) → ℕ → Option (List ℕ) → Passing → Around
+around attested attestor_faults signed ask_faults times pass =
+    record { attested = attested; attestor_faults = attestor_faults; signed = signed; ask_faults = ask_faults; times = times; pass = pass }
 
 -- what a link gave and took, and then these
 abbrev pub log_on : LinkLog → List Heard → List ℕ → LinkLog
@@ -137,14 +136,14 @@ OutcomesBy P [] s = Unit {0}
 OutcomesBy P (r ∷ more) s = HaveAsks P r.outcomes (turned_session r s)
 
 -- What a round does. The link gave and took this, and there was no round of the trace or one. Its answers are
--- the attestor's to the socket, its publication is what the pass read, and its outcomes are the signer's
--- answers or kept tokens; no more of the answers and outcomes are failures than the counts rose. And whatever
+-- the attestor's to the socket, its publication is what the pass read, and its outcomes are what came for the
+-- connection's asks, or kept tokens; no more of the answers and outcomes are failures than the counts rose. And whatever
 -- the rounds before it were, it goes on from there.
-pub record RoundTells (valid : Ask → Signed → Type 0) (vouched : Ask → List (List ℕ) → JwtToken → Type 0) (socket : ℕ) (old new : ServedState) (log_before log_now : Option LinkLog) (before now : Around) (end : RoundEnd) : Type 0 where
+pub record RoundTells (valid : Ask → Signed → Type 0) (vouched : Asker) (socket : ℕ) (old new : ServedState) (log_before log_now : Option LinkLog) (before now : Around) (end : RoundEnd) : Type 0 where
   pub heards : List Heard
   pub took : List ℕ
   pub added : List Round
-  pub signed : List SignerCall
+  pub signed : List Delivery
   pub times : List ℕ
   pub link : LinkGains log_before log_now heards took
   pub end_is : EndIs end new heards added
@@ -154,7 +153,7 @@ pub record RoundTells (valid : Ask → Signed → Type 0) (vouched : Ask → Lis
   pub signs : GainsAll before.signed now.signed signed
   pub clock : Ticked before.times now.times times
   pub outcomes_are : OutcomesBy (IsOutcome vouched signed times) added old.session
-  pub signer_fails : RoseBy (unsigned (outcomes added)) before.signer_faults now.signer_faults
+  pub ask_fails : RoseBy (unsigned (outcomes added)) before.ask_faults now.ask_faults
   pub goes_on : (log : LinkLog) (past : List Round) → Stands log old before.pass.seen past → StandsAt end (log_on log heards took) new now.pass.seen (added ++ past)
 
 -- ---- on which passes a round may be taken

@@ -1,19 +1,18 @@
 -- The steps of a round as the code takes them (own rules).
-use Rattle.std.specs.Prelude.{◌≡◌, ◌⊎◌, ◌≤◌, ℕ, List, [], ◌∷◌, ◌++◌, Option, None, Result, Ok, Err, IfOk, OnOk, IfSome}
+use Rattle.std.specs.Prelude.{◌≡◌, ◌⊎◌, ◌≤◌, ℕ, List, [], ◌∷◌, ◌++◌, Option, Some, None, Result, Ok, Err, IfOk, OnOk, IfSome}
 use Rattle.wl_octets.specs.declared.memory.Memory.{Memory}
 use Rattle.wl_entry.specs.declared.asks.Ask.{Ask}
 use Rattle.wl_entry.specs.declared.signing.Signed.{Signed}
-use Rattle.wl_entry.specs.declared.tokens.JwtToken.{JwtToken}
 use Rattle.wl_snapshot.specs.Snapshots.{Publication}
 use Rattle.wl_edge.specs.declared.attestor.AttestorCall.{AttestorCall}
-use Rattle.wl_edge.specs.declared.signer.SignerCall.{SignerCall}
+use Rattle.ask_mail.specs.declared.mail.Delivery.{Delivery}
 use Rattle.wl_session.specs.declared.asks.JwtAsk.{JwtAsk}
 use Rattle.wl_session.specs.declared.asks.JwtOutcome.{JwtOutcome}
 use Rattle.wl_session.specs.Sessions.{SessionState, Names, GivesOutcome}
 use Rattle.wl_session.specs.Steps.{Told, turn_told}
 use Rattle.wl_worker.specs.Rounds.{Round, answers_told, outcomes_told, round_told, HaveCalls, HaveAsks, IsRound, IsWhole, turned_session}
 use Rattle.wl_worker.specs.Counts.{RoseBy}
-use Rattle.wl_worker.specs.Outcomes.{unanswered, unsigned, GainsAll, Ticked, attestor_calls, IsOutcome}
+use Rattle.wl_worker.specs.Outcomes.{Asker, unanswered, unsigned, GainsAll, Ticked, attestor_calls, IsOutcome}
 use Rattle.wl_edge.specs.Links.{LinkLog}
 use Rattle.wl_edge.specs.declared.link.Heard.{Heard}
 use Rattle.wl_edge.specs.declared.link.Heard.TheVariants as heard
@@ -48,32 +47,37 @@ pub record Attests (socket : ℕ) (old new : SessionState) (old_out out : List �
   pub keeps : KeepsLast old new
   pub came : OnOk r (Came (answers_told answers old) new old_out out)
 
--- What became of one ask.
-pub record OutcomeTells (vouched : Ask → List (List ℕ) → JwtToken → Type 0) (ask : JwtAsk) (signed_before signed : Option (List SignerCall)) (before now : ℕ) (times_before times : Option (List ℕ)) (r : Result JwtOutcome Memory) : Type 0 where
-  pub signs : List SignerCall
+-- an outcome that came, or none yet
+abbrev pub as_list : {A : Type 0} → Option A → List A
+as_list None = []
+as_list (Some x) = x ∷ []
+
+-- What became of one ask; none where it waits on.
+pub record OutcomeTells (vouched : Asker) (ask : JwtAsk) (signed_before signed : Option (List Delivery)) (before now : ℕ) (times_before times : Option (List ℕ)) (r : Result (Option JwtOutcome) Memory) : Type 0 where
+  pub signs : List Delivery
   pub ticks : List ℕ
   pub signed_is : GainsAll signed_before signed signs
   pub clock : Ticked times_before times ticks
-  pub outcome : IfOk r (IsOutcome vouched signs ticks ask)
-  pub fails : IfOk r (λ o. RoseBy (unsigned (o ∷ [])) before now)
+  pub outcome : IfOk r (λ o. IfSome o (IsOutcome vouched signs ticks ask))
+  pub fails : IfOk r (λ o. RoseBy (unsigned (as_list o)) before now)
   pub later : before ≤ now
 
--- what the signer answered, at this time
-pub record SignedTells (vouched : Ask → List (List ℕ) → JwtToken → Type 0) (ask : JwtAsk) (time : ℕ) (signed_before signed : Option (List SignerCall)) (before now : ℕ) (r : Result JwtOutcome Memory) : Type 0 where
-  pub signs : List SignerCall
+-- what came for it, at this time
+pub record SignedTells (vouched : Asker) (ask : JwtAsk) (time : ℕ) (signed_before signed : Option (List Delivery)) (before now : ℕ) (r : Result (Option JwtOutcome) Memory) : Type 0 where
+  pub signs : List Delivery
   pub signed_is : GainsAll signed_before signed signs
-  pub outcome : IfOk r (IsOutcome vouched signs (time ∷ []) ask)
-  pub fails : IfOk r (λ o. RoseBy (unsigned (o ∷ [])) before now)
+  pub outcome : IfOk r (λ o. IfSome o (IsOutcome vouched signs (time ∷ []) ask))
+  pub fails : IfOk r (λ o. RoseBy (unsigned (as_list o)) before now)
   pub later : before ≤ now
 
 -- the first ask that waited got an outcome
 abbrev pub IsGiven : SessionState → SessionState → List ℕ → List ℕ → Type 0
 IsGiven old new old_out out = (outcome : JwtOutcome) × GivesOutcome outcome old (Ok tt) old_out out new
 
--- Asks that wait get their outcomes, the first one first.
-pub record Gives (vouched : Ask → List (List ℕ) → JwtToken → Type 0) (old new : SessionState) (old_out out : List ℕ) (signed_before signed : Option (List SignerCall)) (before now : ℕ) (times_before times : Option (List ℕ)) (r : Result (Unit {0}) Memory) : Type 0 where
+-- Asks that wait get their outcomes, the first one first, while one has come.
+pub record Gives {A : Type 0} (vouched : Asker) (old new : SessionState) (old_out out : List ℕ) (signed_before signed : Option (List Delivery)) (before now : ℕ) (times_before times : Option (List ℕ)) (r : Result A Memory) : Type 0 where
   pub outcomes : List JwtOutcome
-  pub signs : List SignerCall
+  pub signs : List Delivery
   pub ticks : List ℕ
   pub signed_is : GainsAll signed_before signed signs
   pub clock : Ticked times_before times ticks
@@ -88,9 +92,9 @@ pub record TurnTells (p : Publication) (old new : SessionState) (old_out out : L
   pub came : OnOk r (Came (turn_told p old) new old_out out)
 
 -- A piece was heard, and a round of the trace taken with it; it may have broken off where memory ran out.
-pub record StepTells (valid : Ask → Signed → Type 0) (vouched : Ask → List (List ℕ) → JwtToken → Type 0) (socket : ℕ) (piece : List ℕ) (old new : SessionState) (old_out out : List ℕ) (before now : Around) (r : Result (Unit {0}) Memory) : Type 0 where
+pub record StepTells (valid : Ask → Signed → Type 0) (vouched : Asker) (socket : ℕ) (piece : List ℕ) (old new : SessionState) (old_out out : List ℕ) (before now : Around) (r : Result (Unit {0}) Memory) : Type 0 where
   pub round : Round
-  pub signed : List SignerCall
+  pub signed : List Delivery
   pub times : List ℕ
   pub piece_is : round.piece ≡ piece
   pub attested : GainsAll before.attested now.attested (attestor_calls socket round.answers)
@@ -99,7 +103,7 @@ pub record StepTells (valid : Ask → Signed → Type 0) (vouched : Ask → List
   pub signs : GainsAll before.signed now.signed signed
   pub clock : Ticked before.times now.times times
   pub outcomes_are : HaveAsks (IsOutcome vouched signed times) round.outcomes (turned_session round old)
-  pub signer_fails : RoseBy (unsigned round.outcomes) before.signer_faults now.signer_faults
+  pub ask_fails : RoseBy (unsigned round.outcomes) before.ask_faults now.ask_faults
   pub fits : IsRound round old
   pub seen : HasSeenLast before.pass.seen old → HasSeenLast now.pass.seen new
   pub whole : OnOk r (IsWhole round old)
@@ -107,7 +111,7 @@ pub record StepTells (valid : Ask → Signed → Type 0) (vouched : Ask → List
 
 -- What a receive gave, and the step taken with it. At an end nothing else was done, or memory ran out in the
 -- step.
-abbrev pub StepBy : (Ask → Signed → Type 0) → (Ask → List (List ℕ) → JwtToken → Type 0) → ℕ → SessionState → SessionState → List ℕ → List ℕ → Around → Around → List Heard → Result (Unit {0}) Ended → Type 0
+abbrev pub StepBy : (Ask → Signed → Type 0) → Asker → ℕ → SessionState → SessionState → List ℕ → List ℕ → Around → Around → List Heard → Result (Unit {0}) Ended → Type 0
 StepBy valid vouched socket old new old_out out before now heards (Ok done) =
     (answer : Heard) × (piece : List ℕ) × (heards ≡ answer ∷ []) × IsPiece answer piece × StepTells valid vouched socket piece old new old_out out before now (Ok done)
 StepBy valid vouched socket old new old_out out before now heards (Err ended.Memory) =
@@ -118,7 +122,7 @@ StepBy valid vouched socket old new old_out out before now heards (Err ended.Rea
 StepBy valid vouched socket old new old_out out before now heards (Err (ended.Protocol f)) = ⊥
 StepBy valid vouched socket old new old_out out before now heards (Err ended.WriteFault) = ⊥
 
-pub record HearTells (valid : Ask → Signed → Type 0) (vouched : Ask → List (List ℕ) → JwtToken → Type 0) (socket : ℕ) (old new : SessionState) (old_out out : List ℕ) (log_before log_now : Option LinkLog) (before now : Around) (r : Result (Unit {0}) Ended) : Type 0 where
+pub record HearTells (valid : Ask → Signed → Type 0) (vouched : Asker) (socket : ℕ) (old new : SessionState) (old_out out : List ℕ) (log_before log_now : Option LinkLog) (before now : Around) (r : Result (Unit {0}) Ended) : Type 0 where
   pub heards : List Heard
   pub link : LinkGains log_before log_now heards []
   pub step : StepBy valid vouched socket old new old_out out before now heards r

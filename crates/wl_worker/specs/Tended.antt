@@ -10,9 +10,9 @@ use Rattle.wl_edge.specs.Links.{LinkLog}
 use Rattle.wl_edge.specs.Listeners.{ListenerLog, FinishedLink, links_given}
 use Rattle.wl_edge.specs.declared.listener.AcceptKind.{AcceptKind}
 use Rattle.wl_edge.specs.declared.listener.AcceptKind.TheVariants as kind
-use Rattle.wl_edge.specs.declared.signer.SignerCall.{SignerCall}
+use Rattle.ask_mail.specs.declared.mail.Delivery.{Delivery}
 use Rattle.wl_worker.specs.Counts.{RoseBy}
-use Rattle.wl_worker.specs.Outcomes.{unanswered, unsigned, GainsAll, Ticked, attestor_calls, IsOutcome}
+use Rattle.wl_worker.specs.Outcomes.{asker, unanswered, unsigned, GainsAll, Ticked, attestor_calls, IsOutcome}
 use Rattle.wl_worker.specs.Owners.{owned_by, items_of, tally}
 use Rattle.wl_worker.specs.Rounds.{Round, numbers, answers, outcomes, AreOutcomes}
 use Rattle.wl_worker.specs.Served.{Around, Began}
@@ -61,28 +61,28 @@ ListenedTo end old new = IfSome old (λ before. (after : ListenerLog) × (new �
 abbrev pub TookAll : LinkLog → List Round → Type 0
 TookAll log past = CameTo ended.Closed log.gave log.took past ⊎ ((f : ConnFault) × CameTo (ended.Protocol f) log.gave log.took past)
 
--- What is known of all links of a seat: what the pass has seen, which tokens are vouched for, what the signer
--- was asked, and the times that the clock told.
+-- What is known of all links of a seat: what the pass has seen, which tokens are vouched for, what came for its
+-- asks, and the times that the clock told.
 pub record Known : Type 1 where
   pub seen : List Publication
   pub vouched : Ask → List (List ℕ) → JwtToken → Type 0
-  pub signed : List SignerCall
+  pub signed : List Delivery
   pub times : List ℕ
 
--- the outcomes of a link's rounds are as they may be
-abbrev pub AreJudged : Known → List Round → Type 0
-AreJudged k past = AreOutcomes (IsOutcome k.vouched k.signed k.times) past
+-- the outcomes of the rounds of the link of this number are as they may be
+abbrev pub AreJudged : Known → ℕ → List Round → Type 0
+AreJudged k n past = AreOutcomes (IsOutcome (asker n k.vouched) k.signed k.times) past
 
--- A link that was finished took a prefix of the talk of its rounds.
-abbrev pub TookPart : Known → FinishedLink → List Round → Type 0
-TookPart k link past = IfSome link.log (λ log. Began log k.seen past × AreJudged k past)
+-- A link that was finished, of this number, took a prefix of the talk of its rounds.
+abbrev pub TookPart : Known → ℕ → FinishedLink → List Round → Type 0
+TookPart k n link past = IfSome link.log (λ log. Began log k.seen past × AreJudged k n past)
 
 -- It took the whole, unless a receive or a sending of it failed; so many of them did.
 abbrev pub TookAllUnless : ℕ → ℕ → LinkLog → List Round → Type 0
 TookAllUnless failed_receives failed_sends log past = (0 < failed_receives) ⊎ ((0 < failed_sends) ⊎ TookAll log past)
 
-abbrev pub TookFully : Known → FinishedLink → List Round → Type 0
-TookFully k link past = IfSome link.log (λ log. Began log k.seen past × AreJudged k past × TookAllUnless link.failed_receives link.failed_sends log past)
+abbrev pub TookFully : Known → ℕ → FinishedLink → List Round → Type 0
+TookFully k n link past = IfSome link.log (λ log. Began log k.seen past × AreJudged k n past × TookAllUnless link.failed_receives link.failed_sends log past)
 
 -- ---- a seat
 
@@ -105,9 +105,9 @@ abbrev pub ListenerGains : Option ListenerLog → Option ListenerLog → List Fi
 ListenerGains old new finished open_links = IfSome old (λ before. (after : ListenerLog) × (new ≡ Some after) × FinishesSome before after finished open_links)
 
 -- What a seat's things of the outside did for these rounds, the newest first: the attestor answered for the socket, the pass
--- read, the signer was asked and the clock told the time. No more answers and outcomes are failures than the counts rose. These
+-- read, what came for its asks was taken and the clock told the time. No more answers and outcomes are failures than the counts rose. These
 -- links were finished, and so many of those that the listener gave were not.
-pub record SeatGathers (socket : ℕ) (old new : SeatWorld) (rounds : List Round) (signed : List SignerCall) (times : List ℕ) (finished : List FinishedLink) (open_links : ℕ) : Type 0 where
+pub record SeatGathers (socket : ℕ) (old new : SeatWorld) (rounds : List Round) (signed : List Delivery) (times : List ℕ) (finished : List FinishedLink) (open_links : ℕ) : Type 0 where
   pub listener : ListenerGains old.listener new.listener finished open_links
   pub attested : GainsAll old.around.attested new.around.attested (attestor_calls socket (answers rounds))
   pub attestor_fails : RoseBy (unanswered (answers rounds)) old.around.attestor_faults new.around.attestor_faults
@@ -116,27 +116,28 @@ pub record SeatGathers (socket : ℕ) (old new : SeatWorld) (rounds : List Round
   pub store : new.around.pass.store ≡ old.around.pass.store
   pub signs : GainsAll old.around.signed new.around.signed signed
   pub clock : Ticked old.around.times new.around.times times
-  pub signer_fails : RoseBy (unsigned (outcomes rounds)) old.around.signer_faults new.around.signer_faults
+  pub ask_fails : RoseBy (unsigned (outcomes rounds)) old.around.ask_faults new.around.ask_faults
 
-abbrev pub known : (Ask → List (List ℕ) → JwtToken → Type 0) → SeatWorld → List SignerCall → List ℕ → Known
+abbrev pub known : (Ask → List (List ℕ) → JwtToken → Type 0) → SeatWorld → List Delivery → List ℕ → Known
 known vouched w signed times = record { seen = w.around.pass.seen; vouched = vouched; signed = signed; times = times }
 
 -- ---- Tended
 
--- What a seat came to. Each finished link, whose number is its own, took a prefix of the talk of its rounds. These are all rounds
--- of the seat, each of one finished link: so no answer of the attestor, no number that was read and no outcome belongs to two.
+-- What a seat came to. Each finished link, whose number is its own, took a prefix of the talk of its rounds, and its outcomes came
+-- for the asks of that number. These are all rounds of the seat, each of one finished link: so no answer of the attestor, no number
+-- that was read and no outcome belongs to two.
 -- `fulls` took the whole, unless a call of theirs failed; after them come `lates`, which need not have. They are no more than the
 -- seat's room, and none where its end is End.
 pub record Tends (vouched : Ask → List (List ℕ) → JwtToken → Type 0) (socket room : ℕ) (end : SeatEnd) (old new : SeatWorld) : Type 0 where
   pub fulls : List (ℕ × FinishedLink)
   pub lates : List (ℕ × FinishedLink)
   pub rounds : List (ℕ × Round)
-  pub signed : List SignerCall
+  pub signed : List Delivery
   pub times : List ℕ
   pub gathers : SeatGathers socket old new (items_of rounds) signed times (items_of fulls ++ items_of lates) 0
   pub once : (k : ℕ) → tally k fulls + tally k lates ≤ 1
   pub owners : (k : ℕ) → tally k fulls + tally k lates ≡ 0 → owned_by k rounds ≡ []
-  pub each_full : AllByRecursion (λ f. TookFully (known vouched new signed times) f.1 (owned_by f.0 rounds)) fulls
-  pub each_late : AllByRecursion (λ f. TookPart (known vouched new signed times) f.1 (owned_by f.0 rounds)) lates
+  pub each_full : AllByRecursion (λ f. TookFully (known vouched new signed times) f.0 f.1 (owned_by f.0 rounds)) fulls
+  pub each_late : AllByRecursion (λ f. TookPart (known vouched new signed times) f.0 f.1 (owned_by f.0 rounds)) lates
   pub few : length lates ≤ room
   pub none : end ≡ seat.End → lates ≡ []

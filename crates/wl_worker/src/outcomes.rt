@@ -1,15 +1,17 @@
 //! What becomes of an ask for a token.
 
-ghost use Rattle.std.specs.Prelude.{◌≡◌, None, true, IfOk, IfSome, OnOk, IsSome};
+ghost use Rattle.std.specs.Prelude.{◌≡◌, ◌⊎◌, None, true, false, Ok, IfOk, IfSome, OnOk, IsSome};
 ghost use Rattle.wl_selector.specs.Selectors.{sorted_texts};
 ghost use Rattle.wl_entry.specs.Fitness.{is_still_fresh};
 ghost use Rattle.wl_session.specs.Sessions.{asks_in};
+ghost use Rattle.wl_worker.specs.Outcomes.{asker};
 ghost use Rattle.wl_worker.specs.Stepping.{Gives, IsGiven, OutcomeTells, SignedTells};
 
+use ask_mail::{NoAnswer, TokenAsks};
 use std::alloc::Global;
 use std::sync::{Mutex, Wait};
 use wl_desk::Desk;
-use wl_edge::{Clock, EdgeFault, Signer};
+use wl_edge::Clock;
 use wl_entry::{JwtToken, Voucher};
 use wl_octets::{Memory, Octets};
 use wl_session::{JwtAsk, JwtOutcome, Session};
@@ -55,94 +57,110 @@ fn offer<V: Voucher, R: Wait>(
     }
 }
 
-/// The signer's answer to the ask. A fit token is offered to those that are kept.
-fn signed<S: Signer, R: Wait>(
+/// What came for the ask; none where it waits on. A fit token is offered to those that are kept.
+fn came<T: TokenAsks, R: Wait>(
     rt: &R,
     alloc: Global,
-    desk: &Mutex<Desk<S::V>>,
+    desk: &Mutex<Desk<T::V>>,
     ask: &JwtAsk,
-    signer: &mut S,
+    connection: u64,
+    asks: &mut T,
     now: u64,
-) -> Result<JwtOutcome, Memory>
-    ensures { SignedTells S.V.token ask.now now (S.calls signer.old) (S.calls signer.new)
-        (S.faults signer.old) (S.faults signer.new) result }
+) -> Result<Option<JwtOutcome>, Memory>
+    ensures tells { SignedTells (asker connection T.V.token) ask.now now (T.taken asks.old) (T.taken asks.new)
+        (T.faults asks.old) (T.faults asks.new) result }
+    ensures waits { result ≡ Ok None → T.holds asks.new connection }
 {
-    let token = match signer.sign_jwt(&ask.ask, ask.audience.as_slice()) {
+    let token = match asks.look(rt, connection, &ask.ask, ask.audience.as_slice()) {
         Ok(token) => token,
-        Err(EdgeFault::Failed) => return Ok(JwtOutcome::Failed),
-        Err(EdgeFault::Memory) => return Err(Memory),
+        Err(NoAnswer::Waits) => return Ok(None),
+        Err(NoAnswer::Failed) => return Ok(Some(JwtOutcome::Failed)),
+        Err(NoAnswer::Memory) => return Err(Memory),
     };
     match token.unfit(now) {
-        Some(unfit) => Ok(JwtOutcome::Unfit(unfit)),
+        Some(unfit) => Ok(Some(JwtOutcome::Unfit(unfit))),
         None => {
             offer(rt, alloc, desk, ask, &token, now);
-            Ok(JwtOutcome::Token(token))
+            Ok(Some(JwtOutcome::Token(token)))
         }
     }
 }
 
-/// What becomes of an ask: a kept token, or else what the signer answers.
-fn outcome<S: Signer, C: Clock, R: Wait>(
+/// What becomes of an ask: a kept token, or else what came for it.
+fn outcome<T: TokenAsks, C: Clock, R: Wait>(
     rt: &R,
     alloc: Global,
-    desk: &Mutex<Desk<S::V>>,
+    desk: &Mutex<Desk<T::V>>,
     ask: &JwtAsk,
-    signer: &mut S,
+    connection: u64,
+    asks: &mut T,
     clock: &mut C,
-) -> Result<JwtOutcome, Memory>
-    ensures { OutcomeTells S.V.token ask.now (S.calls signer.old) (S.calls signer.new) (S.faults signer.old)
-        (S.faults signer.new) (C.answers clock.old) (C.answers clock.new) result }
+) -> Result<Option<JwtOutcome>, Memory>
+    ensures tells { OutcomeTells (asker connection T.V.token) ask.now (T.taken asks.old) (T.taken asks.new)
+        (T.faults asks.old) (T.faults asks.new) (C.answers clock.old) (C.answers clock.new) result }
+    ensures waits { result ≡ Ok None → T.holds asks.new connection }
 {
     let now = clock.now();
     match kept(rt, alloc, desk, ask, now)? {
-        Some(token) => Ok(JwtOutcome::Token(token)),
-        None => signed(rt, alloc, desk, ask, signer, now),
+        Some(token) => Ok(Some(JwtOutcome::Token(token))),
+        None => came(rt, alloc, desk, ask, connection, asks, now),
     }
 }
 
-/// The first ask that waits gets its outcome.
-fn answer_one<S: Signer, C: Clock, R: Wait>(
+/// The first ask that waits gets its outcome, where it came. False where it waits on.
+fn answer_one<T: TokenAsks, C: Clock, R: Wait>(
     rt: &R,
     alloc: Global,
-    desk: &Mutex<Desk<S::V>>,
-    signer: &mut S,
+    desk: &Mutex<Desk<T::V>>,
+    connection: u64,
+    asks: &mut T,
     clock: &mut C,
     session: &mut Session,
     out: &mut Octets,
-) -> Result<(), Memory>
+) -> Result<bool, Memory>
     requires { IsSome (asks_in session.old) }
-    ensures gives { Gives S.V.token session.old session.new out.old out.new (S.calls signer.old)
-        (S.calls signer.new) (S.faults signer.old) (S.faults signer.new)
+    ensures gives { Gives (asker connection T.V.token) session.old session.new out.old out.new (T.taken asks.old)
+        (T.taken asks.new) (T.faults asks.old) (T.faults asks.new)
         (C.answers clock.old) (C.answers clock.new) result }
-    ensures given { OnOk result (IsGiven session.old session.new out.old out.new) }
+    ensures given { result ≡ Ok true → IsGiven session.old session.new out.old out.new }
+    ensures waits { result ≡ Ok false → T.holds asks.new connection }
 {
     let outcome = match session.asks() {
-        Some(ask) => outcome(rt, alloc, desk, ask, signer, clock)?,
+        Some(ask) => outcome(rt, alloc, desk, ask, connection, asks, clock)?,
         None => unreachable!(),
     };
-    match session.given(outcome, out) {
-        Ok(()) => Ok(()),
-        Err(_) => Err(Memory),
+    match outcome {
+        Some(outcome) => match session.given(outcome, out) {
+            Ok(()) => Ok(true),
+            Err(_) => Err(Memory),
+        },
+        None => Ok(false),
     }
 }
 
-/// Each ask does, the first one first. Out of memory some may be left.
-pub fn answer_all<S: Signer, C: Clock, R: Wait>(
+/// Each ask does, the first one first, while an outcome has come. The first one that has none waits on, with those after
+/// it. Out of memory some may be left.
+pub fn answer_ready<T: TokenAsks, C: Clock, R: Wait>(
     rt: &R,
     alloc: Global,
-    desk: &Mutex<Desk<S::V>>,
-    signer: &mut S,
+    desk: &Mutex<Desk<T::V>>,
+    connection: u64,
+    asks: &mut T,
     clock: &mut C,
     session: &mut Session,
     out: &mut Octets,
 ) -> Result<(), Memory>
-    ensures gives { Gives S.V.token session.old session.new out.old out.new (S.calls signer.old)
-        (S.calls signer.new) (S.faults signer.old) (S.faults signer.new)
+    ensures gives { Gives (asker connection T.V.token) session.old session.new out.old out.new (T.taken asks.old)
+        (T.taken asks.new) (T.faults asks.old) (T.faults asks.new)
         (C.answers clock.old) (C.answers clock.new) result }
-    ensures all { OnOk result (asks_in session.new ≡ None) }
+    ensures all { OnOk result ((asks_in session.new ≡ None) ⊎ T.holds asks.new connection) }
 {
     'waiting: while session.asks().is_some() {
-        answer_one(rt, alloc, desk, signer, clock, session, out)?;
+        if !answer_one(rt, alloc, desk, connection, asks, clock, session, out)? {
+            return Ok(());
+        }
     }
+    // what may still come is of an ask that is gone
+    asks.forget(rt, connection);
     Ok(())
 }

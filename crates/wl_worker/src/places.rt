@@ -9,9 +9,10 @@ use std::alloc::Global;
 use wl_edge::{Link, Listener, Ready};
 use wl_octets::Memory;
 
-/// A link that is served, and the number under which it is watched.
+/// A link that is served, and the numbers under which it is watched and asks for tokens.
 pub(crate) struct Connection<L> {
     pub number: u32,
+    pub asker: u64,
     pub link: L,
     pub served: Served,
 }

@@ -1,8 +1,10 @@
-//! The tickets that wait for a signer.
+//! What waits for a signer: tickets, and asks for tokens.
 
+use crate::asks::{AskHub, SeatAsk, Turn};
 use std::alloc::{AllocFailed, Global};
 use std::collections::VecDeque;
-use std::sync::{Condvar, Mutex, Wait};
+use std::sync::{Arc, Mutex, Wait};
+use wl_entry::Voucher;
 use wl_octets::Octets;
 use wl_store::Ticket;
 
@@ -16,6 +18,14 @@ const LONGEST_PAUSE: u64 = 60;
 pub struct QueuedTicket {
     pub(crate) ticket: Ticket,
     pub(crate) pause: u64,
+}
+
+/// What a signer is to do.
+pub(crate) enum Work {
+    /// This ask for a token.
+    Token(SeatAsk),
+    /// This ticket.
+    Identity(QueuedTicket),
 }
 
 /// A ticket that waits until this second.
@@ -42,7 +52,6 @@ struct Tickets {
     paces: Vec<Pace>,
     /// The time, as the keeper last read it.
     now: u64,
-    over: bool,
 }
 
 impl Tickets {
@@ -112,31 +121,36 @@ impl Tickets {
     }
 }
 
-/// Tickets on their way from the keeper to the signers. `next` waits for one; the other calls wait for the lock alone.
-pub struct TicketQueue {
+/// Tickets on their way from the keeper to the signers, beside the asks for tokens, which go first. `next` waits for
+/// either; the other calls wait for a lock alone.
+pub struct TicketQueue<V: Voucher> {
     tickets: Mutex<Tickets>,
-    moved: Condvar,
+    hub: Arc<AskHub<V>>,
 }
 
-impl TicketQueue {
-    /// A queue of no tickets.
-    pub fn start(alloc: Global) -> TicketQueue {
+impl<V: Voucher> TicketQueue<V> {
+    /// A queue of no tickets, beside these asks.
+    pub fn start(alloc: Global, hub: Arc<AskHub<V>>) -> TicketQueue<V> {
         TicketQueue {
             tickets: Mutex::new(Tickets {
                 due: VecDeque::new(alloc),
                 held: Vec::new(alloc),
                 paces: Vec::new(alloc),
                 now: 0,
-                over: false,
             }),
-            moved: Condvar::new(),
+            hub,
         }
+    }
+
+    /// The asks for tokens.
+    pub(crate) fn hub(&self) -> &AskHub<V> {
+        &self.hub
     }
 
     /// Puts a ticket at the end. It comes back where memory ran out.
     pub fn put<R: Wait>(&self, rt: &R, ticket: Ticket) -> Option<Ticket> {
         let back = self.tickets.lock(rt).put(ticket);
-        self.moved.notify_one();
+        self.hub.nudge(rt);
         back
     }
 
@@ -180,7 +194,7 @@ impl TicketQueue {
         let _ = self.tickets.lock(rt).take_pace(entry_id);
     }
 
-    /// Says what time it is to those who wait, so that pauses end.
+    /// Says what time it is, so that pauses end.
     pub fn tell_time<R: Wait>(&self, rt: &R, now: u64) {
         let mut tickets = self.tickets.lock(rt);
         tickets.now = now;
@@ -188,41 +202,55 @@ impl TicketQueue {
         tickets
             .paces
             .retain(|pace| pace.until.saturating_add(LONGEST_PAUSE) > now);
+        let ready = tickets.is_ready();
         drop(tickets);
-        self.moved.notify_all();
+        self.hub.tell_time(rt, now);
+        if ready {
+            self.hub.nudge(rt);
+        }
     }
 
     /// Says to all who wait that there will be no more.
     pub fn close<R: Wait>(&self, rt: &R) {
-        self.tickets.lock(rt).over = true;
-        self.moved.notify_all();
+        self.hub.close(rt);
     }
 
-    /// Whether there will be no more.
-    pub fn is_closed<R: Wait>(&self, rt: &R) -> bool {
-        self.tickets.lock(rt).over
-    }
-
-    /// Waits for a ticket. After `close` there is none.
-    pub fn next<R: Wait>(&self, rt: &R) -> Option<QueuedTicket> {
-        let mut tickets = self.moved.wait_while(rt, self.tickets.lock(rt), |tickets| {
-            !tickets.over && !tickets.is_ready()
-        });
-        if tickets.over {
-            return None;
+    /// Waits for something to do. After `close` there is nothing.
+    pub(crate) fn next<R: Wait>(&self, rt: &R) -> Option<Work> {
+        for _ in rt.forever() {
+            match self.hub.next(rt) {
+                Turn::Over => return None,
+                Turn::Ask(ask) => return Some(Work::Token(ask)),
+                Turn::Ticket => {
+                    if let Some(queued) = self.take(rt) {
+                        return Some(Work::Identity(queued));
+                    }
+                }
+            }
         }
-        tickets.take()
+        unreachable!()
+    }
+
+    /// A ticket that may be asked for. Where more are left another signer is told.
+    fn take<R: Wait>(&self, rt: &R) -> Option<QueuedTicket> {
+        let mut tickets = self.tickets.lock(rt);
+        let taken = tickets.take();
+        let more = tickets.is_ready();
+        drop(tickets);
+        if more {
+            self.hub.nudge(rt);
+        }
+        taken
     }
 
     /// Gives up the tickets that are left; what is in flight stays as it is.
     pub fn end(self) {
-        let TicketQueue { tickets, moved: _ } = self;
+        let TicketQueue { tickets, hub: _ } = self;
         let Tickets {
             due,
             held,
             paces: _,
             now: _,
-            over: _,
         } = tickets.into_inner();
         abandon_due(due);
         abandon_held(held);

@@ -9,22 +9,26 @@ ghost use Rattle.wl_worker.specs.Served.{around};
 ghost use Rattle.wl_worker.specs.Tended.{ListenedTo, Tends, seat_world};
 
 use crate::seating::serve_links;
+use ask_mail::TokenAsks;
 use std::alloc::Global;
 use std::sync::{Mutex, Wait};
 use wl_desk::Desk;
-use wl_edge::{Attestor, Clock, Gate, Listener, Ready, Signer};
+use wl_edge::{Attestor, Clock, Gate, Listener, Ready};
 use wl_publish::Pass;
 
 /// A place at which links are served.
 #[derive(Drop)]
-pub struct Seat<L: Listener, S: Signer, A, C, P> {
+pub struct Seat<L: Listener, T: TokenAsks, A, C, P> {
     pub listener: L,
     /// The number of the socket, from 0, for the attestor.
     pub socket: u32,
-    pub signer: S,
+    /// Where its connections ask for tokens.
+    pub asks: T,
+    /// How many links it has taken: the number of the next connection, from 0.
+    pub connections: u64,
     pub attestor: A,
     pub clock: C,
-    pub pass: Option<Pass<S::V>>,
+    pub pass: Option<Pass<T::V>>,
     /// How it ended, once it was served; whoever has it served writes it.
     pub end: Option<SeatEnd>,
     pub ready: P,
@@ -51,11 +55,19 @@ pub enum SeatEnd {
 /// ready, or all where none is listed. Each link is given to `finish`, whatever its end was. After the
 /// listener's end the seat goes on until all its links are finished; at any other end of its own it first
 /// finishes every link as it stands. It tells the desk once that it has ended.
-pub fn serve_seat<L: Listener, S: Signer, A: Attestor, C: Clock, P: Ready<L::L>, G: Gate, R: Wait>(
+pub fn serve_seat<
+    L: Listener,
+    T: TokenAsks,
+    A: Attestor,
+    C: Clock,
+    P: Ready<L::L>,
+    G: Gate,
+    R: Wait,
+>(
     rt: &R,
     alloc: Global,
-    desk: &Mutex<Desk<S::V>>,
-    seat: &mut Seat<L, S, A, C, P>,
+    desk: &Mutex<Desk<T::V>>,
+    seat: &mut Seat<L, T, A, C, P>,
     gate: &G,
 ) -> SeatEnd
     requires pass { IsSome seat.old.pass }
@@ -71,12 +83,12 @@ pub fn serve_seat<L: Listener, S: Signer, A: Attestor, C: Clock, P: Ready<L::L>,
     // Where links tell their content: what each took.
     ensures tends { ((l : L.L) → IsSome (L.L.told l))
         → (p q : Passing) → seat.old.pass ≡ Some p → seat.new.pass ≡ Some q
-        → Tends S.V.token seat.old.socket seat.old.room result
+        → Tends T.V.token seat.old.socket seat.old.room result
         (seat_world (L.told seat.old.listener) (around (A.calls seat.old.attestor)
-        (A.faults seat.old.attestor) (S.calls seat.old.signer) (S.faults seat.old.signer)
+        (A.faults seat.old.attestor) (T.taken seat.old.asks) (T.faults seat.old.asks)
         (C.answers seat.old.clock) p))
         (seat_world (L.told seat.new.listener) (around (A.calls seat.new.attestor)
-        (A.faults seat.new.attestor) (S.calls seat.new.signer) (S.faults seat.new.signer)
+        (A.faults seat.new.attestor) (T.taken seat.new.asks) (T.faults seat.new.asks)
         (C.answers seat.new.clock) q)) }
 {
     let mut pass = match seat.pass.take() {

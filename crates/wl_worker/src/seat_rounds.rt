@@ -13,11 +13,12 @@ ghost use Rattle.wl_worker.specs.Seating.{KeepsTending, served_step, turn_step};
 use crate::ended::{Ended, RoundEnd};
 use crate::places::{Connection, Numbers, release};
 use crate::seat::Seat;
+use ask_mail::TokenAsks;
 use std::alloc::Global;
 use std::collections::VecDeque;
 use std::sync::{Mutex, Wait};
 use wl_desk::Desk;
-use wl_edge::{Attestor, Clock, EdgeFault, Gate, Link, Listener, Ready, Signer};
+use wl_edge::{Attestor, Clock, EdgeFault, Gate, Link, Listener, Ready};
 use wl_octets::{Memory, Row};
 use wl_publish::Pass;
 
@@ -26,11 +27,11 @@ pub(crate) trait SeatShown {
     ghost view: { Self → Passing → SeatView };
 }
 
-impl<L: Listener, S: Signer, A: Attestor, C: Clock, P: Ready<L::L>> SeatShown
-    for Seat<L, S, A, C, P> {
-    ghost view = { λ s pass. seat_view s.socket s.room (L.faults s.listener) (P.faults s.ready)
-        (seat_world (L.told s.listener) (around (A.calls s.attestor) (A.faults s.attestor) (S.calls s.signer)
-        (S.faults s.signer) (C.answers s.clock) pass)) };
+impl<L: Listener, T: TokenAsks, A: Attestor, C: Clock, P: Ready<L::L>> SeatShown
+    for Seat<L, T, A, C, P> {
+    ghost view = { λ s pass. seat_view s.socket s.room s.connections (L.faults s.listener) (P.faults s.ready)
+        (seat_world (L.told s.listener) (around (A.calls s.attestor) (A.faults s.attestor) (T.taken s.asks)
+        (T.faults s.asks) (C.answers s.clock) pass)) };
 }
 
 /// What contracts see of a link that is served.
@@ -39,40 +40,41 @@ pub(crate) trait LinkShown {
 }
 
 impl<L: Link> LinkShown for Connection<L> {
-    ghost shown = { λ c. under (finished_link (L.told c.link) (L.failed_receives c.link) (L.failed_sends c.link)
+    ghost shown = { λ c. under c.asker (finished_link (L.told c.link) (L.failed_receives c.link) (L.failed_sends c.link)
         (L.stalls c.link)) c.served };
 }
 
 /// Serves one round of a link that was taken out. It goes to the end of the queue, or is finished where it is
 /// over.
-fn serve_one<L: Listener, S: Signer, A: Attestor, C: Clock, P: Ready<L::L>, G: Gate, R: Wait>(
+fn serve_one<L: Listener, T: TokenAsks, A: Attestor, C: Clock, P: Ready<L::L>, G: Gate, R: Wait>(
     rt: &R,
-    desk: &Mutex<Desk<S::V>>,
-    seat: &mut Seat<L, S, A, C, P>,
-    pass: &mut Pass<S::V>,
+    desk: &Mutex<Desk<T::V>>,
+    seat: &mut Seat<L, T, A, C, P>,
+    pass: &mut Pass<T::V>,
     links: &mut VecDeque<Connection<L::L>>,
     numbers: &mut Numbers,
     connection: Connection<L::L>,
     gate: &G,
 ) -> Result<(), Memory>
     requires place { deque_len links.old < deque_capacity links.old }
-    requires fit { Fit (⟦<Seat<L, S, A, C, P> as SeatShown>⟧.view seat.old pass.old)
+    requires fit { Fit (⟦<Seat<L, T, A, C, P> as SeatShown>⟧.view seat.old pass.old)
         (⟦<Connection<L::L> as LinkShown>⟧.shown connection
         ∷ map ⟦<Connection<L::L> as LinkShown>⟧.shown links.old.items) }
-    ensures goes { Goes (⟦<Seat<L, S, A, C, P> as SeatShown>⟧.view seat.old pass.old)
-        (⟦<Seat<L, S, A, C, P> as SeatShown>⟧.view seat.new pass.new)
+    ensures goes { Goes (⟦<Seat<L, T, A, C, P> as SeatShown>⟧.view seat.old pass.old)
+        (⟦<Seat<L, T, A, C, P> as SeatShown>⟧.view seat.new pass.new)
         (⟦<Connection<L::L> as LinkShown>⟧.shown connection
         ∷ map ⟦<Connection<L::L> as LinkShown>⟧.shown links.old.items)
         (map ⟦<Connection<L::L> as LinkShown>⟧.shown links.new.items) [] }
-    ensures tends { KeepsTending ((l : L.L) → IsSome (L.L.told l)) S.V.token
-        (⟦<Seat<L, S, A, C, P> as SeatShown>⟧.view seat.old pass.old)
-        (⟦<Seat<L, S, A, C, P> as SeatShown>⟧.view seat.new pass.new)
+    ensures tends { KeepsTending ((l : L.L) → IsSome (L.L.told l)) T.V.token
+        (⟦<Seat<L, T, A, C, P> as SeatShown>⟧.view seat.old pass.old)
+        (⟦<Seat<L, T, A, C, P> as SeatShown>⟧.view seat.new pass.new)
         (⟦<Connection<L::L> as LinkShown>⟧.shown connection
         ∷ map ⟦<Connection<L::L> as LinkShown>⟧.shown links.old.items)
         (map ⟦<Connection<L::L> as LinkShown>⟧.shown links.new.items) (served_step result) }
 {
     let Connection {
         number,
+        asker,
         mut link,
         mut served,
     } = connection;
@@ -84,16 +86,19 @@ fn serve_one<L: Listener, S: Signer, A: Attestor, C: Clock, P: Ready<L::L>, G: G
         &mut link,
         socket,
         &mut seat.attestor,
-        &mut seat.signer,
+        asker,
+        &mut seat.asks,
         &mut seat.clock,
         gate,
     );
     if let RoundEnd::Ended(ended) = end {
+        seat.asks.forget(rt, asker);
         release(&mut seat.listener, &mut seat.ready, numbers, number, link);
         return with_memory(ended);
     }
     links.push_back_reserved(Connection {
         number,
+        asker,
         link,
         served,
     });
@@ -112,25 +117,25 @@ fn with_memory(ended: Ended) -> Result<(), Memory>
 }
 
 /// The first link is served a round where it may be ready, and goes to the end of the queue.
-fn serve_first<L: Listener, S: Signer, A: Attestor, C: Clock, P: Ready<L::L>, G: Gate, R: Wait>(
+fn serve_first<L: Listener, T: TokenAsks, A: Attestor, C: Clock, P: Ready<L::L>, G: Gate, R: Wait>(
     rt: &R,
-    desk: &Mutex<Desk<S::V>>,
-    seat: &mut Seat<L, S, A, C, P>,
-    pass: &mut Pass<S::V>,
+    desk: &Mutex<Desk<T::V>>,
+    seat: &mut Seat<L, T, A, C, P>,
+    pass: &mut Pass<T::V>,
     links: &mut VecDeque<Connection<L::L>>,
     numbers: &mut Numbers,
     all: bool,
     gate: &G,
 ) -> Result<(), Memory>
-    requires { Fit (⟦<Seat<L, S, A, C, P> as SeatShown>⟧.view seat.old pass.old)
+    requires { Fit (⟦<Seat<L, T, A, C, P> as SeatShown>⟧.view seat.old pass.old)
         (map ⟦<Connection<L::L> as LinkShown>⟧.shown links.old.items) }
-    ensures goes { Goes (⟦<Seat<L, S, A, C, P> as SeatShown>⟧.view seat.old pass.old)
-        (⟦<Seat<L, S, A, C, P> as SeatShown>⟧.view seat.new pass.new)
+    ensures goes { Goes (⟦<Seat<L, T, A, C, P> as SeatShown>⟧.view seat.old pass.old)
+        (⟦<Seat<L, T, A, C, P> as SeatShown>⟧.view seat.new pass.new)
         (map ⟦<Connection<L::L> as LinkShown>⟧.shown links.old.items)
         (map ⟦<Connection<L::L> as LinkShown>⟧.shown links.new.items) [] }
-    ensures tends { KeepsTending ((l : L.L) → IsSome (L.L.told l)) S.V.token
-        (⟦<Seat<L, S, A, C, P> as SeatShown>⟧.view seat.old pass.old)
-        (⟦<Seat<L, S, A, C, P> as SeatShown>⟧.view seat.new pass.new)
+    ensures tends { KeepsTending ((l : L.L) → IsSome (L.L.told l)) T.V.token
+        (⟦<Seat<L, T, A, C, P> as SeatShown>⟧.view seat.old pass.old)
+        (⟦<Seat<L, T, A, C, P> as SeatShown>⟧.view seat.new pass.new)
         (map ⟦<Connection<L::L> as LinkShown>⟧.shown links.old.items)
         (map ⟦<Connection<L::L> as LinkShown>⟧.shown links.new.items) (served_step result) }
 {
@@ -147,25 +152,25 @@ fn serve_first<L: Listener, S: Signer, A: Attestor, C: Clock, P: Ready<L::L>, G:
 }
 
 /// Serves a round of each link that was listed, or of all.
-fn serve_listed<L: Listener, S: Signer, A: Attestor, C: Clock, P: Ready<L::L>, G: Gate, R: Wait>(
+fn serve_listed<L: Listener, T: TokenAsks, A: Attestor, C: Clock, P: Ready<L::L>, G: Gate, R: Wait>(
     rt: &R,
-    desk: &Mutex<Desk<S::V>>,
-    seat: &mut Seat<L, S, A, C, P>,
-    pass: &mut Pass<S::V>,
+    desk: &Mutex<Desk<T::V>>,
+    seat: &mut Seat<L, T, A, C, P>,
+    pass: &mut Pass<T::V>,
     links: &mut VecDeque<Connection<L::L>>,
     numbers: &mut Numbers,
     all: bool,
     gate: &G,
 ) -> Result<(), Memory>
-    requires { Fit (⟦<Seat<L, S, A, C, P> as SeatShown>⟧.view seat.old pass.old)
+    requires { Fit (⟦<Seat<L, T, A, C, P> as SeatShown>⟧.view seat.old pass.old)
         (map ⟦<Connection<L::L> as LinkShown>⟧.shown links.old.items) }
-    ensures goes { Goes (⟦<Seat<L, S, A, C, P> as SeatShown>⟧.view seat.old pass.old)
-        (⟦<Seat<L, S, A, C, P> as SeatShown>⟧.view seat.new pass.new)
+    ensures goes { Goes (⟦<Seat<L, T, A, C, P> as SeatShown>⟧.view seat.old pass.old)
+        (⟦<Seat<L, T, A, C, P> as SeatShown>⟧.view seat.new pass.new)
         (map ⟦<Connection<L::L> as LinkShown>⟧.shown links.old.items)
         (map ⟦<Connection<L::L> as LinkShown>⟧.shown links.new.items) [] }
-    ensures tends { KeepsTending ((l : L.L) → IsSome (L.L.told l)) S.V.token
-        (⟦<Seat<L, S, A, C, P> as SeatShown>⟧.view seat.old pass.old)
-        (⟦<Seat<L, S, A, C, P> as SeatShown>⟧.view seat.new pass.new)
+    ensures tends { KeepsTending ((l : L.L) → IsSome (L.L.told l)) T.V.token
+        (⟦<Seat<L, T, A, C, P> as SeatShown>⟧.view seat.old pass.old)
+        (⟦<Seat<L, T, A, C, P> as SeatShown>⟧.view seat.new pass.new)
         (map ⟦<Connection<L::L> as LinkShown>⟧.shown links.old.items)
         (map ⟦<Connection<L::L> as LinkShown>⟧.shown links.new.items) (served_step result) }
 {
@@ -178,7 +183,7 @@ fn serve_listed<L: Listener, S: Signer, A: Attestor, C: Clock, P: Ready<L::L>, G
 /// Waits until links may be ready, and serves a round of each that was listed, or of all where none was.
 pub(crate) fn serve_turn<
     L: Listener,
-    S: Signer,
+    T: TokenAsks,
     A: Attestor,
     C: Clock,
     P: Ready<L::L>,
@@ -187,22 +192,22 @@ pub(crate) fn serve_turn<
 >(
     rt: &R,
     alloc: Global,
-    desk: &Mutex<Desk<S::V>>,
-    seat: &mut Seat<L, S, A, C, P>,
-    pass: &mut Pass<S::V>,
+    desk: &Mutex<Desk<T::V>>,
+    seat: &mut Seat<L, T, A, C, P>,
+    pass: &mut Pass<T::V>,
     links: &mut VecDeque<Connection<L::L>>,
     numbers: &mut Numbers,
     gate: &G,
 ) -> Result<(), EdgeFault>
-    requires { Fit (⟦<Seat<L, S, A, C, P> as SeatShown>⟧.view seat.old pass.old)
+    requires { Fit (⟦<Seat<L, T, A, C, P> as SeatShown>⟧.view seat.old pass.old)
         (map ⟦<Connection<L::L> as LinkShown>⟧.shown links.old.items) }
-    ensures goes { Goes (⟦<Seat<L, S, A, C, P> as SeatShown>⟧.view seat.old pass.old)
-        (⟦<Seat<L, S, A, C, P> as SeatShown>⟧.view seat.new pass.new)
+    ensures goes { Goes (⟦<Seat<L, T, A, C, P> as SeatShown>⟧.view seat.old pass.old)
+        (⟦<Seat<L, T, A, C, P> as SeatShown>⟧.view seat.new pass.new)
         (map ⟦<Connection<L::L> as LinkShown>⟧.shown links.old.items)
         (map ⟦<Connection<L::L> as LinkShown>⟧.shown links.new.items) [] }
-    ensures tends { KeepsTending ((l : L.L) → IsSome (L.L.told l)) S.V.token
-        (⟦<Seat<L, S, A, C, P> as SeatShown>⟧.view seat.old pass.old)
-        (⟦<Seat<L, S, A, C, P> as SeatShown>⟧.view seat.new pass.new)
+    ensures tends { KeepsTending ((l : L.L) → IsSome (L.L.told l)) T.V.token
+        (⟦<Seat<L, T, A, C, P> as SeatShown>⟧.view seat.old pass.old)
+        (⟦<Seat<L, T, A, C, P> as SeatShown>⟧.view seat.new pass.new)
         (map ⟦<Connection<L::L> as LinkShown>⟧.shown links.old.items)
         (map ⟦<Connection<L::L> as LinkShown>⟧.shown links.new.items) (turn_step result) }
     ensures failed { IsErrOf result EdgeFault.Failed → Rose (P.faults seat.old.ready) (P.faults seat.new.ready) }

@@ -13,11 +13,12 @@ use crate::seat::{Seat, SeatEnd};
 use crate::seat_rounds::{LinkShown, SeatShown, serve_turn};
 use crate::served::Served;
 use crate::step::Step;
+use ask_mail::TokenAsks;
 use std::alloc::Global;
 use std::collections::VecDeque;
 use std::sync::{Mutex, Wait};
 use wl_desk::Desk;
-use wl_edge::{Accepted, Attestor, Clock, EdgeFault, Gate, Listener, Ready, Signer};
+use wl_edge::{Accepted, Attestor, Clock, EdgeFault, Gate, Listener, Ready};
 use wl_octets::Memory;
 use wl_publish::Pass;
 
@@ -42,26 +43,27 @@ fn prepare<L>(alloc: Global, links: &mut VecDeque<Connection<L>>) -> Result<Serv
 }
 
 /// Accepts one link, where there is a place for it.
-fn admit<L: Listener, S: Signer, A: Attestor, C: Clock, P: Ready<L::L>>(
+fn admit<L: Listener, T: TokenAsks, A: Attestor, C: Clock, P: Ready<L::L>>(
     alloc: Global,
-    seat: &mut Seat<L, S, A, C, P>,
+    seat: &mut Seat<L, T, A, C, P>,
     links: &mut VecDeque<Connection<L::L>>,
     numbers: &mut Numbers,
 ) -> Step
     requires { HasOpen (L.told seat.old.listener)
         (length (map ⟦<Connection<L::L> as LinkShown>⟧.shown links.old.items)) }
-    ensures goes { (p : Passing) → Stepped (⟦<Seat<L, S, A, C, P> as SeatShown>⟧.view seat.old p)
-        (⟦<Seat<L, S, A, C, P> as SeatShown>⟧.view seat.new p)
+    ensures goes { (p : Passing) → Stepped (⟦<Seat<L, T, A, C, P> as SeatShown>⟧.view seat.old p)
+        (⟦<Seat<L, T, A, C, P> as SeatShown>⟧.view seat.new p)
         (map ⟦<Connection<L::L> as LinkShown>⟧.shown links.old.items)
         (map ⟦<Connection<L::L> as LinkShown>⟧.shown links.new.items) result }
-    ensures tends { (p : Passing) → KeepsTending ((l : L.L) → IsSome (L.L.told l)) S.V.token
-        (⟦<Seat<L, S, A, C, P> as SeatShown>⟧.view seat.old p)
-        (⟦<Seat<L, S, A, C, P> as SeatShown>⟧.view seat.new p)
+    ensures tends { (p : Passing) → KeepsTending ((l : L.L) → IsSome (L.L.told l)) T.V.token
+        (⟦<Seat<L, T, A, C, P> as SeatShown>⟧.view seat.old p)
+        (⟦<Seat<L, T, A, C, P> as SeatShown>⟧.view seat.new p)
         (map ⟦<Connection<L::L> as LinkShown>⟧.shown links.old.items)
         (map ⟦<Connection<L::L> as LinkShown>⟧.shown links.new.items) result }
 {
-    // There is a number for each place.
-    if links.len() >= seat.room as usize || numbers.free.is_empty() {
+    // There is a number for each place, and one for each connection.
+    let asker = seat.connections;
+    if links.len() >= seat.room as usize || numbers.free.is_empty() || asker == u64::MAX {
         return Step::Idle;
     }
     let mut link = match seat.listener.accept() {
@@ -70,6 +72,7 @@ fn admit<L: Listener, S: Signer, A: Attestor, C: Clock, P: Ready<L::L>>(
         Accepted::End => return Step::Closed,
         Accepted::Failed => return Step::Over(SeatEnd::ListenFault),
     };
+    seat.connections = asker + 1;
     let served = match prepare(alloc, links) {
         Ok(served) => served,
         Err(Memory) => {
@@ -84,6 +87,7 @@ fn admit<L: Listener, S: Signer, A: Attestor, C: Clock, P: Ready<L::L>>(
     }
     links.push_back_reserved(Connection {
         number,
+        asker,
         link,
         served,
     });
@@ -91,21 +95,21 @@ fn admit<L: Listener, S: Signer, A: Attestor, C: Clock, P: Ready<L::L>>(
 }
 
 /// Accepts the links that are there, as far as there are places.
-fn admit_all<L: Listener, S: Signer, A: Attestor, C: Clock, P: Ready<L::L>>(
+fn admit_all<L: Listener, T: TokenAsks, A: Attestor, C: Clock, P: Ready<L::L>>(
     alloc: Global,
-    seat: &mut Seat<L, S, A, C, P>,
+    seat: &mut Seat<L, T, A, C, P>,
     links: &mut VecDeque<Connection<L::L>>,
     numbers: &mut Numbers,
 ) -> Step
     requires { HasOpen (L.told seat.old.listener)
         (length (map ⟦<Connection<L::L> as LinkShown>⟧.shown links.old.items)) }
-    ensures goes { (p : Passing) → Stepped (⟦<Seat<L, S, A, C, P> as SeatShown>⟧.view seat.old p)
-        (⟦<Seat<L, S, A, C, P> as SeatShown>⟧.view seat.new p)
+    ensures goes { (p : Passing) → Stepped (⟦<Seat<L, T, A, C, P> as SeatShown>⟧.view seat.old p)
+        (⟦<Seat<L, T, A, C, P> as SeatShown>⟧.view seat.new p)
         (map ⟦<Connection<L::L> as LinkShown>⟧.shown links.old.items)
         (map ⟦<Connection<L::L> as LinkShown>⟧.shown links.new.items) result }
-    ensures tends { (p : Passing) → KeepsTending ((l : L.L) → IsSome (L.L.told l)) S.V.token
-        (⟦<Seat<L, S, A, C, P> as SeatShown>⟧.view seat.old p)
-        (⟦<Seat<L, S, A, C, P> as SeatShown>⟧.view seat.new p)
+    ensures tends { (p : Passing) → KeepsTending ((l : L.L) → IsSome (L.L.told l)) T.V.token
+        (⟦<Seat<L, T, A, C, P> as SeatShown>⟧.view seat.old p)
+        (⟦<Seat<L, T, A, C, P> as SeatShown>⟧.view seat.new p)
         (map ⟦<Connection<L::L> as LinkShown>⟧.shown links.old.items)
         (map ⟦<Connection<L::L> as LinkShown>⟧.shown links.new.items) result }
 {
@@ -119,25 +123,25 @@ fn admit_all<L: Listener, S: Signer, A: Attestor, C: Clock, P: Ready<L::L>>(
 }
 
 /// Accepts links, and serves a round of those that may be ready.
-fn go_on<L: Listener, S: Signer, A: Attestor, C: Clock, P: Ready<L::L>, G: Gate, R: Wait>(
+fn go_on<L: Listener, T: TokenAsks, A: Attestor, C: Clock, P: Ready<L::L>, G: Gate, R: Wait>(
     rt: &R,
     alloc: Global,
-    desk: &Mutex<Desk<S::V>>,
-    seat: &mut Seat<L, S, A, C, P>,
-    pass: &mut Pass<S::V>,
+    desk: &Mutex<Desk<T::V>>,
+    seat: &mut Seat<L, T, A, C, P>,
+    pass: &mut Pass<T::V>,
     links: &mut VecDeque<Connection<L::L>>,
     numbers: &mut Numbers,
     gate: &G,
 ) -> Step
-    requires { Fit (⟦<Seat<L, S, A, C, P> as SeatShown>⟧.view seat.old pass.old)
+    requires { Fit (⟦<Seat<L, T, A, C, P> as SeatShown>⟧.view seat.old pass.old)
         (map ⟦<Connection<L::L> as LinkShown>⟧.shown links.old.items) }
-    ensures goes { Stepped (⟦<Seat<L, S, A, C, P> as SeatShown>⟧.view seat.old pass.old)
-        (⟦<Seat<L, S, A, C, P> as SeatShown>⟧.view seat.new pass.new)
+    ensures goes { Stepped (⟦<Seat<L, T, A, C, P> as SeatShown>⟧.view seat.old pass.old)
+        (⟦<Seat<L, T, A, C, P> as SeatShown>⟧.view seat.new pass.new)
         (map ⟦<Connection<L::L> as LinkShown>⟧.shown links.old.items)
         (map ⟦<Connection<L::L> as LinkShown>⟧.shown links.new.items) result }
-    ensures tends { KeepsTending ((l : L.L) → IsSome (L.L.told l)) S.V.token
-        (⟦<Seat<L, S, A, C, P> as SeatShown>⟧.view seat.old pass.old)
-        (⟦<Seat<L, S, A, C, P> as SeatShown>⟧.view seat.new pass.new)
+    ensures tends { KeepsTending ((l : L.L) → IsSome (L.L.told l)) T.V.token
+        (⟦<Seat<L, T, A, C, P> as SeatShown>⟧.view seat.old pass.old)
+        (⟦<Seat<L, T, A, C, P> as SeatShown>⟧.view seat.new pass.new)
         (map ⟦<Connection<L::L> as LinkShown>⟧.shown links.old.items)
         (map ⟦<Connection<L::L> as LinkShown>⟧.shown links.new.items) result }
 {
@@ -152,25 +156,25 @@ fn go_on<L: Listener, S: Signer, A: Attestor, C: Clock, P: Ready<L::L>, G: Gate,
 }
 
 /// Serves the links that are left once there will be no more.
-fn serve_rest<L: Listener, S: Signer, A: Attestor, C: Clock, P: Ready<L::L>, G: Gate, R: Wait>(
+fn serve_rest<L: Listener, T: TokenAsks, A: Attestor, C: Clock, P: Ready<L::L>, G: Gate, R: Wait>(
     rt: &R,
     alloc: Global,
-    desk: &Mutex<Desk<S::V>>,
-    seat: &mut Seat<L, S, A, C, P>,
-    pass: &mut Pass<S::V>,
+    desk: &Mutex<Desk<T::V>>,
+    seat: &mut Seat<L, T, A, C, P>,
+    pass: &mut Pass<T::V>,
     links: &mut VecDeque<Connection<L::L>>,
     numbers: &mut Numbers,
     gate: &G,
 ) -> SeatEnd
-    requires { Fit (⟦<Seat<L, S, A, C, P> as SeatShown>⟧.view seat.old pass.old)
+    requires { Fit (⟦<Seat<L, T, A, C, P> as SeatShown>⟧.view seat.old pass.old)
         (map ⟦<Connection<L::L> as LinkShown>⟧.shown links.old.items) }
-    ensures goes { Rests (⟦<Seat<L, S, A, C, P> as SeatShown>⟧.view seat.old pass.old)
-        (⟦<Seat<L, S, A, C, P> as SeatShown>⟧.view seat.new pass.new)
+    ensures goes { Rests (⟦<Seat<L, T, A, C, P> as SeatShown>⟧.view seat.old pass.old)
+        (⟦<Seat<L, T, A, C, P> as SeatShown>⟧.view seat.new pass.new)
         (map ⟦<Connection<L::L> as LinkShown>⟧.shown links.old.items)
         (map ⟦<Connection<L::L> as LinkShown>⟧.shown links.new.items) result }
-    ensures tends { KeepsTending ((l : L.L) → IsSome (L.L.told l)) S.V.token
-        (⟦<Seat<L, S, A, C, P> as SeatShown>⟧.view seat.old pass.old)
-        (⟦<Seat<L, S, A, C, P> as SeatShown>⟧.view seat.new pass.new)
+    ensures tends { KeepsTending ((l : L.L) → IsSome (L.L.told l)) T.V.token
+        (⟦<Seat<L, T, A, C, P> as SeatShown>⟧.view seat.old pass.old)
+        (⟦<Seat<L, T, A, C, P> as SeatShown>⟧.view seat.new pass.new)
         (map ⟦<Connection<L::L> as LinkShown>⟧.shown links.old.items)
         (map ⟦<Connection<L::L> as LinkShown>⟧.shown links.new.items) (Step.Over result) }
 {
@@ -186,25 +190,25 @@ fn serve_rest<L: Listener, S: Signer, A: Attestor, C: Clock, P: Ready<L::L>, G: 
 }
 
 /// Takes links and serves them until the seat has ended, but for those that it then still serves.
-fn serve_all<L: Listener, S: Signer, A: Attestor, C: Clock, P: Ready<L::L>, G: Gate, R: Wait>(
+fn serve_all<L: Listener, T: TokenAsks, A: Attestor, C: Clock, P: Ready<L::L>, G: Gate, R: Wait>(
     rt: &R,
     alloc: Global,
-    desk: &Mutex<Desk<S::V>>,
-    seat: &mut Seat<L, S, A, C, P>,
-    pass: &mut Pass<S::V>,
+    desk: &Mutex<Desk<T::V>>,
+    seat: &mut Seat<L, T, A, C, P>,
+    pass: &mut Pass<T::V>,
     links: &mut VecDeque<Connection<L::L>>,
     numbers: &mut Numbers,
     gate: &G,
 ) -> SeatEnd
-    requires { Fit (⟦<Seat<L, S, A, C, P> as SeatShown>⟧.view seat.old pass.old)
+    requires { Fit (⟦<Seat<L, T, A, C, P> as SeatShown>⟧.view seat.old pass.old)
         (map ⟦<Connection<L::L> as LinkShown>⟧.shown links.old.items) }
-    ensures goes { EndedBy (⟦<Seat<L, S, A, C, P> as SeatShown>⟧.view seat.old pass.old)
-        (⟦<Seat<L, S, A, C, P> as SeatShown>⟧.view seat.new pass.new)
+    ensures goes { EndedBy (⟦<Seat<L, T, A, C, P> as SeatShown>⟧.view seat.old pass.old)
+        (⟦<Seat<L, T, A, C, P> as SeatShown>⟧.view seat.new pass.new)
         (map ⟦<Connection<L::L> as LinkShown>⟧.shown links.old.items)
         (map ⟦<Connection<L::L> as LinkShown>⟧.shown links.new.items) result }
-    ensures tends { KeepsTending ((l : L.L) → IsSome (L.L.told l)) S.V.token
-        (⟦<Seat<L, S, A, C, P> as SeatShown>⟧.view seat.old pass.old)
-        (⟦<Seat<L, S, A, C, P> as SeatShown>⟧.view seat.new pass.new)
+    ensures tends { KeepsTending ((l : L.L) → IsSome (L.L.told l)) T.V.token
+        (⟦<Seat<L, T, A, C, P> as SeatShown>⟧.view seat.old pass.old)
+        (⟦<Seat<L, T, A, C, P> as SeatShown>⟧.view seat.new pass.new)
         (map ⟦<Connection<L::L> as LinkShown>⟧.shown links.old.items)
         (map ⟦<Connection<L::L> as LinkShown>⟧.shown links.new.items) (Step.Over result) }
 {
@@ -219,30 +223,33 @@ fn serve_all<L: Listener, S: Signer, A: Attestor, C: Clock, P: Ready<L::L>, G: G
 }
 
 /// Finishes every link as it stands.
-fn finish_all<L: Listener, S: Signer, A: Attestor, C: Clock, P: Ready<L::L>>(
-    seat: &mut Seat<L, S, A, C, P>,
+fn finish_all<L: Listener, T: TokenAsks, A: Attestor, C: Clock, P: Ready<L::L>, R: Wait>(
+    rt: &R,
+    seat: &mut Seat<L, T, A, C, P>,
     links: &mut VecDeque<Connection<L::L>>,
     numbers: &mut Numbers,
 )
     requires { HasOpen (L.told seat.old.listener)
         (length (map ⟦<Connection<L::L> as LinkShown>⟧.shown links.old.items)) }
     ensures empty { deque_len links.new ≡ 0 }
-    ensures goes { (p : Passing) → Goes (⟦<Seat<L, S, A, C, P> as SeatShown>⟧.view seat.old p)
-        (⟦<Seat<L, S, A, C, P> as SeatShown>⟧.view seat.new p)
+    ensures goes { (p : Passing) → Goes (⟦<Seat<L, T, A, C, P> as SeatShown>⟧.view seat.old p)
+        (⟦<Seat<L, T, A, C, P> as SeatShown>⟧.view seat.new p)
         (map ⟦<Connection<L::L> as LinkShown>⟧.shown links.old.items)
         [] [] }
-    ensures tends { (p : Passing) → FinishesTending S.V.token
-        (⟦<Seat<L, S, A, C, P> as SeatShown>⟧.view seat.old p)
-        (⟦<Seat<L, S, A, C, P> as SeatShown>⟧.view seat.new p)
+    ensures tends { (p : Passing) → FinishesTending T.V.token
+        (⟦<Seat<L, T, A, C, P> as SeatShown>⟧.view seat.old p)
+        (⟦<Seat<L, T, A, C, P> as SeatShown>⟧.view seat.new p)
         (map ⟦<Connection<L::L> as LinkShown>⟧.shown links.old.items)
         [] }
 {
     'links: while let Some(connection) = links.pop_front() {
         let Connection {
             number,
+            asker,
             link,
             served: _served,
         } = connection;
+        seat.asks.forget(rt, asker);
         release(&mut seat.listener, &mut seat.ready, numbers, number, link);
     }
 }
@@ -250,7 +257,7 @@ fn finish_all<L: Listener, S: Signer, A: Attestor, C: Clock, P: Ready<L::L>>(
 /// Takes links and serves them until the seat has ended, and finishes those that are left.
 pub(crate) fn serve_links<
     L: Listener,
-    S: Signer,
+    T: TokenAsks,
     A: Attestor,
     C: Clock,
     P: Ready<L::L>,
@@ -259,19 +266,19 @@ pub(crate) fn serve_links<
 >(
     rt: &R,
     alloc: Global,
-    desk: &Mutex<Desk<S::V>>,
-    seat: &mut Seat<L, S, A, C, P>,
-    pass: &mut Pass<S::V>,
+    desk: &Mutex<Desk<T::V>>,
+    seat: &mut Seat<L, T, A, C, P>,
+    pass: &mut Pass<T::V>,
     gate: &G,
 ) -> SeatEnd
     requires { HasOpen (L.told seat.old.listener) 0 }
-    ensures goes { EndedBy (⟦<Seat<L, S, A, C, P> as SeatShown>⟧.view seat.old pass.old)
-        (⟦<Seat<L, S, A, C, P> as SeatShown>⟧.view seat.new pass.new)
+    ensures goes { EndedBy (⟦<Seat<L, T, A, C, P> as SeatShown>⟧.view seat.old pass.old)
+        (⟦<Seat<L, T, A, C, P> as SeatShown>⟧.view seat.new pass.new)
         []
         [] result }
-    ensures tends { ((l : L.L) → IsSome (L.L.told l)) → Tends S.V.token seat.old.socket seat.old.room result
-        (⟦<Seat<L, S, A, C, P> as SeatShown>⟧.view seat.old pass.old).world
-        (⟦<Seat<L, S, A, C, P> as SeatShown>⟧.view seat.new pass.new).world }
+    ensures tends { ((l : L.L) → IsSome (L.L.told l)) → Tends T.V.token seat.old.socket seat.old.room result
+        (⟦<Seat<L, T, A, C, P> as SeatShown>⟧.view seat.old pass.old).world
+        (⟦<Seat<L, T, A, C, P> as SeatShown>⟧.view seat.new pass.new).world }
 {
     let mut numbers = match Numbers::start(alloc, seat.room) {
         Ok(numbers) => numbers,
@@ -279,7 +286,7 @@ pub(crate) fn serve_links<
     };
     let mut links = VecDeque::new(alloc);
     let end = serve_all(rt, alloc, desk, seat, pass, &mut links, &mut numbers, gate);
-    finish_all(seat, &mut links, &mut numbers);
+    finish_all(rt, seat, &mut links, &mut numbers);
     links.destroy_empty();
     end
 }

@@ -1,20 +1,22 @@
 //! A served connection.
 
-ghost use Rattle.std.specs.Prelude.{◌≡◌, ◌<◌, ◌≤◌, [], IfOk, vec_len};
+ghost use Rattle.std.specs.Prelude.{◌≡◌, ◌⊎◌, ◌<◌, ◌≤◌, [], None, IfOk, vec_len};
 ghost use Rattle.wl_edge.specs.Edge.{Rose};
-ghost use Rattle.wl_session.specs.Sessions.{fresh_session};
+ghost use Rattle.wl_session.specs.Sessions.{asks_in, fresh_session};
 ghost use Rattle.wl_worker.specs.Sending.{IsDue, Settles, end_of};
+ghost use Rattle.wl_worker.specs.Outcomes.{asker};
 ghost use Rattle.wl_worker.specs.Served.{RoundTells, around, HasSeenLast};
 
 use crate::ended::{Ended, RoundEnd};
 use crate::flush::{Flushed, flush};
 use crate::stepping::hear_and_step;
+use ask_mail::TokenAsks;
 use std::alloc::Global;
 use std::marker::Model;
 use std::mem;
 use std::sync::{Mutex, Wait};
 use wl_desk::Desk;
-use wl_edge::{Attestor, Clock, Gate, Link, Signer};
+use wl_edge::{Attestor, Clock, Gate, Link};
 use wl_octets::{Memory, Octets};
 use wl_publish::Pass;
 use wl_session::{Session, SessionFault};
@@ -123,34 +125,39 @@ impl Served {
 
     /// One round. First it sends what is unsent, and answers `Later` where the link takes nothing for now,
     /// or the end that is due. Else it receives once; feeds what came; has each call attested that became
-    /// ready; passes the point before turns; reads the pass; takes the turn; answers each ask that waits;
-    /// and sends what was written. What the link does not take stays unsent.
+    /// ready; passes the point before turns; reads the pass; takes the turn; answers the asks that wait, while
+    /// an outcome has come; and sends what was written. What the link does not take stays unsent. It waits for
+    /// no answer to an ask.
     ///
     /// An end other than `WriteFault` and `Memory` is answered once all that is due was sent; after an end
     /// no round is to be taken. What the pass has seen has to begin with what it had seen at the end of the
     /// last round.
-    pub fn round<L: Link, A: Attestor, S: Signer, C: Clock, G: Gate, R: Wait>(
+    pub fn round<L: Link, A: Attestor, T: TokenAsks, C: Clock, G: Gate, R: Wait>(
         &mut self,
         rt: &R,
-        desk: &Mutex<Desk<S::V>>,
-        pass: &mut Pass<S::V>,
+        desk: &Mutex<Desk<T::V>>,
+        pass: &mut Pass<T::V>,
         link: &mut L,
         socket: u32,
         attestor: &mut A,
-        signer: &mut S,
+        connection: u64,
+        asks: &mut T,
         clock: &mut C,
         gate: &G,
     ) -> RoundEnd
         // The publication of the last turn is one of those that the pass has seen.
         requires { HasSeenLast pass.old.seen self.old.session }
-        ensures tells { RoundTells S.V.signed S.V.token socket self.old self.new (L.told link.old)
+        ensures tells { RoundTells T.V.signed (asker connection T.V.token) socket self.old self.new (L.told link.old)
             (L.told link.new)
-            (around (A.calls attestor.old) (A.faults attestor.old) (S.calls signer.old) (S.faults signer.old)
+            (around (A.calls attestor.old) (A.faults attestor.old) (T.taken asks.old) (T.faults asks.old)
             (C.answers clock.old) pass.old)
-            (around (A.calls attestor.new) (A.faults attestor.new) (S.calls signer.new) (S.faults signer.new)
+            (around (A.calls attestor.new) (A.faults attestor.new) (T.taken asks.new) (T.faults asks.new)
             (C.answers clock.new) pass.new)
             result }
         ensures seen { HasSeenLast pass.new.seen self.new.session }
+        // An ask that waits on is in the queue or under way, or its answer is in the mailbox.
+        ensures waits { result ≡ RoundEnd.On
+            → (asks_in self.new.session ≡ None) ⊎ T.holds asks.new connection }
         ensures later { result ≡ RoundEnd.Later → Rose (L.stalls link.old) (L.stalls link.new) }
         ensures read_fault { result ≡ RoundEnd.Ended Ended.ReadFault
             → Rose (L.failed_receives link.old) (L.failed_receives link.new) }
@@ -167,8 +174,8 @@ impl Served {
         let buffer = self.buffer.as_mut_slice();
         let session = &mut self.session;
         if let Err(end) = hear_and_step(
-            rt, self.alloc, desk, pass, link, socket, attestor, signer, clock, gate, session,
-            buffer, &mut out,
+            rt, self.alloc, desk, pass, link, socket, attestor, connection, asks, clock, gate,
+            session, buffer, &mut out,
         ) {
             return RoundEnd::Ended(end);
         }

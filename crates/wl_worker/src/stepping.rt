@@ -1,20 +1,22 @@
 //! One round of the trace: a piece, names, a turn, and tokens.
 
-ghost use Rattle.std.specs.Prelude.{◌≡◌, ◌<◌, ◌≤◌, None, Err, length};
+ghost use Rattle.std.specs.Prelude.{◌≡◌, ◌⊎◌, ◌<◌, ◌≤◌, None, Err, OnOk, length};
 ghost use Rattle.wl_edge.specs.Edge.{Rose};
-ghost use Rattle.wl_session.specs.Sessions.{unnamed_in};
+ghost use Rattle.wl_session.specs.Sessions.{asks_in, unnamed_in};
 ghost use Rattle.wl_session.specs.Settled.{MayTurn};
+ghost use Rattle.wl_worker.specs.Outcomes.{asker};
 ghost use Rattle.wl_worker.specs.Served.{around, HasSeenLast};
 ghost use Rattle.wl_worker.specs.Stepping.{TurnTells, StepTells, HearTells};
 
 use crate::ended::Ended;
 use crate::hearing::hear;
 use crate::naming::attest_all;
-use crate::outcomes::answer_all;
+use crate::outcomes::answer_ready;
+use ask_mail::TokenAsks;
 use std::alloc::Global;
 use std::sync::{Mutex, Wait};
 use wl_desk::Desk;
-use wl_edge::{Attestor, BEFORE_TURN, Clock, Gate, Link, Signer};
+use wl_edge::{Attestor, BEFORE_TURN, Clock, Gate, Link};
 use wl_octets::{Memory, Octets};
 use wl_publish::{Edition, Pass};
 use wl_session::{Session, SessionFault};
@@ -32,16 +34,17 @@ fn take_turn(session: &mut Session, edition: &Edition, out: &mut Octets) -> Resu
 }
 
 /// Feeds what came, has each call attested that became ready, reads the last publication, takes the turn,
-/// and answers each ask that waits. Where the talk fails there is no turn. What is to be sent is put behind
+/// and answers the asks that wait, while an outcome has come. Where the talk fails there is no turn. What is to be sent is put behind
 /// `out`; out of memory that is of no use.
-pub fn step<A: Attestor, S: Signer, C: Clock, G: Gate, R: Wait>(
+pub fn step<A: Attestor, T: TokenAsks, C: Clock, G: Gate, R: Wait>(
     rt: &R,
     alloc: Global,
-    desk: &Mutex<Desk<S::V>>,
-    pass: &mut Pass<S::V>,
+    desk: &Mutex<Desk<T::V>>,
+    pass: &mut Pass<T::V>,
     socket: u32,
     attestor: &mut A,
-    signer: &mut S,
+    connection: u64,
+    asks: &mut T,
     clock: &mut C,
     gate: &G,
     piece: &[u8],
@@ -49,12 +52,13 @@ pub fn step<A: Attestor, S: Signer, C: Clock, G: Gate, R: Wait>(
     out: &mut Octets,
 ) -> Result<(), Memory>
     requires { HasSeenLast pass.old.seen session.old }
-    ensures { StepTells S.V.signed S.V.token socket piece.now session.old session.new out.old out.new
-        (around (A.calls attestor.old) (A.faults attestor.old) (S.calls signer.old) (S.faults signer.old)
+    ensures tells { StepTells T.V.signed (asker connection T.V.token) socket piece.now session.old session.new out.old out.new
+        (around (A.calls attestor.old) (A.faults attestor.old) (T.taken asks.old) (T.faults asks.old)
         (C.answers clock.old) pass.old)
-        (around (A.calls attestor.new) (A.faults attestor.new) (S.calls signer.new) (S.faults signer.new)
+        (around (A.calls attestor.new) (A.faults attestor.new) (T.taken asks.new) (T.faults asks.new)
         (C.answers clock.new) pass.new)
         result }
+    ensures waits { OnOk result ((asks_in session.new ≡ None) ⊎ T.holds asks.new connection) }
 {
     match session.feed(piece, out) {
         Ok(()) => {}
@@ -65,21 +69,22 @@ pub fn step<A: Attestor, S: Signer, C: Clock, G: Gate, R: Wait>(
     gate.pass(BEFORE_TURN);
     let edition = pass.read()?;
     take_turn(session, &edition, out)?;
-    answer_all(rt, alloc, desk, signer, clock, session, out)?;
+    answer_ready(rt, alloc, desk, connection, asks, clock, session, out)?;
     Ok(())
 }
 
 /// Hears the link once, and takes a step with what came. `Closed` and `ReadFault` are of the link; then
 /// nothing else is done.
-pub fn hear_and_step<L: Link, A: Attestor, S: Signer, C: Clock, G: Gate, R: Wait>(
+pub fn hear_and_step<L: Link, A: Attestor, T: TokenAsks, C: Clock, G: Gate, R: Wait>(
     rt: &R,
     alloc: Global,
-    desk: &Mutex<Desk<S::V>>,
-    pass: &mut Pass<S::V>,
+    desk: &Mutex<Desk<T::V>>,
+    pass: &mut Pass<T::V>,
     link: &mut L,
     socket: u32,
     attestor: &mut A,
-    signer: &mut S,
+    connection: u64,
+    asks: &mut T,
     clock: &mut C,
     gate: &G,
     session: &mut Session,
@@ -88,13 +93,14 @@ pub fn hear_and_step<L: Link, A: Attestor, S: Signer, C: Clock, G: Gate, R: Wait
 ) -> Result<(), Ended>
     requires seen { HasSeenLast pass.old.seen session.old }
     requires room { 0 < length buffer.old }
-    ensures tells { HearTells S.V.signed S.V.token socket session.old session.new out.old out.new
+    ensures tells { HearTells T.V.signed (asker connection T.V.token) socket session.old session.new out.old out.new
         (L.told link.old) (L.told link.new)
-        (around (A.calls attestor.old) (A.faults attestor.old) (S.calls signer.old) (S.faults signer.old)
+        (around (A.calls attestor.old) (A.faults attestor.old) (T.taken asks.old) (T.faults asks.old)
         (C.answers clock.old) pass.old)
-        (around (A.calls attestor.new) (A.faults attestor.new) (S.calls signer.new) (S.faults signer.new)
+        (around (A.calls attestor.new) (A.faults attestor.new) (T.taken asks.new) (T.faults asks.new)
         (C.answers clock.new) pass.new)
         result }
+    ensures waits { OnOk result ((asks_in session.new ≡ None) ⊎ T.holds asks.new connection) }
     ensures failed { result ≡ Err Ended.ReadFault
         → Rose (L.failed_receives link.old) (L.failed_receives link.new) }
     ensures receives { L.failed_receives link.old ≤ L.failed_receives link.new }
@@ -107,7 +113,7 @@ pub fn hear_and_step<L: Link, A: Attestor, S: Signer, C: Clock, G: Gate, R: Wait
     };
     let piece = buffer.split_at(count).0;
     match step(
-        rt, alloc, desk, pass, socket, attestor, signer, clock, gate, piece, session, out,
+        rt, alloc, desk, pass, socket, attestor, connection, asks, clock, gate, piece, session, out,
     ) {
         Ok(()) => Ok(()),
         Err(Memory) => Err(Ended::Memory),

@@ -4,18 +4,23 @@
 ghost use Rattle.std.specs.Prelude.{◌≡◌, ◌≤◌};
 ghost use Rattle.wl_worker.specs.Upkeep.{AskedOn, PulledAgain};
 
+use crate::asks::SeatAsk;
 use crate::documents::{Synced, sync_once};
 use crate::keeper::{Kept, keep_once};
-use crate::queue::{QueuedTicket, TicketQueue};
+use crate::queue::{QueuedTicket, TicketQueue, Work};
 use crate::signing::{Asked, sign_once};
+use ask_mail::{Answered, sign};
 use std::alloc::Global;
 use std::sync::{Mutex, Wait};
 use wl_desk::Desk;
 use wl_edge::{BEFORE_KEEPING, BEFORE_SIGNING, BEFORE_UPKEEP, Bell, Clock, Gate, Signer, Upstream};
 use wl_entry::Voucher;
-use wl_octets::{Octets, Row};
+use wl_octets::{Memory, Octets, Row};
 use wl_publish::Note;
 use wl_store::Ticket;
+
+/// A failed exchange with a signer that took so many seconds has ended by time.
+const LONG_EXCHANGE: u64 = 10;
 
 /// Lets go of what has ended and puts what is due into the queue, round for round, at least once, until no seat serves;
 /// then it closes the queue. Point 3 of the gate is passed before each round. Bells ring after a new publication.
@@ -23,7 +28,7 @@ pub fn keep_time<V: Voucher, C: Clock, G: Gate, B: Bell, R: Wait>(
     rt: &R,
     alloc: Global,
     desk: &Mutex<Desk<V>>,
-    queue: &TicketQueue,
+    queue: &TicketQueue<V>,
     clock: &mut C,
     gate: &G,
     bells: &[B],
@@ -47,7 +52,7 @@ pub fn pull_documents<V: Voucher, U: Upstream, C: Clock, G: Gate, B: Bell, R: Wa
     rt: &R,
     alloc: Global,
     desk: &Mutex<Desk<V>>,
-    queue: &TicketQueue,
+    queue: &TicketQueue<V>,
     upstream: &mut U,
     clock: &mut C,
     gate: &G,
@@ -69,13 +74,14 @@ pub fn pull_documents<V: Voucher, U: Upstream, C: Clock, G: Gate, B: Bell, R: Wa
     unreachable!()
 }
 
-/// Asks for one identity after the other from the queue, until it is closed. Point 4 of the gate is passed before each.
-/// An ask that failed is put back; bells ring after each identity that was kept.
+/// Asks for one token or identity after the other from the queue, until it is closed. Point 4 of the gate is passed before
+/// each. An ask for an identity that failed is put back; bells ring after each identity that was kept. After a token the
+/// bell of its seat rings.
 pub fn sign_asks<S: Signer, C: Clock, G: Gate, B: Bell, R: Wait>(
     rt: &R,
     alloc: Global,
     desk: &Mutex<Desk<S::V>>,
-    queue: &TicketQueue,
+    queue: &TicketQueue<S::V>,
     signer: &mut S,
     clock: &mut C,
     gate: &G,
@@ -86,13 +92,38 @@ pub fn sign_asks<S: Signer, C: Clock, G: Gate, B: Bell, R: Wait>(
 {
     for _ in rt.forever() {
         gate.pass(BEFORE_SIGNING);
-        match queue.next(rt) {
-            Some(queued) => sign_next(rt, alloc, desk, queue, signer, clock, bells, queued),
-            None if queue.is_closed(rt) => return,
-            None => {}
+        if !sign_next(rt, alloc, desk, queue, signer, clock, bells) {
+            return;
         }
     }
     unreachable!()
+}
+
+/// Waits for one ask for a token or an identity, and has it signed; an ask for an identity that failed is put back. False
+/// where the queue is closed.
+pub fn sign_next<S: Signer, C: Clock, B: Bell, R: Wait>(
+    rt: &R,
+    alloc: Global,
+    desk: &Mutex<Desk<S::V>>,
+    queue: &TicketQueue<S::V>,
+    signer: &mut S,
+    clock: &mut C,
+    bells: &[B],
+) -> bool
+    ensures told { AskedOn (S.calls signer.old) (S.calls signer.new) }
+    ensures faults { S.faults signer.old ≤ S.faults signer.new }
+{
+    match queue.next(rt) {
+        Some(Work::Identity(queued)) => {
+            sign_identity(rt, alloc, desk, queue, signer, clock, bells, queued);
+            true
+        }
+        Some(Work::Token(ask)) => {
+            sign_token(rt, alloc, desk, queue, signer, clock, bells, ask);
+            true
+        }
+        None => false,
+    }
 }
 
 /// One look at the desk. It answers the number of the last publication, up to which the bells have rung.
@@ -100,7 +131,7 @@ fn keep_round<V: Voucher, C: Clock, B: Bell, R: Wait>(
     rt: &R,
     alloc: Global,
     desk: &Mutex<Desk<V>>,
-    queue: &TicketQueue,
+    queue: &TicketQueue<V>,
     clock: &mut C,
     bells: &[B],
     rung: Option<u64>,
@@ -120,7 +151,7 @@ fn keep_round<V: Voucher, C: Clock, B: Bell, R: Wait>(
 fn put_all<V: Voucher, R: Wait>(
     rt: &R,
     desk: &Mutex<Desk<V>>,
-    queue: &TicketQueue,
+    queue: &TicketQueue<V>,
     tickets: Row<Ticket>,
 ) {
     let mut left = tickets.into_vec();
@@ -134,11 +165,11 @@ fn put_all<V: Voucher, R: Wait>(
 }
 
 /// Asks for the identity of one ticket. Where no entry has its ask any more the ticket goes back without that.
-fn sign_next<S: Signer, C: Clock, B: Bell, R: Wait>(
+fn sign_identity<S: Signer, C: Clock, B: Bell, R: Wait>(
     rt: &R,
     alloc: Global,
     desk: &Mutex<Desk<S::V>>,
-    queue: &TicketQueue,
+    queue: &TicketQueue<S::V>,
     signer: &mut S,
     clock: &mut C,
     bells: &[B],
@@ -153,15 +184,85 @@ fn sign_next<S: Signer, C: Clock, B: Bell, R: Wait>(
         return;
     }
     let entry_id = ticket.ask.entry_id.copy(alloc).ok();
+    let before = clock.now();
     let asked = sign_once(rt, alloc, desk, signer, clock, ticket);
-    pace(rt, queue, entry_id, &asked, clock.now());
-    settle(rt, desk, queue, bells, asked, pause, clock.now());
+    let now = clock.now();
+    if matches!(&asked, Asked::Failed(_)) {
+        end_by_time(rt, queue, bells, before, now);
+    }
+    pace(rt, queue, entry_id, &asked, now);
+    settle(rt, desk, queue, bells, asked, pause, now);
+}
+
+/// Has a token signed for a connection of a seat, puts the answer into the mailbox, and rings the seat. The token of a
+/// connection that awaits it no more is offered to those that are kept, and told to nobody.
+fn sign_token<S: Signer, C: Clock, B: Bell, R: Wait>(
+    rt: &R,
+    alloc: Global,
+    desk: &Mutex<Desk<S::V>>,
+    queue: &TicketQueue<S::V>,
+    signer: &mut S,
+    clock: &mut C,
+    bells: &[B],
+    ask: SeatAsk,
+)
+    ensures told { AskedOn (S.calls signer.old) (S.calls signer.new) }
+    ensures faults { S.faults signer.old ≤ S.faults signer.new }
+{
+    let SeatAsk { seat, asked } = ask;
+    let before = clock.now();
+    let letter = sign(signer, asked);
+    let now = clock.now();
+    let failed = !letter.has_token();
+    if let Some(late) = queue.hub().answered(rt, seat, letter) {
+        keep_late(rt, alloc, desk, late, now);
+    }
+    if failed {
+        end_by_time(rt, queue, bells, before, now);
+    }
+    ring_seat(bells, seat);
+}
+
+/// A token that came too late is offered to those that are kept.
+fn keep_late<V: Voucher, R: Wait>(
+    rt: &R,
+    alloc: Global,
+    desk: &Mutex<Desk<V>>,
+    letter: Answered<V>,
+    now: u64,
+) {
+    let (ask, audience, answer) = letter.into_parts();
+    let Some(token) = answer else { return };
+    if token.unfit(now).is_some() {
+        return;
+    }
+    match desk
+        .lock(rt)
+        .keep_token(alloc, &ask, audience.as_slice(), token, now)
+    {
+        Ok(_) | Err(Memory) => {}
+    }
+}
+
+/// Where a failed exchange with a signer took from one second to the other it has ended by time: then asks for tokens fail
+/// for a while, those that wait too.
+fn end_by_time<V: Voucher, B: Bell, R: Wait>(
+    rt: &R,
+    queue: &TicketQueue<V>,
+    bells: &[B],
+    before: u64,
+    now: u64,
+) {
+    if now.saturating_sub(before) >= LONG_EXCHANGE {
+        queue.hub().silence(rt, now);
+        ring_all(bells);
+    }
 }
 
 /// An entry whose answer was not kept is slowed down, until one is kept.
 fn pace<V: Voucher, R: Wait>(
     rt: &R,
-    queue: &TicketQueue,
+    queue: &TicketQueue<V>,
     entry_id: Option<Octets>,
     asked: &Asked<V>,
     now: u64,
@@ -179,7 +280,7 @@ fn pace<V: Voucher, R: Wait>(
 fn settle<V: Voucher, B: Bell, R: Wait>(
     rt: &R,
     desk: &Mutex<Desk<V>>,
-    queue: &TicketQueue,
+    queue: &TicketQueue<V>,
     bells: &[B],
     asked: Asked<V>,
     pause: u64,
@@ -218,6 +319,13 @@ fn ring_news<V: Voucher, B: Bell>(bells: &[B], rung: Option<u64>, note: &Note<V>
         ring_all(bells);
     }
     last
+}
+
+/// Rings the bell of a seat.
+fn ring_seat<B: Bell>(bells: &[B], seat: u32) {
+    if let Some(bell) = bells.get(seat as usize) {
+        bell.ring();
+    }
 }
 
 /// Rings all bells.

@@ -42,8 +42,9 @@ fn serve_link<G: Gate, R: Wait>(
         &mut pass,
         link,
         0,
-        &mut outside.signer,
         &mut outside.attestor,
+        0,
+        &mut outside.asks,
         &mut outside.clock,
         gate,
     );
@@ -63,7 +64,7 @@ fn serve<R: Wait>(
     Ok(Came {
         end,
         took: Octets::from_slice(alloc, link.took())?,
-        asked: outside.signer.calls().len(),
+        asked: outside.asks.signer.calls().len(),
     })
 }
 

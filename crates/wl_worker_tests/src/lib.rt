@@ -7,3 +7,5 @@ mod connection_tests;
 mod seat_tests;
 #[cfg(test)]
 mod tests;
+#[cfg(test)]
+mod token_tests;

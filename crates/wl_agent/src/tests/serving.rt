@@ -135,7 +135,6 @@ fn seat(alloc: Global, case: &Case) -> Result<SeatPlan, Memory> {
             answers: 8,
         },
         selectors: Script::start(Row::empty(alloc), Row::empty(alloc)),
-        tokens: Script::start(Row::empty(alloc), Row::empty(alloc)),
         times: Row::empty(alloc),
         failing: numbers(alloc, case.waits)?,
     })
@@ -152,6 +151,7 @@ fn binder(alloc: Global, case: &Case) -> Result<MemoryHost<OpenGate>, Memory> {
     seats.push_reserved(seat(alloc, case)?);
     Ok(MemoryHost::start(Some(HostPlan {
         documents: documents(alloc, case)?,
+        tokens: Script::start(Row::empty(alloc), Row::empty(alloc)),
         identities: Script::start(Row::empty(alloc), Row::empty(alloc)),
         puller_times: Row::empty(alloc),
         keeper_times: Row::empty(alloc),

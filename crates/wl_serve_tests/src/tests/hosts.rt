@@ -148,7 +148,6 @@ fn seat(alloc: Global, trial: &Trial) -> Result<SeatPlan, Stop> {
     Ok(SeatPlan {
         listener: listener(alloc, trial)?,
         selectors: attested(alloc, b"unix:uid:1", trial.attests)?,
-        tokens: Script::start(Row::empty(alloc), Row::empty(alloc)),
         times: numbers(alloc, &[100])?,
         failing: numbers(alloc, trial.waits)?,
     })
@@ -183,6 +182,7 @@ where
     }
     Ok(MemoryHost::start(Some(HostPlan {
         documents: documents(alloc, trial)?,
+        tokens: Script::start(Row::empty(alloc), Row::empty(alloc)),
         identities: identities(alloc, trial)?,
         puller_times: numbers(alloc, &[100])?,
         keeper_times: numbers(alloc, &[100, 100, 101])?,

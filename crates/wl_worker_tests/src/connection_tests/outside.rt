@@ -1,5 +1,6 @@
 //! The outside of a connection, in memory.
 
+use ask_mail::DirectAsks;
 use std::alloc::{AllocError, Global};
 use wl_edge::{Heard, LinkPlan, MemoryAttestor, MemoryClock, MemorySigner, Script};
 use wl_entry::JwtToken;
@@ -116,7 +117,7 @@ pub fn plan(alloc: Global, pieces: &[&[&[u8]]]) -> Result<LinkPlan, Memory> {
 #[derive(Drop)]
 pub struct Outside {
     pub attestor: MemoryAttestor,
-    pub signer: MemorySigner,
+    pub asks: DirectAsks<MemorySigner>,
     pub clock: MemoryClock,
 }
 
@@ -128,11 +129,13 @@ pub fn memory_outside(
     unsigned: &[u64],
 ) -> Result<Outside, Stop> {
     let attestor = attestor(alloc, unattested)?;
-    let signer = signer(alloc, unsigned)?;
+    let asks = DirectAsks {
+        signer: signer(alloc, unsigned)?,
+    };
     let clock = times(alloc, now)?;
     Ok(Outside {
         attestor,
-        signer,
+        asks,
         clock,
     })
 }

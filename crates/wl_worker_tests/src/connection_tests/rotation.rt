@@ -67,8 +67,9 @@ fn serve_beside<R: Wait>(
         pass,
         link,
         0,
-        &mut outside.signer,
         &mut outside.attestor,
+        0,
+        &mut outside.asks,
         &mut outside.clock,
         &gate,
     )

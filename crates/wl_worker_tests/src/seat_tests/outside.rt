@@ -2,6 +2,7 @@
 
 use crate::connection_tests::frames::{EMPTY, GREETING, HEAD, OPENING, RESPONSE};
 use crate::connection_tests::outside::{Stop, memory_outside, numbers, plan};
+use ask_mail::DirectAsks;
 use std::alloc::Global;
 use wl_edge::{
     LinkPlan, ListenerPlan, MemoryAttestor, MemoryClock, MemoryLink, MemoryListener, MemorySigner,
@@ -10,7 +11,8 @@ use wl_octets::{Memory, Row};
 use wl_worker::Seat;
 
 /// A seat whose links are watched by this.
-pub type MemorySeat<P> = Seat<MemoryListener, MemorySigner, MemoryAttestor, MemoryClock, P>;
+pub type MemorySeat<P> =
+    Seat<MemoryListener, DirectAsks<MemorySigner>, MemoryAttestor, MemoryClock, P>;
 
 /// Whether a link took its whole talk, or else nothing.
 pub fn took(link: &MemoryLink, whole: bool) -> bool {
@@ -67,7 +69,8 @@ pub fn seat<P: Drop>(
     Ok(Seat {
         listener,
         socket: 0,
-        signer: outside.signer,
+        asks: outside.asks,
+        connections: 0,
         attestor: outside.attestor,
         clock: outside.clock,
         pass: None,

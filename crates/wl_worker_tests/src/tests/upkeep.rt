@@ -5,7 +5,7 @@ use super::gates::{Closing, Starved};
 use std::alloc::Global;
 use std::rt::Clock;
 use std::sync::atomic::{AtomicU64, Ordering};
-use std::sync::{Mutex, Wait};
+use std::sync::{Arc, Mutex, Wait};
 use std::test::Fail;
 use std::thread::{Threads, join_mut};
 use wl_desk::{Desk, last_edition};
@@ -19,7 +19,7 @@ use wl_octets::{Memory, Octets, Row};
 use wl_publish::start;
 use wl_store::Ticket;
 use wl_worker::{
-    Asked, Kept, Synced, TicketQueue, keep_once, keep_time, pull_documents, sign_asks, sign_once,
+    AskHub, Asked, Kept, Synced, TicketQueue, keep_once, keep_time, pull_documents, sign_asks, sign_once,
     sync_once,
 };
 
@@ -285,11 +285,12 @@ fn keep_and_sign<R: Threads + Wait + Clock + Sync>(
     rt: &R,
     alloc: Global,
     desk: &Mutex<Desk<Free>>,
+    hub: Arc<AskHub<Free>>,
     beside: &mut Beside,
     asks: u64,
 ) -> bool {
     let gate = Closing::start(rt, desk, BEFORE_KEEPING, asks);
-    let queue = TicketQueue::start(alloc);
+    let queue = TicketQueue::start(alloc, hub);
     let (signer, clock, bells) = (&mut beside.signer, &mut beside.clock, &beside.bells);
     let keeper = &mut beside.keeper;
     join_mut(
@@ -305,9 +306,10 @@ fn keep_and_sign<R: Threads + Wait + Clock + Sync>(
 fn a_failed_ask_is_asked_again_after_a_pause(rt: HostRuntime) -> Result<(), Fail> {
     let alloc = rt.alloc();
     let mut beside = Beside::start(alloc, 0)?;
+    let hub = AskHub::start(alloc, 2, 1)?;
     let desk = Mutex::new(open(&rt, alloc, TWO, 1)?);
     // before e1, which fails; before e2; before e1 again; and once more
-    let came = keep_and_sign(&rt, alloc, &desk, &mut beside, 4);
+    let came = keep_and_sign(&rt, alloc, &desk, hub, &mut beside, 4);
     desk.into_inner().end(&rt);
     assert!(rt; came);
     assert_eq!(rt; beside.signer.calls().len(), 3);
@@ -329,9 +331,10 @@ fn documents_are_pulled_until_no_seat_serves(rt: HostRuntime) -> Result<(), Fail
     let alloc = rt.alloc();
     for (seats, pulls) in [(0, 1), (1, 3)] {
         let mut beside = Beside::start(alloc, 9)?;
+        let hub = AskHub::start(alloc, 2, 1)?;
         let desk = Mutex::new(open(&rt, alloc, DOC, seats)?);
         let gate = Closing::start(&rt, &desk, BEFORE_UPKEEP, 3);
-        let queue = TicketQueue::start(alloc);
+        let queue = TicketQueue::start(alloc, hub);
         let (upstream, clock, bells) = (&mut beside.upstream, &mut beside.clock, &beside.bells);
         pull_documents(&rt, alloc, &desk, &queue, upstream, clock, &gate, bells);
         drop(gate);

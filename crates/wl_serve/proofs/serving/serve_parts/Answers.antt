@@ -1,5 +1,5 @@
 use Rattle.std.proofs.Common.{◌∙◌, ap, sym}
-use Rattle.std.specs.Prelude.{length}
+use Rattle.std.specs.Prelude.{length, None}
 use Rattle.wl_serve.proofs.Ran.{sat_back}
 use Rattle.wl_serve.proofs.serving.serve_parts.Goals as goal
 
@@ -7,5 +7,5 @@ pub returns : goal.returns
 returns g c =
     let value = c.as_mut_slice.ensures.value in
     let long = ap (λ l. length l) value in
-    sat_back _ _ c.args.parts.now.seats.items c.serve_first.new.seats c.as_mut_slice.result.now c.args.parts.now.seats.len (λ s. record { socket = s.socket; room = s.room; listener = g.B.Listen.Listener.told s.listener; listener_faults = g.B.Listen.Listener.faults s.listener; ready_faults = g.B.Poll.Ready.faults s.ready; attestor = g.B.Att.Attestor.calls s.attestor; attestor_faults = g.B.Att.Attestor.faults s.attestor; signer = g.B.Sign.Signer.calls s.signer; signer_faults = g.B.Sign.Signer.faults s.signer; clock = g.B.Time.Clock.answers s.clock; pass = s.pass; end = s.end }) _ _ _ _ _ value
+    sat_back _ _ c.args.parts.now.seats.items c.serve_first.new.seats c.as_mut_slice.result.now c.args.parts.now.seats.len (λ s. record { socket = s.socket; room = s.room; listener = g.B.Listen.Listener.told s.listener; listener_faults = g.B.Listen.Listener.faults s.listener; ready_faults = g.B.Poll.Ready.faults s.ready; attestor = g.B.Att.Attestor.calls s.attestor; attestor_faults = g.B.Att.Attestor.faults s.attestor; asks = None; ask_faults = s.asks.faults; clock = g.B.Time.Clock.answers s.clock; pass = s.pass; end = s.end }) _ _ _ _ _ value
     (c.serve_first.auto.seats ∙ long) (sym c.as_mut_slice.ensures.len ∙ long) c.serve_first.ensures

@@ -145,7 +145,6 @@ fn seat(alloc: Global, client: &Client) -> Result<SeatPlan, Stop> {
     Ok(SeatPlan {
         listener: listener(alloc)?,
         selectors: attested(alloc, client.selector, &[])?,
-        tokens: Script::start(Row::empty(alloc), Row::empty(alloc)),
         times: numbers(alloc, &[FIRST.from])?,
         failing: Row::empty(alloc),
     })
@@ -167,6 +166,7 @@ pub fn serve_node<'a, R: Threads + Wait + Sync + Clock>(
 ) -> Result<(ServeEnd, Kept<'a, R>), Stop> {
     let mut host = MemoryHost::start(Some(HostPlan {
         documents: documents(alloc)?,
+        tokens: Script::start(Row::empty(alloc), Row::empty(alloc)),
         identities: identities(alloc)?,
         puller_times: numbers(alloc, &[FIRST.from])?,
         // two answers for each look

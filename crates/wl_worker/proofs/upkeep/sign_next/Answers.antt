@@ -1,5 +1,5 @@
-use Rattle.wl_worker.proofs.Asking.{asked_once}
+use Rattle.wl_worker.proofs.Asking.{none_asked}
 use Rattle.wl_worker.proofs.upkeep.sign_next.Goals as goal
 
-pub returns-clause-told : goal.returns-clause-told
-returns-clause-told g c = asked_once _ _ _ _ _ _ c.sign_once-asked.ensures
+pub returns-in-None-clause-told : goal.returns-in-None-clause-told
+returns-in-None-clause-told g c = none_asked _
