@@ -1,7 +1,8 @@
 //! The real host: what a configuration names, over the operating system.
 
-ghost use Rattle.std.specs.Prelude.{◌≡◌, ◌<◌, ◌≤◌, IfOk, length};
+ghost use Rattle.std.specs.Prelude.{◌≡◌, ◌<◌, ◌≤◌, ⊤, [], Some, IfOk, IfSome, length, string_bytes};
 ghost use Rattle.wl_edge.specs.Edge.{Rose};
+ghost use Rattle.wl_serve.specs.Prepared.{IsSeat};
 
 use crate::documents::{AgentUpstream, Source};
 use crate::signers::{AgentSigner, AgentVoucher, SignedBy};
@@ -16,12 +17,13 @@ use std::thread::Threads;
 use wl_config::{Config, DocumentSource, SocketAttestor, SocketFact};
 use wl_edge::{EdgeFault, Listener, Upstream};
 use wl_edge_real::{
-    BindFault, FileUpstream, RealBell, RealClock, RealGate, RealListener, RealReady, RealUpstream,
-    bind,
+    BindFault, BoundAt, FileUpstream, RealBell, RealClock, RealGate, RealListener, RealReady,
+    RealUpstream, bind,
 };
 use wl_octets::{Memory, Octets};
-use wl_serve::{Binder, Parts, SeatMaker, Upkeep, make_seats};
-use wl_signlink::{ReplyVoucher, SignLink};
+use wl_serve::{Binder, Parts, SeatMaker, SeatShown, Upkeep, make_seats};
+use wl_signlink::SignLink;
+use wl_telling::{TellingAttestor, TellingClock, TellingSigner, TellingUpstream};
 use wl_worker::{AskHub, Seat, SeatAsks, Signing};
 
 /// The operating system as a host. It keeps its own copy of the runtime.
@@ -31,9 +33,21 @@ pub struct RealHost<R> {
     faults: u64,
 }
 
+/// A signer of the real host.
+type HostSigner<R> = TellingSigner<AgentSigner<R>>;
+
+/// Its attestor.
+type HostAttestor = TellingAttestor<SocketAttestor>;
+
+/// Its clock.
+type HostClock<R> = TellingClock<RealClock<R>>;
+
+/// Its upstream.
+type HostUpstream<R> = TellingUpstream<SharingUpstream<AgentUpstream<R>, R>>;
+
 /// A seat of the real host.
 type RealSeat<R> =
-    Seat<RealListener, SeatAsks<AgentVoucher>, SocketAttestor, RealClock<R>, RealReady>;
+    Seat<RealListener, SeatAsks<AgentVoucher>, HostAttestor, HostClock<R>, RealReady>;
 
 /// A copy of the runtime.
 fn copy_of<R: Clone>(rt: &R) -> Result<R, Memory> {
@@ -44,7 +58,9 @@ fn copy_of<R: Clone>(rt: &R) -> Result<R, Memory> {
 }
 
 /// The path as a text, which the paths of a configuration are.
-fn text_of(alloc: Global, path: &Octets) -> Result<String, EdgeFault> {
+fn text_of(alloc: Global, path: &Octets) -> Result<String, EdgeFault>
+    ensures { IfOk result (λ text. string_bytes text ≡ path.now) }
+{
     let Ok(path) = str::from_utf8(path.as_slice()) else {
         return Err(EdgeFault::Failed);
     };
@@ -60,7 +76,9 @@ fn listener_at<R: Files + Net>(
     alloc: Global,
     path: &Octets,
 ) -> Result<RealListener, EdgeFault>
-    ensures { IfOk result (λ l. ⟦<RealListener as Listener>⟧.faults l ≡ 0) }
+    ensures fresh { IfOk result (λ l. ⟦<RealListener as Listener>⟧.faults l ≡ 0) }
+    ensures path { IfOk result (λ l. ⟦<RealListener as BoundAt>⟧.path l ≡ path.now) }
+    ensures told { IfOk result (λ l. ⟦<RealListener as Listener>⟧.told l ≡ Some (record { kinds = []; finished = [] })) }
 {
     let path = text_of(alloc, path)?;
     match bind(rt, path.as_str()) {
@@ -101,8 +119,10 @@ fn make_upstream<R: Net + Files + Clock + Wait + Clone + Drop>(
     alloc: Global,
     config: &Config,
     shelf: &Option<SharedShelf>,
-) -> Result<SharingUpstream<AgentUpstream<R>, R>, EdgeFault>
-    ensures { IfOk result (λ u. ⟦<SharingUpstream<AgentUpstream<R>, R> as Upstream>⟧.faults u ≡ 0) }
+) -> Result<HostUpstream<R>, EdgeFault>
+    ensures faults { IfOk result (λ u. ⟦<HostUpstream<R> as Upstream>⟧.faults u ≡ 0) }
+    ensures told { IfOk result (λ u. IfSome (⟦<HostUpstream<R> as Upstream>⟧.told u)
+        (λ log. log ≡ record { calls = []; number = 0 })) }
 {
     let source = match &config.documents {
         DocumentSource::Socket(path) => {
@@ -113,7 +133,8 @@ fn make_upstream<R: Net + Files + Clock + Wait + Clone + Drop>(
         }
     };
     let upstream = AgentUpstream::start(source);
-    Ok(SharingUpstream::start(upstream, copy_of(rt)?, alloc, share(shelf)?))
+    let sharing = SharingUpstream::start(upstream, copy_of(rt)?, alloc, share(shelf)?);
+    Ok(TellingUpstream::start(sharing))
 }
 
 /// A signer of a configuration: the one that it names, or its documents.
@@ -122,14 +143,14 @@ fn make_signer<R: Net + Clock + Wait + Clone + Drop>(
     alloc: Global,
     config: &Config,
     shelf: &Option<SharedShelf>,
-) -> Result<AgentSigner<R>, Memory> {
+) -> Result<HostSigner<R>, Memory> {
     let by = match (&config.signer, share(shelf)?) {
         (Some(path), _) => SignedBy::Link(SignLink::start(rt, alloc, path.as_slice())?),
         (None, Some(shelf)) => SignedBy::Documents(DocumentSigner::start(copy_of(rt)?, alloc, shelf)),
         // without a shelf nothing is known of any document
         (None, None) => return Err(Memory),
     };
-    Ok(AgentSigner::start(by))
+    Ok(TellingSigner::start(AgentSigner::start(by)))
 }
 
 /// Makes the seats of a configuration.
@@ -146,14 +167,18 @@ impl<'a, R: Net + Files + Clock + Clone + Drop> SeatMaker for Seats<'a, R> {
 
     type Ring = RealBell;
 
-    ghost tells = { ⊥ };
+    ghost tells = { ⊤ };
 
     fn make_seat(
         &mut self,
         alloc: Global,
         number: u32,
         fact: &SocketFact,
-    ) -> Result<(RealSeat<R>, RealBell), EdgeFault> {
+    ) -> Result<(RealSeat<R>, RealBell), EdgeFault>
+        ensures made { IfOk result (λ r. IsSeat ⊤ number fact.now (⟦<RealSeat<R> as SeatShown>⟧.shown r.0)) }
+        // the listener is the one at this socket's own path
+        ensures path { IfOk result (λ r. ⟦<RealListener as BoundAt>⟧.path r.0.listener ≡ fact.now.path) }
+    {
         let (rt, config) = (self.rt, self.config);
         let mut listener = listener_at(rt, alloc, &fact.path)?;
         let Ok((ready, bell)) = RealReady::start(rt, alloc, &mut listener) else {
@@ -164,8 +189,8 @@ impl<'a, R: Net + Files + Clock + Clone + Drop> SeatMaker for Seats<'a, R> {
             socket: number,
             asks: SeatAsks::start(alloc, self.hub, number)?,
             connections: 0,
-            attestor: SocketAttestor::start(alloc, config)?,
-            clock: RealClock::start(copy_of(rt)?),
+            attestor: TellingAttestor::start(SocketAttestor::start(alloc, config)?),
+            clock: TellingClock::start(RealClock::start(copy_of(rt)?)),
             pass: None,
             end: None,
             ready,
@@ -179,7 +204,7 @@ impl<'a, R: Net + Files + Clock + Clone + Drop> SeatMaker for Seats<'a, R> {
 const SIGNERS: u32 = 4;
 
 /// A signer of a configuration, with its clock.
-type RealSigning<R> = Signing<AgentSigner<R>, RealClock<R>>;
+type RealSigning<R> = Signing<HostSigner<R>, HostClock<R>>;
 
 /// The signer of a configuration, over so many streams.
 fn make_signers<R: Net + Clock + Wait + Clone + Drop>(
@@ -194,7 +219,7 @@ fn make_signers<R: Net + Clock + Wait + Clone + Drop>(
     for _ in 0..SIGNERS {
         let signing = Signing {
             signer: make_signer(rt, alloc, config, shelf)?,
-            clock: RealClock::start(copy_of(rt)?),
+            clock: TellingClock::start(RealClock::start(copy_of(rt)?)),
         };
         if signers.push(signing).is_err() {
             return Err(EdgeFault::Memory);
@@ -212,14 +237,16 @@ fn make_upkeep<R: Net + Files + Clock + Wait + Clone + Drop>(
     alloc: Global,
     config: &Config,
     shelf: &Option<SharedShelf>,
-) -> Result<Upkeep<SharingUpstream<AgentUpstream<R>, R>, AgentSigner<R>, RealClock<R>>, EdgeFault>
-    ensures faults { IfOk result (λ u. ⟦<SharingUpstream<AgentUpstream<R>, R> as Upstream>⟧.faults u.upstream ≡ 0) }
+) -> Result<Upkeep<HostUpstream<R>, HostSigner<R>, HostClock<R>>, EdgeFault>
+    ensures faults { IfOk result (λ u. ⟦<HostUpstream<R> as Upstream>⟧.faults u.upstream ≡ 0) }
+    ensures told { IfOk result (λ u. IfSome (⟦<HostUpstream<R> as Upstream>⟧.told u.upstream)
+        (λ log. log ≡ record { calls = []; number = 0 })) }
     ensures signers { IfOk result (λ u. 0 < length u.signers.items) }
 {
     Ok(Upkeep {
         upstream: make_upstream(rt, alloc, config, shelf)?,
-        puller: RealClock::start(copy_of(rt)?),
-        keeper: RealClock::start(copy_of(rt)?),
+        puller: TellingClock::start(RealClock::start(copy_of(rt)?)),
+        keeper: TellingClock::start(RealClock::start(copy_of(rt)?)),
         signers: make_signers(rt, alloc, config, shelf)?,
     })
 }
@@ -244,15 +271,15 @@ impl<R> RealHost<R> {
 }
 
 impl<R: Net + Files + Clock + Wait + Clone + Drop + Send + Sync> Binder for RealHost<R> {
-    type Up = SharingUpstream<AgentUpstream<R>, R>;
+    type Up = HostUpstream<R>;
 
     type Listen = RealListener;
 
-    type Sign = AgentSigner<R>;
+    type Sign = HostSigner<R>;
 
-    type Att = SocketAttestor;
+    type Att = HostAttestor;
 
-    type Time = RealClock<R>;
+    type Time = HostClock<R>;
 
     type Poll = RealReady;
 
@@ -260,7 +287,7 @@ impl<R: Net + Files + Clock + Wait + Clone + Drop + Send + Sync> Binder for Real
 
     type Ring = RealBell;
 
-    ghost tells = { ⊥ };
+    ghost tells = { ⊤ };
 
     ghost faults = { λ h. h.faults };
 

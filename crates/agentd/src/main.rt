@@ -7,17 +7,21 @@
 mod documents;
 mod host;
 mod lazy_file;
+mod running;
 mod signers;
 
 use crate::host::RealHost;
 use crate::lazy_file::LazyFile;
+use crate::running::serve_here;
 use std::alloc::{AllocGlobal, Global};
 use std::process::ExitCode;
 use std::string::String;
+use std::sync::Wait;
+use std::thread::Threads;
 use wl_agent::status::{OUT_OF_MEMORY, USAGE};
 use wl_agent::{Host, config_path, refusal, run};
-use wl_edge::{RealSink, RealSource};
-use wl_edge_real::words;
+use wl_edge::RealSource;
+use wl_edge_real::{RealOutput, words};
 
 /// Writes why the words fit no command to standard error. Where that fails nobody reads it.
 fn explain(rt: &HostRuntime, alloc: Global, words: &[String]) {
@@ -26,34 +30,53 @@ fn explain(rt: &HostRuntime, alloc: Global, words: &[String]) {
     }
 }
 
+/// Serves by the configuration in this file.
+fn serve_file(
+    rt: &HostRuntime,
+    threads: &(impl Threads + Wait + Sync),
+    alloc: Global,
+    path: &str,
+    words: &[String],
+) -> u8 {
+    let Ok(own) = rt.clone() else {
+        return OUT_OF_MEMORY;
+    };
+    let mut host = Host {
+        input: RealSource::start(LazyFile::start(rt, path)),
+        output: RealOutput::start(rt.stdout()),
+        binder: RealHost::start(own),
+        parts: None,
+    };
+    serve_here(threads, alloc, words, &mut host)
+}
+
+/// Runs a command on standard input.
+fn run_on_input(
+    rt: &HostRuntime,
+    threads: &(impl Threads + Wait + Sync),
+    alloc: Global,
+    words: &[String],
+) -> u8 {
+    let Ok(own) = rt.clone() else {
+        return OUT_OF_MEMORY;
+    };
+    let mut host = Host {
+        input: RealSource::start(rt.stdin()),
+        output: RealOutput::start(rt.stdout()),
+        binder: RealHost::start(own),
+        parts: None,
+    };
+    run(threads, alloc, words, &mut host)
+}
+
 fn main(rt: HostRuntime) -> ExitCode {
     let alloc = rt.alloc();
     let Ok(words) = words(&rt, alloc) else {
         return ExitCode::from(OUT_OF_MEMORY);
     };
-    let Ok(own) = rt.clone() else {
-        return ExitCode::from(OUT_OF_MEMORY);
-    };
-    let (output, binder) = (RealSink::start(rt.stdout()), RealHost::start(own));
     let status = match config_path(words.as_slice()) {
-        Some(path) => {
-            let mut host = Host {
-                input: RealSource::start(LazyFile::start(&rt, path)),
-                output,
-                binder,
-                parts: None,
-            };
-            run(&rt, alloc, words.as_slice(), &mut host)
-        }
-        None => {
-            let mut host = Host {
-                input: RealSource::start(rt.stdin()),
-                output,
-                binder,
-                parts: None,
-            };
-            run(&rt, alloc, words.as_slice(), &mut host)
-        }
+        Some(path) => serve_file(&rt, &rt, alloc, path, words.as_slice()),
+        None => run_on_input(&rt, &rt, alloc, words.as_slice()),
     };
     if status == USAGE {
         explain(&rt, alloc, words.as_slice());

@@ -1,8 +1,8 @@
 //! Listening at the paths of Unix sockets.
 
-ghost use Rattle.std.specs.Prelude.{◌≡◌, ◌<◌, length, vec_len, IfOk, IfErr};
+ghost use Rattle.std.specs.Prelude.{◌≡◌, ◌<◌, [], length, vec_len, Some, IfOk, IfErr};
 
-use crate::listener::RealListener;
+use crate::listener::{BoundAt, RealListener};
 use mio::net::UnixStream;
 use std::alloc::Global;
 use std::fs;
@@ -47,11 +47,13 @@ fn clear(rt: &(impl Files + Net), path: &str) -> Result<(), BindFault> {
 /// Listens at the path of a Unix socket. The new socket may be opened by those whom the process's umask lets write.
 /// A socket at which nobody listens any more is replaced; nothing else is ever removed.
 pub fn bind<R: Files + Net>(rt: &R, path: &str) -> Result<RealListener, BindFault>
+    ensures path { IfOk result (λ l. ⟦<RealListener as BoundAt>⟧.path l ≡ path.now) }
     ensures fresh { IfOk result (λ l. ⟦<RealListener as Listener>⟧.faults l ≡ 0) }
+    ensures told { IfOk result (λ l. ⟦<RealListener as Listener>⟧.told l ≡ Some (record { kinds = []; finished = [] })) }
 {
     clear(rt, path)?;
     let listener = UnixListener::bind(rt, path).map_err(|e| BindFault::Refused(e.kind()))?;
-    RealListener::start(listener).map_err(|e| BindFault::Refused(e.kind()))
+    RealListener::start(listener, path).map_err(|e| BindFault::Refused(e.kind()))
 }
 
 /// Listens at each of these paths. A fault comes with the place of its path, counted from 0; then nobody listens at

@@ -1,9 +1,13 @@
 //! A link of a client, which connects when it has something to say.
 
-ghost use Rattle.std.specs.Prelude.{None, ◌≡◌, ◌<◌, ◌≤◌, length, IfOk};
-ghost use Rattle.wl_edge.specs.Links.{IsFresh};
+ghost use Rattle.std.specs.Prelude.{◌≡◌, ◌≤◌, ◌++◌, [], Some, take, length, IfOk, OnErr, IsSome};
+ghost use Rattle.wl_edge.specs.Links.{heard_of, IsFresh, IsWithin};
+ghost use Rattle.wl_edge_real.specs.Pieces.{piece_of, pieces_of};
+ghost use Rattle.wl_edge_real.specs.Streams.{came_of, went_into};
 
-use crate::link::is_pause;
+use crate::link::answer_of;
+use crate::telling::heard;
+use crate::told_stream::ToldStream;
 use std::alloc::AllocError;
 use std::io;
 use std::io::{Read, Write};
@@ -11,7 +15,8 @@ use std::net::{Net, OpenStream, SocketAddr};
 use std::os::unix::net::UnixStream;
 use std::time::Duration;
 use timed_stream::connect;
-use wl_edge::{Link, Received, Sent, TrySent};
+use wl_edge::{Heard, Link, Received, Sent, TrySent};
+use wl_told::Told;
 
 /// How many seconds a receive waits for bytes before it is idle.
 const PATIENCE_SECONDS: u64 = 1;
@@ -45,36 +50,44 @@ enum Dialed<T> {
     Tcp(T),
 }
 
-impl<T: Read + Write + Drop> Dialed<T> {
-    fn read(&mut self, into: &mut [u8]) -> io::Result<usize>
-        ensures within { IfOk result (λ count. count ≤ length into.old) }
-        ensures same_room { length into.new ≡ length into.old }
-    {
+impl<T: Read + Drop> Read for Dialed<T> {
+    fn read(&mut self, into: &mut [u8]) -> io::Result<usize> {
         match self {
             Dialed::Unix(stream) => stream.read(into),
             Dialed::Tcp(stream) => stream.read(into),
         }
     }
+}
 
-    fn write(&mut self, bytes: &[u8]) -> io::Result<usize>
-        ensures { IfOk result (λ count. count ≤ length bytes.now) }
-    {
+impl<T: Write + Drop> Write for Dialed<T> {
+    fn write(&mut self, bytes: &[u8]) -> io::Result<usize> {
         match self {
             Dialed::Unix(stream) => stream.write(bytes),
             Dialed::Tcp(stream) => stream.write(bytes),
         }
     }
+
+    fn flush(&mut self) -> io::Result<()> {
+        match self {
+            Dialed::Unix(stream) => stream.flush(),
+            Dialed::Tcp(stream) => stream.flush(),
+        }
+    }
 }
 
-/// A link that connects to an address at its first sending. It tells no content. Before that a receive is idle at once;
-/// afterwards one that finds nothing for a second is. Every sending may wait.
+/// A link that connects to an address at its first sending. It tells what it gave and took, by lists that exist only in
+/// proofs. Before that sending a receive is idle at once; afterwards one that finds nothing for a second is. Every
+/// sending may wait.
 #[derive(Drop)]
 pub struct DialedLink<R: Net> {
     rt: R,
     address: Address,
-    stream: Option<Dialed<R::Stream>>,
+    stream: Option<ToldStream<Dialed<R::Stream>>>,
     failed_receives: u64,
     failed_sends: u64,
+    gave: Told<Heard>,
+    /// The pieces that were given are what came of the stream.
+    ghost whole: { pieces_of gave.list ≡ came_of stream },
 }
 
 /// Connects to a Unix socket without waiting: a server whose backlog is full is a fault at once.
@@ -91,17 +104,22 @@ fn dial_tcp<R: Net>(rt: &R, address: SocketAddr) -> io::Result<R::Stream> {
     Ok(stream)
 }
 
-fn dial<R: Net>(rt: &R, address: &Address) -> io::Result<Dialed<R::Stream>> {
-    match address {
-        Address::Path(path) => Ok(Dialed::Unix(dial_unix(rt, path.as_str())?)),
-        Address::Tcp(address) => Ok(Dialed::Tcp(dial_tcp(rt, *address)?)),
-    }
+fn dial<R: Net>(rt: &R, address: &Address) -> io::Result<ToldStream<Dialed<R::Stream>>>
+    ensures got { IfOk result (λ s. s.got.list ≡ []) }
+    ensures put { IfOk result (λ s. s.put.list ≡ []) }
+{
+    let stream = match address {
+        Address::Path(path) => Dialed::Unix(dial_unix(rt, path.as_str())?),
+        Address::Tcp(address) => Dialed::Tcp(dial_tcp(rt, *address)?),
+    };
+    Ok(ToldStream::start(stream))
 }
 
 impl<R: Net + Drop> DialedLink<R> {
     /// A link to the Unix socket of this path. Nothing is opened yet.
     pub fn start(rt: R, path: String) -> DialedLink<R>
-        ensures { IsFresh (⟦<DialedLink<R> as Link>⟧.told result) (⟦<DialedLink<R> as Link>⟧.failed_receives result)
+        ensures tells { (l : DialedLink R) → IsSome (⟦<DialedLink<R> as Link>⟧.told l) }
+        ensures fresh { IsFresh (⟦<DialedLink<R> as Link>⟧.told result) (⟦<DialedLink<R> as Link>⟧.failed_receives result)
             (⟦<DialedLink<R> as Link>⟧.failed_sends result) (⟦<DialedLink<R> as Link>⟧.stalls result) }
     {
         DialedLink::start_at(rt, Address::Path(path))
@@ -109,7 +127,8 @@ impl<R: Net + Drop> DialedLink<R> {
 
     /// A link to this address. Nothing is opened yet.
     pub fn start_at(rt: R, address: Address) -> DialedLink<R>
-        ensures { IsFresh (⟦<DialedLink<R> as Link>⟧.told result) (⟦<DialedLink<R> as Link>⟧.failed_receives result)
+        ensures tells { (l : DialedLink R) → IsSome (⟦<DialedLink<R> as Link>⟧.told l) }
+        ensures fresh { IsFresh (⟦<DialedLink<R> as Link>⟧.told result) (⟦<DialedLink<R> as Link>⟧.failed_receives result)
             (⟦<DialedLink<R> as Link>⟧.failed_sends result) (⟦<DialedLink<R> as Link>⟧.stalls result) }
     {
         DialedLink {
@@ -118,6 +137,7 @@ impl<R: Net + Drop> DialedLink<R> {
             stream: None,
             failed_receives: 0,
             failed_sends: 0,
+            gave: Told::new(),
         }
     }
 }
@@ -126,10 +146,13 @@ impl<R: Net + Drop> DialedLink<R> {
 fn write_dialed<R: Net>(
     rt: &R,
     address: &Address,
-    stream: &mut Option<Dialed<R::Stream>>,
+    stream: &mut Option<ToldStream<Dialed<R::Stream>>>,
     bytes: &[u8],
 ) -> io::Result<usize>
-    ensures { IfOk result (λ count. count ≤ length bytes.now) }
+    ensures within { IfOk result (λ count. count ≤ length bytes.now) }
+    ensures put { IfOk result (λ n. went_into stream.new ≡ went_into stream.old ++ take n bytes.now) }
+    ensures nothing { OnErr result (went_into stream.new ≡ went_into stream.old) }
+    ensures got { came_of stream.new ≡ came_of stream.old }
 {
     if let Some(open) = stream {
         return open.write(bytes);
@@ -140,8 +163,24 @@ fn write_dialed<R: Net>(
     written
 }
 
+/// What a receive over a stream answers that may not be there yet.
+fn receive_from<S: Read + Write + Drop>(
+    stream: &mut Option<ToldStream<S>>,
+    into: &mut [u8],
+) -> Received
+    ensures room { length into.new ≡ length into.old }
+    ensures within { IsWithin (length into.old) result }
+    ensures got { came_of stream.new ≡ came_of stream.old ++ piece_of (heard_of result into.new) }
+    ensures put { went_into stream.new ≡ went_into stream.old }
+{
+    match stream {
+        Some(open) => answer_of(open.read(into)),
+        None => Received::Idle,
+    }
+}
+
 impl<R: Net + Drop> Link for DialedLink<R> {
-    ghost told = { λ l. None };
+    ghost told = { λ l. Some (record { gave = l.gave.list; took = went_into l.stream }) };
 
     ghost failed_receives = { λ l. l.failed_receives };
 
@@ -150,18 +189,12 @@ impl<R: Net + Drop> Link for DialedLink<R> {
     ghost stalls = { λ l. 0 };
 
     fn receive(&mut self, into: &mut [u8]) -> Received {
-        let Some(stream) = &mut self.stream else {
-            return Received::Idle;
-        };
-        match stream.read(into) {
-            Ok(0) => Received::End,
-            Ok(count) => Received::Got(count),
-            Err(error) if is_pause(&error) => Received::Idle,
-            Err(_) => {
-                self.failed_receives = self.failed_receives.saturating_add(1);
-                Received::Failed
-            }
+        let answer = receive_from(&mut self.stream, into);
+        self.gave = heard(&self.gave, into, answer);
+        if answer == Received::Failed {
+            self.failed_receives = self.failed_receives.saturating_add(1);
         }
+        answer
     }
 
     fn send(&mut self, bytes: &[u8]) -> Sent {

@@ -1,7 +1,8 @@
 //! The outside as the operating system has it: Unix sockets, a poll and its waker, the clock, the words of a command line.
 //!
-//! Each thing keeps the counts that its trait asks for and tells no content. What a socket gives or takes, and when a
-//! wait ends, is the operating system's: this crate is the trusted edge.
+//! Each thing keeps the counts that its trait asks for. Links, listeners and outputs tell what they gave and took, by lists
+//! that exist only in proofs. What a socket gives or takes, and when a wait ends, is the operating system's: this crate is
+//! the trusted edge.
 #![tactic(auto)]
 
 mod bell;
@@ -15,11 +16,14 @@ mod file_tests;
 mod gate;
 mod link;
 mod listener;
+mod output;
 mod ready;
 #[cfg(test)]
 mod slow_tests;
+mod telling;
 #[cfg(test)]
 mod tests;
+mod told_stream;
 mod upstream;
 
 pub use bell::RealBell;
@@ -30,6 +34,7 @@ pub use dialed::{Address, DialedLink};
 pub use file::FileUpstream;
 pub use gate::RealGate;
 pub use link::RealLink;
-pub use listener::RealListener;
+pub use listener::{BoundAt, RealListener};
+pub use output::RealOutput;
 pub use ready::RealReady;
 pub use upstream::{PULL_SECONDS, RealUpstream};

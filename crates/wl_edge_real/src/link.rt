@@ -1,16 +1,20 @@
 //! Links over Unix sockets that do not block.
 
-ghost use Rattle.std.specs.Prelude.{◌≡◌, ◌≤◌, None, IfOk, length};
-ghost use Rattle.wl_edge.specs.Links.{IsFresh};
+ghost use Rattle.std.specs.Prelude.{◌≡◌, ◌≤◌, ℕ, List, [], ◌++◌, take, Some, IfOk, OnErr, IsSome, MatchResult, length};
+ghost use Rattle.wl_edge_real.specs.Pieces.{piece_of, pieces_of};
+ghost use Rattle.wl_edge.specs.Edge.{Rose};
+ghost use Rattle.wl_edge.specs.Links.{heard_of, IsFresh, IsWithin, OnFailed};
 
+use crate::telling::heard;
+use crate::told_stream::ToldStream;
 use std::io;
-use std::io::{ErrorKind, Read, Write};
-use std::net::Shutdown;
-use std::os::fd::{AsRawFd, RawFd};
+use std::io::ErrorKind;
+use std::os::fd::RawFd;
 use std::os::unix::net::UnixStream;
 use std::sync::Arc;
 use std::sync::atomic::{AtomicBool, Ordering};
-use wl_edge::{Link, Received, Sent, TrySent};
+use wl_edge::{Heard, Link, Received, Sent, TrySent};
+use wl_told::Told;
 
 /// How many bytes a read takes when a connection is closed.
 const CLOSING_ROOM: usize = 4_096;
@@ -40,16 +44,19 @@ impl Watch {
     }
 }
 
-/// A link over a Unix socket. It tells no content. A receive that finds nothing is idle at once, so that one who has
-/// nothing else to do waits with a `RealReady`.
+/// A link over a Unix socket. It tells what it gave and took, by lists that exist only in proofs. A receive that finds
+/// nothing is idle at once, so that one who has nothing else to do waits with a `RealReady`.
 #[derive(Drop)]
 pub struct RealLink {
-    stream: UnixStream,
+    stream: ToldStream<UnixStream>,
     /// Shared with one who watches the link.
     watch: Option<Arc<Watch>>,
     failed_receives: u64,
     failed_sends: u64,
     stalls: u64,
+    gave: Told<Heard>,
+    /// The pieces that were given are what came of the stream.
+    ghost whole: { pieces_of gave.list ≡ stream.got.list },
 }
 
 /// Whether a call did nothing because it would have waited, and may be made again.
@@ -63,23 +70,24 @@ pub(crate) fn is_pause(error: &io::Error) -> bool {
 impl RealLink {
     /// A link over this socket, which from now on does not block.
     pub fn start(stream: UnixStream) -> io::Result<RealLink>
-        ensures untold { IfOk result (λ l. ⟦<RealLink as Link>⟧.told l ≡ None) }
+        ensures tells { (l : RealLink) → IsSome (⟦<RealLink as Link>⟧.told l) }
         ensures fresh { IfOk result (λ l. IsFresh (⟦<RealLink as Link>⟧.told l) (⟦<RealLink as Link>⟧.failed_receives l)
             (⟦<RealLink as Link>⟧.failed_sends l) (⟦<RealLink as Link>⟧.stalls l)) }
     {
         stream.set_nonblocking(true)?;
         Ok(RealLink {
-            stream,
+            stream: ToldStream::start(stream),
             watch: None,
             failed_receives: 0,
             failed_sends: 0,
             stalls: 0,
+            gave: Told::new(),
         })
     }
 
     /// The socket.
     pub(crate) fn descriptor(&self) -> RawFd {
-        self.stream.as_raw_fd()
+        self.stream.descriptor()
     }
 
     /// Closes the connection. Nothing more is written, and what the peer has sent is read away first, up to a bound:
@@ -87,7 +95,7 @@ impl RealLink {
     /// the last message.
     pub(crate) fn close(self) {
         let RealLink { mut stream, .. } = self;
-        let _ = stream.shutdown(Shutdown::Write);
+        let _ = stream.shut();
         let mut room = [0; CLOSING_ROOM];
         for _ in 0..CLOSING_READS {
             match stream.read(&mut room) {
@@ -133,20 +141,57 @@ impl RealLink {
             }
         }
     }
+
+    /// Notes what a receive answered.
+    fn note(&mut self, answer: Received, lent: usize)
+        ensures failed { OnFailed answer (Rose self.old.failed_receives self.new.failed_receives) }
+        ensures later { self.old.failed_receives ≤ self.new.failed_receives }
+        ensures gave { self.new.gave ≡ self.old.gave }
+        ensures stream { self.new.stream ≡ self.old.stream }
+        ensures sends { self.new.failed_sends ≡ self.old.failed_sends }
+        ensures stalls { self.new.stalls ≡ self.old.stalls }
+    {
+        match answer {
+            Received::Got(count) => self.note_received(count, lent),
+            Received::Failed => {
+                self.note_nothing();
+                self.failed_receives = self.failed_receives.saturating_add(1);
+            }
+            _ => self.note_nothing(),
+        }
+    }
+}
+
+/// What a receive answers for what a read gave.
+pub(crate) fn answer_of(read: io::Result<usize>) -> Received
+    ensures piece { MatchResult read (λ n. (into : List ℕ) → piece_of (heard_of result into) ≡ take n into)
+        (λ e. (into : List ℕ) → piece_of (heard_of result into) ≡ []) }
+    ensures within { (room : ℕ) → IfOk read (λ n. n ≤ room) → IsWithin room result }
+{
+    match read {
+        Ok(count) if count > 0 => Received::Got(count),
+        Ok(_) => Received::End,
+        Err(error) if is_pause(&error) => Received::Idle,
+        Err(_) => Received::Failed,
+    }
 }
 
 /// Writes some of the bytes, and waits until that can be done.
-fn write_waiting(stream: &mut UnixStream, bytes: &[u8]) -> io::Result<usize>
-    ensures { IfOk result (λ count. count ≤ length bytes.now) }
+fn write_waiting(stream: &mut ToldStream<UnixStream>, bytes: &[u8]) -> io::Result<usize>
+    ensures within { IfOk result (λ count. count ≤ length bytes.now) }
+    ensures put { IfOk result (λ n. stream.new.put.list ≡ stream.old.put.list ++ take n bytes.now) }
+    ensures nothing { OnErr result (stream.new.put ≡ stream.old.put) }
+    ensures got { stream.new.got ≡ stream.old.got }
 {
     stream.set_nonblocking(false)?;
     let written = stream.write(bytes);
-    stream.set_nonblocking(true)?;
+    // What was taken is answered, also where the mode could not be set back.
+    let _ = stream.set_nonblocking(true);
     written
 }
 
 impl Link for RealLink {
-    ghost told = { λ l. None };
+    ghost told = { λ l. Some (record { gave = l.gave.list; took = l.stream.put.list }) };
 
     ghost failed_receives = { λ l. l.failed_receives };
 
@@ -156,25 +201,10 @@ impl Link for RealLink {
 
     fn receive(&mut self, into: &mut [u8]) -> Received {
         let lent = into.len();
-        match self.stream.read(into) {
-            Ok(count) if count > 0 => {
-                self.note_received(count, lent);
-                Received::Got(count)
-            }
-            Ok(_) => {
-                self.note_nothing();
-                Received::End
-            }
-            Err(error) if is_pause(&error) => {
-                self.note_nothing();
-                Received::Idle
-            }
-            Err(_) => {
-                self.note_nothing();
-                self.failed_receives = self.failed_receives.saturating_add(1);
-                Received::Failed
-            }
-        }
+        let answer = answer_of(self.stream.read(into));
+        self.gave = heard(&self.gave, into, answer);
+        self.note(answer, lent);
+        answer
     }
 
     fn send(&mut self, bytes: &[u8]) -> Sent {

@@ -1,16 +1,20 @@
 //! Listeners at Unix sockets.
 
-ghost use Rattle.std.specs.Prelude.{◌≡◌, None, IfOk};
+ghost use Rattle.std.specs.Prelude.{◌≡◌, ◌≤◌, ℕ, List, [], map, length, Some, IfOk};
 ghost use Rattle.wl_edge.specs.Links.{IsFresh};
+ghost use Rattle.wl_edge.specs.Listeners.{AcceptFits, IfLink, kind_of};
 
 use crate::link::RealLink;
+use crate::telling::{Front, Took};
 use std::io;
 use std::io::ErrorKind;
 use std::os::fd::{AsRawFd, RawFd};
 use std::os::unix::net::UnixListener;
 use std::sync::Arc;
 use std::sync::atomic::{AtomicBool, Ordering};
-use wl_edge::{Accepted, Link, Listener};
+use wl_edge::{AcceptKind, Accepted, Link, Listener};
+use wl_telling::One;
+use wl_told::Told;
 
 /// There is no memory for one more connection (errors of `accept(2)`, by their numbers on Linux).
 const ENOMEM: i32 = 12;
@@ -24,13 +28,26 @@ const EMFILE: i32 = 24;
 /// The network has no buffer left.
 const ENOBUFS: i32 = 105;
 
-/// A listener at a Unix socket. It tells no content.
+/// A listener at a Unix socket. It tells its answers and the links that were finished, by lists that exist only in
+/// proofs.
 #[derive(Drop)]
 pub struct RealListener {
     listener: UnixListener,
     /// Whether peers may have connected since an accept found none. One who watches the listener shares it.
     arrivals: Option<Arc<AtomicBool>>,
     faults: u64,
+    kinds: Told<AcceptKind>,
+    finished: Told<RealLink>,
+    path: Told<u8>,
+}
+
+/// What contracts see of where a listener was bound.
+pub trait BoundAt {
+    ghost path: { Self → List ℕ };
+}
+
+impl BoundAt for RealListener {
+    ghost path = { λ l. l.path.list };
 }
 
 /// Whether an accept found no connection, or one that was gone already.
@@ -49,10 +66,31 @@ fn is_full(error: &io::Error) -> bool {
     )
 }
 
+/// The kind of an answer.
+fn kind<L>(answer: &Accepted<L>) -> AcceptKind
+    ensures { result ≡ kind_of answer.now }
+{
+    match answer {
+        Accepted::Link(_) => AcceptKind::Link,
+        Accepted::Idle => AcceptKind::Idle,
+        Accepted::End => AcceptKind::End,
+        Accepted::Failed => AcceptKind::Failed,
+    }
+}
+
+/// The path, told.
+fn path_told(path: &[u8]) -> Told<u8>
+    ensures { result.list ≡ path.now }
+{
+    let count = path.len();
+    Told::new().and::<Front<'_>, Took>(&Front { bytes: path, count })
+}
+
 impl RealListener {
-    /// A listener that, from now on, does not block.
-    pub fn start(listener: UnixListener) -> io::Result<RealListener>
-        ensures untold { IfOk result (λ l. ⟦<RealListener as Listener>⟧.told l ≡ None) }
+    /// A listener that was bound at this path and, from now on, does not block.
+    pub fn start(listener: UnixListener, path: &str) -> io::Result<RealListener>
+        ensures path { IfOk result (λ l. ⟦<RealListener as BoundAt>⟧.path l ≡ path.now) }
+        ensures told { IfOk result (λ l. ⟦<RealListener as Listener>⟧.told l ≡ Some (record { kinds = []; finished = [] })) }
         ensures fresh { IfOk result (λ l. ⟦<RealListener as Listener>⟧.faults l ≡ 0) }
     {
         listener.set_nonblocking(true)?;
@@ -60,6 +98,9 @@ impl RealListener {
             listener,
             arrivals: None,
             faults: 0,
+            kinds: Told::new(),
+            finished: Told::new(),
+            path: path_told(path.as_bytes()),
         })
     }
 
@@ -70,7 +111,9 @@ impl RealListener {
 
     /// Shares whether peers may have connected with one who watches the listener.
     pub(crate) fn share(&mut self, arrivals: Arc<AtomicBool>)
-        ensures { ⟦<RealListener as Listener>⟧.faults self.new ≡ ⟦<RealListener as Listener>⟧.faults self.old }
+        ensures told { ⟦<RealListener as Listener>⟧.told self.new ≡ ⟦<RealListener as Listener>⟧.told self.old }
+        ensures faults { ⟦<RealListener as Listener>⟧.faults self.new ≡ ⟦<RealListener as Listener>⟧.faults self.old }
+        ensures path { ⟦<RealListener as BoundAt>⟧.path self.new ≡ ⟦<RealListener as BoundAt>⟧.path self.old }
     {
         self.arrivals = Some(arrivals);
     }
@@ -100,16 +143,16 @@ impl RealListener {
         let (stream, _) = self.listener.accept()?;
         RealLink::start(stream)
     }
-}
 
-impl Listener for RealListener {
-    type L = RealLink;
-
-    ghost told = { λ l. None };
-
-    ghost faults = { λ l. l.faults };
-
-    fn accept(&mut self) -> Accepted<RealLink> {
+    /// The next answer, which is not told yet.
+    fn accept_one(&mut self) -> Accepted<RealLink>
+        ensures fits { AcceptFits self.old.faults self.new.faults result }
+        ensures later { self.old.faults ≤ self.new.faults }
+        ensures fresh { IfLink result (λ l. IsFresh (⟦<RealLink as Link>⟧.told l) (⟦<RealLink as Link>⟧.failed_receives l)
+            (⟦<RealLink as Link>⟧.failed_sends l) (⟦<RealLink as Link>⟧.stalls l)) }
+        ensures kinds { self.new.kinds ≡ self.old.kinds }
+        ensures finished { self.new.finished ≡ self.old.finished }
+    {
         if !self.may_have_arrivals() {
             return Accepted::Idle;
         }
@@ -129,8 +172,31 @@ impl Listener for RealListener {
             }
         }
     }
+}
+
+impl Listener for RealListener {
+    type L = RealLink;
+
+    ghost told = { λ l. Some (record {
+      kinds = l.kinds.list;
+      finished = map (λ link. record {
+        log = ⟦<RealLink as Link>⟧.told link;
+        failed_receives = ⟦<RealLink as Link>⟧.failed_receives link;
+        failed_sends = ⟦<RealLink as Link>⟧.failed_sends link;
+        stalls = ⟦<RealLink as Link>⟧.stalls link;
+      }) l.finished.list;
+    }) };
+
+    ghost faults = { λ l. l.faults };
+
+    fn accept(&mut self) -> Accepted<RealLink> {
+        let answer = self.accept_one();
+        self.kinds = self.kinds.and::<AcceptKind, One>(&kind(&answer));
+        answer
+    }
 
     fn finish(&mut self, link: RealLink) {
+        self.finished = self.finished.and::<RealLink, One>(&link);
         link.close();
     }
 }

@@ -5,7 +5,7 @@ ghost use Rattle.list_laws.specs.Lists.{BeginsWith};
 
 use crate::bell::RealBell;
 use crate::link::{RealLink, Watch};
-use crate::listener::RealListener;
+use crate::listener::{BoundAt, RealListener};
 use mio::unix::SourceFd;
 use mio::{Events, Interest, Poll, Token, Waker};
 use std::alloc::Global;
@@ -80,6 +80,8 @@ impl RealReady {
     ) -> io::Result<(RealReady, RealBell)>
         ensures fresh { IfOk result (λ pair. ⟦<RealReady as Ready<RealLink>>⟧.faults pair.0 ≡ 0) }
         ensures listener { ⟦<RealListener as Listener>⟧.faults listener.new ≡ ⟦<RealListener as Listener>⟧.faults listener.old }
+        ensures told { ⟦<RealListener as Listener>⟧.told listener.new ≡ ⟦<RealListener as Listener>⟧.told listener.old }
+        ensures path { ⟦<RealListener as BoundAt>⟧.path listener.new ≡ ⟦<RealListener as BoundAt>⟧.path listener.old }
     {
         let poll = Poll::new(rt)?;
         let socket = listener.descriptor();

@@ -1,5 +1,8 @@
 //! Each thing over the operating system's.
 
+ghost use Rattle.std.specs.Prelude.{◌≡◌, [], Some, IfOk};
+ghost use Rattle.wl_edge.specs.Listeners.{HasOpenLink};
+
 use crate::{
     BindFault, DialedLink, RealBell, RealClock, RealGate, RealLink, RealListener, RealReady,
     RealUpstream, bind, bind_all,
@@ -29,7 +32,10 @@ pub(crate) fn path_of(rt: &HostRuntime, name: &str) -> Result<String, Fail> {
 }
 
 /// The next link of a listener to which a peer has connected.
-pub(crate) fn accepted(listener: &mut RealListener) -> Result<RealLink, Fail> {
+pub(crate) fn accepted(listener: &mut RealListener) -> Result<RealLink, Fail>
+    requires { ⟦<RealListener as Listener>⟧.told listener.old ≡ Some (record { kinds = []; finished = [] }) }
+    ensures { IfOk result (λ _. HasOpenLink (⟦<RealListener as Listener>⟧.told listener.new)) }
+{
     match listener.accept() {
         Accepted::Link(link) => Ok(link),
         _ => Err("no link")?,
@@ -37,7 +43,9 @@ pub(crate) fn accepted(listener: &mut RealListener) -> Result<RealLink, Fail> {
 }
 
 /// A listener at this path.
-pub(crate) fn bound<R: Files + Net>(rt: &R, path: &str) -> Result<RealListener, Fail> {
+pub(crate) fn bound<R: Files + Net>(rt: &R, path: &str) -> Result<RealListener, Fail>
+    ensures { IfOk result (λ l. ⟦<RealListener as Listener>⟧.told l ≡ Some (record { kinds = []; finished = [] })) }
+{
     match bind(rt, path) {
         Ok(listener) => Ok(listener),
         Err(_) => Err("bind")?,
@@ -98,7 +106,9 @@ fn a_listener_gives_links(rt: HostRuntime) -> Result<(), Fail> {
 }
 
 /// Whether the next link takes three bytes and is then finished.
-fn says_bye(listener: &mut RealListener) -> Result<bool, Fail> {
+fn says_bye(listener: &mut RealListener) -> Result<bool, Fail>
+    requires { ⟦<RealListener as Listener>⟧.told listener.old ≡ Some (record { kinds = []; finished = [] }) }
+{
     let mut link = accepted(listener)?;
     let answer = link.try_send(b"bye");
     listener.finish(link);

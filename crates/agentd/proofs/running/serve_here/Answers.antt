@@ -1,0 +1,6 @@
+use Rattle.std.proofs.Common.{refl}
+use Rattle.agentd.proofs.Premises.{explains}
+use Rattle.agentd.proofs.running.serve_here.Goals as goal
+
+pub returns : goal.returns
+returns g c = record { serves = λ serves. explains _ _ _ (λ l. refl) _ _ _ (c.run.ensures.serves serves) }

@@ -1,0 +1,47 @@
+//! What a link tells: a list that exists only in proofs.
+
+ghost use Rattle.std.specs.Prelude.{◌≡◌, ◌++◌, ◌∷◌, []};
+ghost use Rattle.wl_edge.specs.Links.{heard_of};
+
+use wl_edge::{Heard, Received};
+use wl_told::{Adds, Told};
+
+/// An answer of a receive, with what was lent to it.
+#[derive(Drop)]
+struct Lent<'a> {
+    into: &'a [u8],
+    answer: Received,
+}
+
+/// Adds the answer with the bytes that came.
+struct Gave;
+
+impl<'a> Adds<Lent<'a>, Heard> for Gave {
+    ghost use Rattle.std.specs.Prelude.{◌∷◌, []};
+    ghost use Rattle.wl_edge.specs.Links.{heard_of};
+
+    ghost added = { λ l. heard_of l.answer l.into.now ∷ [] };
+}
+
+/// Bytes of which so many were taken, from the front.
+#[derive(Drop)]
+pub(crate) struct Front<'a> {
+    pub(crate) bytes: &'a [u8],
+    pub(crate) count: usize,
+}
+
+/// Adds what was taken.
+pub(crate) struct Took;
+
+impl<'a> Adds<Front<'a>, u8> for Took {
+    ghost use Rattle.std.specs.Prelude.{take};
+
+    ghost added = { λ f. take f.count f.bytes.now };
+}
+
+/// The list with this answer behind it.
+pub(crate) fn heard(told: &Told<Heard>, into: &[u8], answer: Received) -> Told<Heard>
+    ensures { result.list ≡ told.now.list ++ heard_of answer into.now ∷ [] }
+{
+    told.and::<Lent<'_>, Gave>(&Lent { into, answer })
+}
