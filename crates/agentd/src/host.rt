@@ -157,7 +157,7 @@ fn make_signer<R: Net + Clock + Wait + Clone + Drop>(
 #[derive(Drop)]
 struct Seats<'a, R> {
     rt: &'a R,
-    hub: &'a Arc<AskHub<ReplyVoucher>>,
+    hub: &'a Arc<AskHub<AgentVoucher>>,
     config: &'a Config,
     shelf: &'a Option<SharedShelf>,
 }
