@@ -4,9 +4,9 @@ ghost use Rattle.std.specs.Prelude.{None, ◌<◌, ◌≤◌, length, IfOk, IfSo
 
 use file_sets::{Folder, RealShelf};
 use std::alloc::Global;
-use std::io;
 use std::io::Write;
 use std::string::String;
+use std::{fs, io};
 use svid_files::{files_in, publish_message};
 use wl_edge::{Sent, Sink};
 
@@ -75,6 +75,23 @@ impl FolderSink {
 }
 
 impl FolderWriter {
+    /// Removes the set of this number, unless it is the one that is seen: else each failure would leave one.
+    fn remove_unseen(&self, number: u64) -> io::Result<()> {
+        let path = self.path.as_str();
+        let own = format!(in self.alloc; "..data-{number}")?;
+        let link = format!(in self.alloc; "{path}/..data")?;
+        let seen = match fs::read_link(&self.rt, link.as_str()) {
+            Ok(target) => target.as_path().to_str() == Some(own.as_str()),
+            Err(error) if error.kind() == io::ErrorKind::NotFound => false,
+            Err(error) => return Err(error),
+        };
+        if !seen {
+            let set = format!(in self.alloc; "{path}/..data-{number}")?;
+            return fs::remove_dir_all(&self.rt, set.as_str());
+        }
+        Ok(())
+    }
+
     /// Writes the files of a message.
     fn publish(&mut self, message: &[u8]) -> io::Result<()> {
         let Ok(Some(files)) = files_in(self.alloc, message) else {
@@ -92,6 +109,7 @@ impl FolderWriter {
         }
         let mut shelf = RealShelf::start(self.rt.clone()?, self.alloc, self.path.clone()?);
         if publish_message(self.alloc, &mut shelf, number, message).is_err() {
+            self.remove_unseen(number)?;
             return Err(io::ErrorKind::Other.into());
         }
         folder.link_names(files.as_slice())?;
