@@ -1,6 +1,6 @@
 //! The places of a seat: the links that it serves, and the numbers under which they are watched.
 
-ghost use Rattle.std.specs.Prelude.{◌≡◌, ◌≤◌, ◌<◌, vec_len};
+ghost use Rattle.std.specs.Prelude.{◌≡◌, ◌≤◌, ◌<◌, false, get_or, vec_len};
 ghost use Rattle.wl_edge.specs.Listeners.{HasOpenLink, Finishes};
 ghost use Rattle.wl_worker.specs.Seating.{finished_link};
 
@@ -63,7 +63,10 @@ impl Numbers {
     }
 
     /// Whether a number was listed. It isn't any more.
-    pub fn unlist(&mut self, number: u32) -> bool {
+    pub fn unlist(&mut self, number: u32) -> bool
+        ensures was { result ≡ get_or self.old.listed.items number false }
+        ensures gone { get_or self.new.listed.items number false ≡ false }
+    {
         let at = number as usize;
         if at < self.listed.len() {
             let was = self.listed[at];
