@@ -6,13 +6,13 @@ ghost use Rattle.wl_serve.specs.Prepared.{IsSeat};
 
 use crate::documents::{AgentUpstream, Source};
 use crate::signers::{AgentSigner, AgentVoucher, SignedBy};
-use document_signer::{DocumentSigner, SharingUpstream, Shelf};
+use document_signer::{DocumentSigner, SharedIdentities, SharingUpstream, share_identities};
 use std::alloc::Global;
 use std::fs::Files;
 use std::net::Net;
 use std::rt::Clock;
 use std::string::String;
-use std::sync::{Arc, Mutex, Wait};
+use std::sync::{Arc, Wait};
 use std::thread::Threads;
 use wl_config::{Config, DocumentSource, SocketAttestor, SocketFact};
 use wl_edge::{EdgeFault, Listener, Upstream};
@@ -43,7 +43,7 @@ type HostAttestor = TellingAttestor<SocketAttestor>;
 type HostClock<R> = TellingClock<RealClock<R>>;
 
 /// Its upstream.
-type HostUpstream<R> = TellingUpstream<SharingUpstream<AgentUpstream<R>, R>>;
+type HostUpstream<R> = TellingUpstream<SharingUpstream<AgentUpstream<R>>>;
 
 /// A seat of the real host.
 type RealSeat<R> =
@@ -88,37 +88,31 @@ fn listener_at<R: Files + Net>(
     }
 }
 
-/// What the last document says, for the signers of a configuration that names none.
-type SharedShelf = Arc<Mutex<Shelf>>;
-
-/// The shelf of a configuration that names no signer.
-fn shelf_of(alloc: Global, config: &Config) -> Result<Option<SharedShelf>, Memory> {
+/// The identities of the documents, for the signers of a configuration that names none.
+fn identities_of(alloc: Global, config: &Config) -> Result<Option<SharedIdentities>, Memory> {
     match &config.signer {
         Some(_) => Ok(None),
-        None => match Arc::new(alloc, Mutex::new(Shelf::start())) {
-            Ok(shelf) => Ok(Some(shelf)),
-            Err(_) => Err(Memory),
-        },
+        None => Ok(Some(share_identities(alloc)?)),
     }
 }
 
-/// One more owner of a shelf.
-fn share(shelf: &Option<SharedShelf>) -> Result<Option<SharedShelf>, Memory> {
-    match shelf {
-        Some(shelf) => match shelf.clone() {
-            Ok(shelf) => Ok(Some(shelf)),
+/// One more owner of the identities.
+fn share(identities: &Option<SharedIdentities>) -> Result<Option<SharedIdentities>, Memory> {
+    match identities {
+        Some(identities) => match identities.clone() {
+            Ok(identities) => Ok(Some(identities)),
             Err(_) => Err(Memory),
         },
         None => Ok(None),
     }
 }
 
-/// The upstream of a configuration, which puts its documents on the shelf.
-fn make_upstream<R: Net + Files + Clock + Wait + Clone + Drop>(
+/// The upstream of a configuration, which shares the identities of its documents.
+fn make_upstream<R: Net + Files + Clock + Clone + Drop>(
     rt: &R,
     alloc: Global,
     config: &Config,
-    shelf: &Option<SharedShelf>,
+    identities: &Option<SharedIdentities>,
 ) -> Result<HostUpstream<R>, EdgeFault>
     ensures faults { IfOk result (λ u. ⟦<HostUpstream<R> as Upstream>⟧.faults u ≡ 0) }
     ensures told { IfOk result (λ u. IfSome (⟦<HostUpstream<R> as Upstream>⟧.told u)
@@ -133,22 +127,21 @@ fn make_upstream<R: Net + Files + Clock + Wait + Clone + Drop>(
         }
     };
     let upstream = AgentUpstream::start(source);
-    let sharing = SharingUpstream::start(upstream, copy_of(rt)?, alloc, share(shelf)?);
+    let sharing = SharingUpstream::start(upstream, alloc, share(identities)?);
     Ok(TellingUpstream::start(sharing))
 }
 
 /// A signer of a configuration: the one that it names, or its documents.
-fn make_signer<R: Net + Clock + Wait + Clone + Drop>(
+fn make_signer<R: Net + Clock + Clone + Drop>(
     rt: &R,
     alloc: Global,
     config: &Config,
-    shelf: &Option<SharedShelf>,
+    identities: &Option<SharedIdentities>,
 ) -> Result<HostSigner<R>, Memory> {
-    let by = match (&config.signer, share(shelf)?) {
+    let by = match (&config.signer, share(identities)?) {
         (Some(path), _) => SignedBy::Link(SignLink::start(rt, alloc, path.as_slice())?),
-        (None, Some(shelf)) => SignedBy::Documents(DocumentSigner::start(copy_of(rt)?, alloc, shelf)),
-        // without a shelf nothing is known of any document
-        (None, None) => return Err(Memory),
+        (None, Some(identities)) => SignedBy::Documents(DocumentSigner::start(alloc, identities)),
+        (None, None) => SignedBy::Documents(DocumentSigner::start(alloc, share_identities(alloc)?)),
     };
     Ok(TellingSigner::start(AgentSigner::start(by)))
 }
@@ -159,7 +152,6 @@ struct Seats<'a, R> {
     rt: &'a R,
     hub: &'a Arc<AskHub<AgentVoucher>>,
     config: &'a Config,
-    shelf: &'a Option<SharedShelf>,
 }
 
 impl<'a, R: Net + Files + Clock + Clone + Drop> SeatMaker for Seats<'a, R> {
@@ -207,18 +199,18 @@ const SIGNERS: u32 = 4;
 type RealSigning<R> = Signing<HostSigner<R>, HostClock<R>>;
 
 /// The signer of a configuration, over so many streams.
-fn make_signers<R: Net + Clock + Wait + Clone + Drop>(
+fn make_signers<R: Net + Clock + Clone + Drop>(
     rt: &R,
     alloc: Global,
     config: &Config,
-    shelf: &Option<SharedShelf>,
+    identities: &Option<SharedIdentities>,
 ) -> Result<Vec<RealSigning<R>>, EdgeFault>
     ensures { IfOk result (λ s. 0 < length s.items) }
 {
     let mut signers = Vec::new(alloc);
     for _ in 0..SIGNERS {
         let signing = Signing {
-            signer: make_signer(rt, alloc, config, shelf)?,
+            signer: make_signer(rt, alloc, config, identities)?,
             clock: TellingClock::start(RealClock::start(copy_of(rt)?)),
         };
         if signers.push(signing).is_err() {
@@ -232,11 +224,11 @@ fn make_signers<R: Net + Clock + Wait + Clone + Drop>(
 }
 
 /// The upstream and the signers of a configuration, with their clocks.
-fn make_upkeep<R: Net + Files + Clock + Wait + Clone + Drop>(
+fn make_upkeep<R: Net + Files + Clock + Clone + Drop>(
     rt: &R,
     alloc: Global,
     config: &Config,
-    shelf: &Option<SharedShelf>,
+    identities: &Option<SharedIdentities>,
 ) -> Result<Upkeep<HostUpstream<R>, HostSigner<R>, HostClock<R>>, EdgeFault>
     ensures faults { IfOk result (λ u. ⟦<HostUpstream<R> as Upstream>⟧.faults u.upstream ≡ 0) }
     ensures told { IfOk result (λ u. IfSome (⟦<HostUpstream<R> as Upstream>⟧.told u.upstream)
@@ -244,10 +236,10 @@ fn make_upkeep<R: Net + Files + Clock + Wait + Clone + Drop>(
     ensures signers { IfOk result (λ u. 0 < length u.signers.items) }
 {
     Ok(Upkeep {
-        upstream: make_upstream(rt, alloc, config, shelf)?,
+        upstream: make_upstream(rt, alloc, config, identities)?,
         puller: TellingClock::start(RealClock::start(copy_of(rt)?)),
         keeper: TellingClock::start(RealClock::start(copy_of(rt)?)),
-        signers: make_signers(rt, alloc, config, shelf)?,
+        signers: make_signers(rt, alloc, config, identities)?,
     })
 }
 
@@ -270,7 +262,7 @@ impl<R> RealHost<R> {
     }
 }
 
-impl<R: Net + Files + Clock + Wait + Clone + Drop + Send + Sync> Binder for RealHost<R> {
+impl<R: Net + Files + Clock + Clone + Drop + Send + Sync> Binder for RealHost<R> {
     type Up = HostUpstream<R>;
 
     type Listen = RealListener;
@@ -297,11 +289,11 @@ impl<R: Net + Files + Clock + Wait + Clone + Drop + Send + Sync> Binder for Real
         alloc: Global,
         config: &Config,
     ) -> Result<Parts<RealHost<R>>, EdgeFault> {
-        let shelf = match shelf_of(alloc, config) {
-            Ok(shelf) => shelf,
+        let identities = match identities_of(alloc, config) {
+            Ok(identities) => identities,
             Err(Memory) => return Err(EdgeFault::Memory),
         };
-        let upkeep = match make_upkeep(&self.rt, alloc, config, &shelf) {
+        let upkeep = match make_upkeep(&self.rt, alloc, config, &identities) {
             Ok(upkeep) => upkeep,
             Err(fault) => return Err(self.count(fault)),
         };
@@ -313,7 +305,6 @@ impl<R: Net + Files + Clock + Wait + Clone + Drop + Send + Sync> Binder for Real
             rt: &self.rt,
             hub: &hub,
             config,
-            shelf: &shelf,
         };
         let (seats, bells) = match make_seats(alloc, &mut maker, config.sockets.as_slice()) {
             Ok(both) => both,

@@ -14,16 +14,13 @@ use crate::host::RealHost;
 use crate::lazy_file::LazyFile;
 use crate::running::serve_here;
 use std::alloc::{AllocGlobal, Global};
-use std::fs::Files;
-use std::net::Net;
 use std::process::ExitCode;
-use std::rt::Clock;
 use std::string::String;
 use std::sync::Wait;
 use std::thread::Threads;
 use wl_agent::status::{OUT_OF_MEMORY, USAGE};
 use wl_agent::{Host, config_path, refusal, run};
-use wl_edge::{RealSource, Sink, Source};
+use wl_edge::RealSource;
 use wl_edge_real::{RealOutput, words};
 
 /// Writes why the words fit no command to standard error. Where that fails nobody reads it.
@@ -34,47 +31,42 @@ fn explain(rt: &HostRuntime, alloc: Global, words: &[String]) {
 }
 
 /// Serves by the configuration in this file.
-fn serve_file<R: Threads + Wait + Net + Files + Clock + Clone + Drop + Send + Sync, O: Sink + Drop>(
-    rt: &R,
+fn serve_file(
+    rt: &HostRuntime,
+    threads: &(impl Threads + Wait + Sync),
     alloc: Global,
     path: &str,
     words: &[String],
-    output: O,
 ) -> u8 {
     let Ok(own) = rt.clone() else {
         return OUT_OF_MEMORY;
     };
     let mut host = Host {
         input: RealSource::start(LazyFile::start(rt, path)),
-        output,
+        output: RealOutput::start(rt.stdout()),
         binder: RealHost::start(own),
         parts: None,
     };
-    serve_here(rt, alloc, words, &mut host)
+    serve_here(threads, alloc, words, &mut host)
 }
 
-/// Runs a command on this input.
-fn run_on_input<
-    R: Threads + Wait + Net + Files + Clock + Clone + Drop + Send + Sync,
-    I: Source + Drop,
-    O: Sink + Drop,
->(
-    rt: &R,
+/// Runs a command on standard input.
+fn run_on_input(
+    rt: &HostRuntime,
+    threads: &(impl Threads + Wait + Sync),
     alloc: Global,
     words: &[String],
-    input: I,
-    output: O,
 ) -> u8 {
     let Ok(own) = rt.clone() else {
         return OUT_OF_MEMORY;
     };
     let mut host = Host {
-        input,
-        output,
+        input: RealSource::start(rt.stdin()),
+        output: RealOutput::start(rt.stdout()),
         binder: RealHost::start(own),
         parts: None,
     };
-    run(rt, alloc, words, &mut host)
+    run(threads, alloc, words, &mut host)
 }
 
 fn main(rt: HostRuntime) -> ExitCode {
@@ -82,13 +74,9 @@ fn main(rt: HostRuntime) -> ExitCode {
     let Ok(words) = words(&rt, alloc) else {
         return ExitCode::from(OUT_OF_MEMORY);
     };
-    let output = RealOutput::start(rt.stdout());
     let status = match config_path(words.as_slice()) {
-        Some(path) => serve_file(&rt, alloc, path, words.as_slice(), output),
-        None => {
-            let input = RealSource::start(rt.stdin());
-            run_on_input(&rt, alloc, words.as_slice(), input, output)
-        }
+        Some(path) => serve_file(&rt, &rt, alloc, path, words.as_slice()),
+        None => run_on_input(&rt, &rt, alloc, words.as_slice()),
     };
     if status == USAGE {
         explain(&rt, alloc, words.as_slice());

@@ -7,9 +7,6 @@ ghost use Rattle.wl_signlink.specs.Vouched.{RepliedToken};
 
 use crate::host::RealHost;
 use std::alloc::Global;
-use std::fs::Files;
-use std::net::Net;
-use std::rt::Clock;
 use std::string::String;
 use std::sync::Wait;
 use std::thread::Threads;
@@ -19,15 +16,11 @@ use wl_serve::{Binder, Parts, PartsShown};
 
 /// Serves over the operating system. What [`run`] says of `serve` holds with no premise: all that the real host prepares,
 /// and each of its links, tells its content.
-pub(crate) fn serve_here<
-    I: Source,
-    O: Sink,
-    R: Threads + Wait + Net + Files + Clock + Clone + Drop + Send + Sync,
->(
+pub(crate) fn serve_here<I: Source, O: Sink, R: Threads + Wait + Sync>(
     rt: &R,
     alloc: Global,
     words: &[String],
-    host: &mut Host<I, O, RealHost<R>>,
+    host: &mut Host<I, O, RealHost<HostRuntime>>,
 ) -> u8
     requires { host.old.parts ≡ None }
     ensures serves { IsSome (config_of (map string_bytes words.now)) → ServeExplains RepliedToken ⊤ ⊤
@@ -41,9 +34,9 @@ pub(crate) fn serve_here<
           writes_after = O.faults host.new.output;
         })
         (record {
-          before = ⟦<RealHost<R> as Binder>⟧.faults host.old.binder;
-          now = ⟦<RealHost<R> as Binder>⟧.faults host.new.binder;
-          parts = option_map ⟦<Parts<RealHost<R>> as PartsShown>⟧.shown host.new.parts;
+          before = ⟦<RealHost<HostRuntime> as Binder>⟧.faults host.old.binder;
+          now = ⟦<RealHost<HostRuntime> as Binder>⟧.faults host.new.binder;
+          parts = option_map ⟦<Parts<RealHost<HostRuntime>> as PartsShown>⟧.shown host.new.parts;
         }) result }
 {
     run(rt, alloc, words, host)

@@ -5,7 +5,6 @@ ghost use Rattle.std.specs.Prelude.{◌≡◌, None};
 use document_signer::{DocumentSigner, DocumentVoucher};
 use std::net::Net;
 use std::rt::Clock;
-use std::sync::Wait;
 use wl_edge::{EdgeFault, Signer};
 use wl_entry::{Ask, JwtToken, Signed, Voucher};
 use wl_octets::Octets;
@@ -27,7 +26,7 @@ impl Voucher for AgentVoucher {
 #[derive(Drop)]
 pub enum SignedBy<R> {
     Link(SignLink<R>),
-    Documents(DocumentSigner<R>),
+    Documents(DocumentSigner),
 }
 
 /// A signer by either of them. It counts its faults and tells no calls.
@@ -37,7 +36,7 @@ pub struct AgentSigner<R> {
     faults: u64,
 }
 
-impl<R: Net + Clock + Wait + Clone + Drop> AgentSigner<R> {
+impl<R: Net + Clock + Clone + Drop> AgentSigner<R> {
     /// A signer by either of them.
     pub fn start(by: SignedBy<R>) -> AgentSigner<R>
         ensures { ⟦<AgentSigner<R> as Signer>⟧.faults result ≡ 0 }
@@ -46,7 +45,7 @@ impl<R: Net + Clock + Wait + Clone + Drop> AgentSigner<R> {
     }
 }
 
-impl<R: Net + Clock + Wait + Clone + Drop> Signer for AgentSigner<R> {
+impl<R: Net + Clock + Clone + Drop> Signer for AgentSigner<R> {
     type V = AgentVoucher;
 
     ghost calls = { λ s. None };

@@ -1,1 +1,1 @@
-pub mod Shelves
+pub mod Identities

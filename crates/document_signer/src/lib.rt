@@ -1,17 +1,17 @@
 //! A signer in the process: it answers an ask with the signed identity that the last document has for that entry.
 //!
-//! A [`SharingUpstream`] puts what each document gives on a [`Shelf`], and each [`DocumentSigner`] looks there. So a node can be
-//! run by two files, without a signer beside it.
+//! A [`SharingUpstream`] shares the [`Identities`] of each document, and each [`DocumentSigner`] looks there. So a node can be run
+//! by two files, without a signer beside it.
 #![tactic(auto)]
 
-mod shelf;
+mod identities;
 mod signer;
 #[cfg(test)]
 mod tests;
 mod upstream;
 mod vouching;
 
-pub use shelf::Shelf;
+pub use identities::{Identities, SharedIdentities, share_identities};
 pub use signer::DocumentSigner;
 pub use upstream::SharingUpstream;
 pub use vouching::DocumentVoucher;

@@ -1,40 +1,56 @@
-//! Signers that answer from the shelf.
+//! Signers that answer from the last document.
 
-ghost use Rattle.std.specs.Prelude.{◌≡◌, None};
+ghost use Rattle.std.specs.Prelude.{◌≡◌, None, IfOk, IfSome};
+ghost use Rattle.document_signer.specs.Identities.{HasIdentity};
 
-use crate::shelf::Shelf;
+use crate::identities::SharedIdentities;
 use crate::vouching::DocumentVoucher;
 use std::alloc::Global;
-use std::sync::{Arc, Mutex, Wait};
 use wl_edge::{EdgeFault, Signer};
 use wl_entry::{Ask, JwtToken, Signed};
-use wl_octets::Octets;
+use wl_octets::{Memory, Octets};
 
-/// Answers each ask with the identity that the last document has for its entry, and has failed where it has none. It signs no
-/// token: such an ask fails. It counts its faults and tells no calls.
+/// Answers each ask with the identity that the last document has for its entry, and has failed where it has none. An ask in the
+/// moment in which a document takes the other's place has failed, too. It signs no token: such an ask fails. It counts its faults
+/// and tells no calls.
 #[derive(Drop)]
-pub struct DocumentSigner<R> {
-    rt: R,
+pub struct DocumentSigner {
     alloc: Global,
-    shelf: Arc<Mutex<Shelf>>,
+    identities: SharedIdentities,
     faults: u64,
 }
 
-impl<R: Wait + Drop> DocumentSigner<R> {
-    /// A signer that looks at this shelf.
-    pub fn start(rt: R, alloc: Global, shelf: Arc<Mutex<Shelf>>) -> DocumentSigner<R>
-        ensures fresh { ⟦<DocumentSigner<R> as Signer>⟧.faults result ≡ 0 }
+impl DocumentSigner {
+    /// A signer that looks at these identities.
+    pub fn start(alloc: Global, identities: SharedIdentities) -> DocumentSigner
+        ensures fresh { ⟦<DocumentSigner as Signer>⟧.faults result ≡ 0 }
     {
         DocumentSigner {
-            rt,
             alloc,
-            shelf,
+            identities,
             faults: 0,
         }
     }
 }
 
-impl<R: Wait + Drop> Signer for DocumentSigner<R> {
+/// The identity of the ask's entry, where there is one now.
+fn identity(
+    alloc: Global,
+    identities: &SharedIdentities,
+    ask: &Ask,
+) -> Result<Option<Signed>, Memory>
+    ensures { IfOk result (λ s. IfSome s (HasIdentity ask.now)) }
+{
+    let Some(held) = identities.try_read() else {
+        return Ok(None);
+    };
+    match &*held {
+        Some(identities) => identities.identity(alloc, ask),
+        None => Ok(None),
+    }
+}
+
+impl Signer for DocumentSigner {
     type V = DocumentVoucher;
 
     ghost calls = { λ s. None };
@@ -42,14 +58,13 @@ impl<R: Wait + Drop> Signer for DocumentSigner<R> {
     ghost faults = { λ s. s.faults };
 
     fn sign_x509(&mut self, ask: &Ask) -> Result<Signed, EdgeFault> {
-        let given = self.shelf.lock(&self.rt).identity(self.alloc, ask);
-        match given {
+        match identity(self.alloc, &self.identities, ask) {
             Ok(Some(signed)) => Ok(signed),
             Ok(None) => {
                 self.faults = self.faults.saturating_add(1);
                 Err(EdgeFault::Failed)
             }
-            Err(_) => Err(EdgeFault::Memory),
+            Err(Memory) => Err(EdgeFault::Memory),
         }
     }
 

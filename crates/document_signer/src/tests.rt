@@ -1,9 +1,8 @@
 //! Identities of documents, asked for.
 
-use crate::{DocumentSigner, SharingUpstream, Shelf};
+use crate::{DocumentSigner, SharingUpstream, share_identities};
 use spiffe_id::SpiffeId;
 use std::alloc::Global;
-use std::sync::{Arc, Mutex, Wait};
 use std::test::Fail;
 use wl_edge::{EdgeFault, MemoryUpstream, Script, Signer, Upstream};
 use wl_entry::Ask;
@@ -22,7 +21,7 @@ const SECOND: &[u8] = br#"{"version":1,"trust_domain":"a.b","bundles":[{"trust_d
              {"entry":"e2","chain":"Yw==","key":"aw==","not_before":7,"not_after":9}]}"#;
 
 /// The identity's first second; none where the ask failed.
-fn first_second<R: Wait + Drop>(alloc: Global, signer: &mut DocumentSigner<R>, entry: &[u8]) -> Result<Option<u64>, Fail> {
+fn first_second(alloc: Global, signer: &mut DocumentSigner, entry: &[u8]) -> Result<Option<u64>, Fail> {
     let ask = Ask {
         entry_id: Octets::from_slice(alloc, entry)?,
         spiffe_id: SpiffeId::parse(alloc, b"spiffe://a.b/one")?,
@@ -45,11 +44,6 @@ fn upstream_of(alloc: Global, documents: &[(&[u8], [Option<u64>; 2])]) -> Result
     Ok(MemoryUpstream::start(alloc, Script::start(answers, Row::empty(alloc))))
 }
 
-/// An empty shelf, shared.
-fn shared_shelf(alloc: Global) -> Result<Arc<Mutex<Shelf>>, Memory> {
-    Arc::new(alloc, Mutex::new(Shelf::start())).map_err(|_| Memory)
-}
-
 /// After each pull, what is answered for the first and for the second entry.
 const DOCUMENTS: [(&[u8], [Option<u64>; 2]); 5] = [
     (b"{", [None, None]),
@@ -63,10 +57,10 @@ const DOCUMENTS: [(&[u8], [Option<u64>; 2]); 5] = [
 #[test]
 fn documents_give_identities(rt: HostRuntime) -> Result<(), Fail> {
     let alloc = rt.alloc();
-    let shelf = shared_shelf(alloc)?;
-    let mut signer = DocumentSigner::start(rt.clone()?, alloc, shelf.clone()?);
+    let identities = share_identities(alloc)?;
+    let mut signer = DocumentSigner::start(alloc, identities.clone()?);
     let inner = upstream_of(alloc, &DOCUMENTS)?;
-    let mut upstream = SharingUpstream::start(inner, rt.clone()?, alloc, Some(shelf));
+    let mut upstream = SharingUpstream::start(inner, alloc, Some(identities));
     for (document, answered) in DOCUMENTS {
         let mut pulled = Octets::empty(alloc);
         assert!(rt; upstream.pull(&mut pulled).is_ok());

@@ -1,63 +1,65 @@
-//! Documents that are shared with the signers.
+//! Documents whose identities are shared with the signers.
 
 ghost use Rattle.std.specs.Prelude.{◌≡◌};
 
-use crate::shelf::Shelf;
+use crate::identities::{Identities, SharedIdentities};
 use std::alloc::Global;
-use std::sync::{Arc, Mutex, Wait};
 use wl_edge::{EdgeFault, Upstream};
 use wl_octets::{Memory, Octets};
 
-/// Another upstream, of whose documents each new one is put on a shelf, where there is one, before it is handed on. Where memory
-/// runs out meanwhile, the shelf stays as it was until the next pull.
+/// Another upstream. Where identities are shared, those of each new document take the place of those before, before the document
+/// is handed on; a document with a fault changes nothing. Where memory runs out meanwhile, or a signer looks in that very moment,
+/// they stay as they were until the next pull.
 #[derive(Drop)]
-pub struct SharingUpstream<U, R> {
+pub struct SharingUpstream<U> {
     inner: U,
-    rt: R,
     alloc: Global,
-    shelf: Option<Arc<Mutex<Shelf>>>,
-    /// The document that was put last.
+    identities: Option<SharedIdentities>,
+    /// The document whose identities were shared last.
     last: Octets,
 }
 
-impl<U: Upstream, R: Wait + Drop> SharingUpstream<U, R> {
-    /// An upstream over this one, with this shelf or none.
+impl<U: Upstream> SharingUpstream<U> {
+    /// An upstream over this one, which shares identities or doesn't.
     pub fn start(
         inner: U,
-        rt: R,
         alloc: Global,
-        shelf: Option<Arc<Mutex<Shelf>>>,
-    ) -> SharingUpstream<U, R>
-        ensures told { ⟦<SharingUpstream<U, R> as Upstream>⟧.told result ≡ U.told inner }
-        ensures faults { ⟦<SharingUpstream<U, R> as Upstream>⟧.faults result ≡ U.faults inner }
+        identities: Option<SharedIdentities>,
+    ) -> SharingUpstream<U>
+        ensures told { ⟦<SharingUpstream<U> as Upstream>⟧.told result ≡ U.told inner }
+        ensures faults { ⟦<SharingUpstream<U> as Upstream>⟧.faults result ≡ U.faults inner }
     {
         SharingUpstream {
             inner,
-            rt,
             alloc,
-            shelf,
+            identities,
             last: Octets::empty(alloc),
         }
     }
 
-    /// Puts a document on the shelf, where it isn't the one that was put last.
+    /// Shares the identities of a document, where it isn't the last one.
     fn share(&mut self, document: &[u8]) -> Result<(), Memory>
         ensures { self.new.inner ≡ self.old.inner }
     {
-        let Some(shelf) = &self.shelf else {
+        let Some(identities) = &self.identities else {
             return Ok(());
         };
         if self.last.as_slice() == document {
             return Ok(());
         }
         let copy = Octets::from_slice(self.alloc, document)?;
-        shelf.lock(&self.rt).put(self.alloc, document)?;
+        if let Some(read) = Identities::read(self.alloc, document)? {
+            let Some(mut held) = identities.try_write() else {
+                return Ok(());
+            };
+            *held = Some(read);
+        }
         self.last = copy;
         Ok(())
     }
 }
 
-impl<U: Upstream, R: Wait + Drop> Upstream for SharingUpstream<U, R> {
+impl<U: Upstream> Upstream for SharingUpstream<U> {
     ghost told = { λ u. U.told u.inner };
 
     ghost faults = { λ u. U.faults u.inner };

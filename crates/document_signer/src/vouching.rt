@@ -7,7 +7,7 @@ use wl_entry::Voucher;
 pub struct DocumentVoucher;
 
 impl Voucher for DocumentVoucher {
-    ghost use Rattle.document_signer.specs.Shelves.{HasIdentity};
+    ghost use Rattle.document_signer.specs.Identities.{HasIdentity};
 
     ghost signed = { λ ask signed. HasIdentity ask signed };
 

@@ -12,11 +12,6 @@ use Rattle.wl_document.specs.declared.fault.DocFault.{DocFault}
 unfoldable pub identity_in : List ℕ → State → Option Signed
 identity_in id st = option_map (λ s. s.signed) (item_at doc_svid_key st.svids id)
 
--- the same of a shelf, which has no state before the first document
-abbrev pub identity_on : List ℕ → Option State → Option Signed
-identity_on id None = None
-identity_on id (Some st) = identity_in id st
-
 -- some document says this state
 pub record IsOfDocument (st : State) : Type 0 where
   pub document : List ℕ
@@ -28,7 +23,7 @@ pub record HasIdentity (ask : Ask) (signed : Signed) : Type 0 where
   pub of_document : IsOfDocument state
   pub given : identity_in ask.entry_id state ≡ Some signed
 
--- what stands on a shelf once a document was read: its state, or what stood there where the document has a fault
-abbrev pub shelf_after : Result State DocFault → Option State → Option State
-shelf_after (Ok st) before = Some st
-shelf_after (Err fault) before = before
+-- a document's state, where it has no fault
+abbrev pub state_by : Result State DocFault → Option State
+state_by (Ok st) = Some st
+state_by (Err fault) = None
