@@ -21,8 +21,7 @@ use std::thread::sleep;
 use std::time::Duration;
 use wl_control::status::{OUT_OF_MEMORY, USAGE, WRITE_FAILED};
 use wl_control::{control, keep, refusal};
-use wl_edge::RealSink;
-use wl_edge_real::{Address, DialedLink, words};
+use wl_edge_real::{Address, DialedLink, RealOutput, words};
 use wl_octets::Memory;
 
 /// What is said where no socket is named.
@@ -51,7 +50,7 @@ fn explain(rt: &HostRuntime, alloc: Global, words: &[String], otherwise: &str) {
 fn call(rt: HostRuntime, address: Address, words: &[String]) -> u8 {
     let alloc = rt.alloc();
     let mut link = DialedLink::start_at(rt, address);
-    let mut sink = RealSink::start(rt.stdout());
+    let mut sink = RealOutput::start(rt.stdout());
     let status = control(&rt, alloc, words, &mut link, &mut sink);
     if status == USAGE {
         explain(&rt, alloc, words, "");

@@ -62,7 +62,7 @@ const SAID: [(&[&str], &str); 8] = [
         "error: unexpected argument '--all' found",
     ),
     (&["chek"], "error: unrecognized subcommand 'chek'"),
-    (&["--version"], "agentd 1.0"),
+    (&["--version"], "agentd 0.2.0"),
     (&["preview", "a:b", "--help"], "Writes what a caller"),
     (&[], "error: 'agentd' requires a subcommand"),
 ];
