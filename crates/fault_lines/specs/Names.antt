@@ -49,7 +49,7 @@ unfoldable pub config_member : ℕ → List ℕ
 config_member field =
     if field == 0 then codes "configuration"
     else if field == 1 then codes "version"
-    else if field == 2 then codes "upstream"
+    else if field == 2 then codes "upstream or document"
     else if field == 3 then codes "signer"
     else if field == 4 then codes "poll_seconds"
     else if field == 5 then codes "sockets"

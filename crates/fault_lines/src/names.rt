@@ -75,7 +75,7 @@ fn config_member(field: u64) -> &'static [u8]
     match field {
         0 => b"configuration",
         1 => b"version",
-        2 => b"upstream",
+        2 => b"upstream or document",
         3 => b"signer",
         4 => b"poll_seconds",
         5 => b"sockets",

@@ -112,7 +112,7 @@ const DOCUMENTS: [Case; 28] = [
 const CONFIGS: [Case; 11] = [
     ("fault config 1", "configuration: is not JSON"),
     ("fault config 2", "version: is not 1"),
-    ("fault config 3 0 0 3 0", "signer: is missing"),
+    ("fault config 3 0 0 2 0", "upstream or document: is missing"),
     (
         "fault config 4 0 0 4 0",
         "poll_seconds: is of the wrong kind or out of range",
