@@ -16,7 +16,8 @@ use Rattle.wl_agent.specs.declared.command.Command.{Command}
 use Rattle.wl_agent.specs.declared.command.Command.TheVariants.{Read, Simulate}
 use Rattle.wl_agent.specs.declared.command.Reading.TheVariants.{Preview, Check, Replay}
 use Rattle.wl_agent.specs.declared.command.Simulation.{Simulation}
-use Rattle.wl_agent.specs.Lines.{fault_line, script_line, count_line, message_line, simulation_line}
+use Rattle.fault_laws.specs.Lines.{fault_line, script_line}
+use Rattle.wl_agent.specs.Lines.{count_line, message_line, simulation_line}
 use Rattle.wl_agent.specs.Outcomes.{usage_outcome, outcome_of, counts_outcome, preview_answer}
 use Rattle.wl_agent.specs.declared.outcome.Outcome.{Outcome}
 use Rattle.wl_agent.specs.declared.program.TheConstants.{READ_LIMIT}

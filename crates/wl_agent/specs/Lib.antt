@@ -5,4 +5,3 @@ pub mod Outcomes
 pub mod Ends
 pub mod ServeWords
 pub mod ServeEnds
-pub mod Sentences

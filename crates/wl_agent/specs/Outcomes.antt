@@ -19,7 +19,8 @@ use Rattle.wl_agent.specs.declared.command.Simulation.{Simulation}
 use Rattle.wl_agent.specs.declared.outcome.Outcome.{Outcome}
 use Rattle.wl_agent.specs.declared.status.TheConstants.{DONE, USAGE, DOCUMENT_FAULT, DENIED, NO_SVID, TOO_LONG}
 use Rattle.wl_agent.specs.Kept.{publication_of}
-use Rattle.wl_agent.specs.Lines.{fault_line, script_line, count_line, message_line, simulation_line}
+use Rattle.fault_laws.specs.Lines.{fault_line, script_line}
+use Rattle.wl_agent.specs.Lines.{count_line, message_line, simulation_line}
 
 -- words that fit no command
 abbrev pub usage_outcome : Outcome

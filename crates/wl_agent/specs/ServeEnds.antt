@@ -1,43 +1,18 @@
 -- How `serve` ends (own rules).
-use Rattle.std.specs.Prelude.{◌≡◌, ⊤, ℕ, List, [], ◌∷◌, ◌++◌, codes, Option, None, IfSome}
-use Rattle.fault_lines.specs.Lines.{spaced_all}
+use Rattle.std.specs.Prelude.{◌≡◌, ⊤, ℕ, List, [], Option, None, IfSome}
 use Rattle.wl_entry.specs.declared.asks.Ask.{Ask}
 use Rattle.wl_entry.specs.declared.tokens.JwtToken.{JwtToken}
 use Rattle.wl_edge.specs.Edge.{Rose, Drained, GainedPrefix}
-use Rattle.wl_document.specs.declared.fault.Place.{Place}
-use Rattle.wl_config.specs.declared.fault.ConfigFault.{ConfigFault}
-use Rattle.wl_config.specs.declared.fault.ConfigFault.TheVariants as fault
 use Rattle.wl_config.specs.Configs.{configuration_of}
 use Rattle.wl_serve.specs.Views.{PartsView}
 use Rattle.wl_serve.specs.Serving.{ServeTells, NoneRan}
 use Rattle.wl_serve.specs.declared.ending.ServeEnd.{ServeEnd}
 use Rattle.wl_serve.specs.declared.ending.ServeEnd.TheVariants.{Config, Unprepared, NoDocument, Document, HostFault, Memory, Done}
-use Rattle.wl_agent.specs.Lines.{fault_line}
+use Rattle.fault_laws.specs.Lines.{fault_line, config_line}
 use Rattle.wl_agent.specs.Ends.{Traffic, Wrote}
 use Rattle.wl_agent.specs.declared.outcome.Outcome.{Outcome}
 use Rattle.wl_agent.specs.declared.program.TheConstants.{READ_LIMIT}
 use Rattle.wl_agent.specs.declared.status.TheConstants.{DONE, DOCUMENT_FAULT, READ_FAILED, WRITE_FAILED, OUT_OF_MEMORY, NO_DOCUMENT, HOST_FAILED}
-
--- part, index, field and item
-abbrev pub place_of : Place → List ℕ
-place_of p = p.part ∷ p.index ∷ p.field ∷ p.item ∷ []
-
--- a fault of a configuration by its number, with its place and its further number
-unfoldable pub config_numbers : ConfigFault → List ℕ
-config_numbers fault.NotJson = 1 ∷ []
-config_numbers fault.Version = 2 ∷ []
-config_numbers (fault.Missing p) = 3 ∷ place_of p
-config_numbers (fault.Kind p) = 4 ∷ place_of p
-config_numbers (fault.EmptyText p) = 5 ∷ place_of p
-config_numbers (fault.Selector p) = 6 ∷ place_of p
-config_numbers (fault.TooMany p n) = 7 ∷ place_of p ++ n ∷ []
-config_numbers (fault.Duplicate p) = 8 ∷ place_of p
-config_numbers (fault.TooLong n) = 9 ∷ n ∷ []
-config_numbers fault.Memory = 10 ∷ []
-
--- `fault config`, the numbers, each after a space, and a newline
-unfoldable pub config_line : ConfigFault → List ℕ
-config_line e = codes "fault config" ++ spaced_all (config_numbers e) ++ 10 ∷ []
 
 abbrev pub silent : ℕ → Outcome
 silent status = record { status = status; output = [] }

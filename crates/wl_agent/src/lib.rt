@@ -7,7 +7,6 @@
 
 mod args;
 mod command;
-mod laws;
 mod outcome;
 mod output;
 mod program;
@@ -19,7 +18,6 @@ pub mod status;
 mod tests;
 mod unfit;
 
-pub use laws::{fault_lines_are_explained, places_of_faults_have_names};
 pub use program::READ_LIMIT;
 pub use serve::{Host, config_path, run};
 pub use unfit::refusal;

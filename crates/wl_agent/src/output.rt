@@ -3,7 +3,8 @@
 ghost use Rattle.std.specs.Prelude.{◌≡◌, ◌++◌, [], ◌∷◌, ◌≤◌, codes, length, IfOk, OnOk};
 ghost use Rattle.std.specs.Fmt.{decimal};
 ghost use Rattle.fault_lines.specs.Lines.{spaced_all};
-ghost use Rattle.wl_agent.specs.Lines.{script_numbers, script_line, simulation_line, fault_line, count_line, message_line};
+ghost use Rattle.fault_laws.specs.Lines.{script_numbers, script_line, fault_line};
+ghost use Rattle.wl_agent.specs.Lines.{simulation_line, count_line, message_line};
 
 use crate::command::Simulation;
 use grpc_wire::message_prefix;
@@ -14,7 +15,7 @@ use wl_octets::{Memory, Octets};
 use wl_replay::{ScriptFault, put_all, put_decimal, put_fault, put_hex};
 
 /// The line of a document's fault.
-#[tactic(auto, unfolding(crate::specs::Lines::fault_line))]
+#[tactic(auto, unfolding(fault_laws::specs::Lines::fault_line))]
 pub(crate) fn line_of_fault(alloc: Global, fault: DocFault) -> Result<Octets, Memory>
     ensures { IfOk result (λ o. o ≡ fault_line fault) }
 {
@@ -42,7 +43,7 @@ pub(crate) fn line_of_counts(alloc: Global, state: &AuthorityState) -> Result<Oc
 }
 
 /// The numbers of a script's fault.
-#[tactic(auto, unfolding(crate::specs::Lines::script_numbers))]
+#[tactic(auto, unfolding(fault_laws::specs::Lines::script_numbers))]
 fn put_script(out: &mut Vec<u8>, fault: ScriptFault) -> Result<(), Memory>
     ensures { OnOk result (out.new.items ≡ out.old.items ++ spaced_all (script_numbers fault)) }
 {
@@ -57,7 +58,7 @@ fn put_script(out: &mut Vec<u8>, fault: ScriptFault) -> Result<(), Memory>
 }
 
 /// The line of a script's fault.
-#[tactic(auto, unfolding(crate::specs::Lines::script_line))]
+#[tactic(auto, unfolding(fault_laws::specs::Lines::script_line))]
 pub(crate) fn line_of_script(alloc: Global, fault: ScriptFault) -> Result<Octets, Memory>
     ensures { IfOk result (λ o. o ≡ script_line fault) }
 {

@@ -2,7 +2,9 @@
 
 ghost use Rattle.std.specs.Prelude.{◌≡◌, ◌++◌, ◌∷◌, [], codes, IfOk, OnOk, OnErr};
 ghost use Rattle.fault_lines.specs.Lines.{spaced_all};
-ghost use Rattle.wl_agent.specs.ServeEnds.{place_of, config_numbers, config_line, serve_outcome, IsFault, silent};
+ghost use Rattle.wl_replay.specs.Faults.{place_numbers};
+ghost use Rattle.fault_laws.specs.Lines.{config_numbers, config_line};
+ghost use Rattle.wl_agent.specs.ServeEnds.{serve_outcome, IsFault, silent};
 
 use crate::outcome::Outcome;
 use crate::output::line_of_fault;
@@ -17,7 +19,7 @@ use wl_serve::ServeEnd;
 /// A fault's number and its place.
 #[tactic(auto, unfolding(fault_lines::specs::Lines::spaced_all))]
 fn put_at(out: &mut Vec<u8>, kind: u64, place: Place) -> Result<(), Memory>
-    ensures { OnOk result (out.new.items ≡ out.old.items ++ spaced_all (kind ∷ place_of place)) }
+    ensures { OnOk result (out.new.items ≡ out.old.items ++ spaced_all (kind ∷ place_numbers place)) }
 {
     put_all(
         out,
@@ -35,14 +37,14 @@ fn put_at(out: &mut Vec<u8>, kind: u64, place: Place) -> Result<(), Memory>
 #[tactic(auto, unfolding(fault_lines::specs::Lines::spaced_all))]
 fn put_many(out: &mut Vec<u8>, kind: u64, place: Place, count: usize) -> Result<(), Memory>
     ensures { OnOk result
-        (out.new.items ≡ out.old.items ++ spaced_all (kind ∷ place_of place ++ count ∷ [])) }
+        (out.new.items ≡ out.old.items ++ spaced_all (kind ∷ place_numbers place ++ count ∷ [])) }
 {
     put_at(out, kind, place)?;
     put_all(out, &[count as u64])
 }
 
 /// The numbers of a configuration's fault.
-#[tactic(auto, unfolding(crate::specs::ServeEnds::config_numbers))]
+#[tactic(auto, unfolding(fault_laws::specs::Lines::config_numbers))]
 fn put_config_fault(out: &mut Vec<u8>, fault: ConfigFault) -> Result<(), Memory>
     ensures { OnOk result (out.new.items ≡ out.old.items ++ spaced_all (config_numbers fault)) }
 {
@@ -61,7 +63,7 @@ fn put_config_fault(out: &mut Vec<u8>, fault: ConfigFault) -> Result<(), Memory>
 }
 
 /// The line of a configuration's fault.
-#[tactic(auto, unfolding(crate::specs::ServeEnds::config_line))]
+#[tactic(auto, unfolding(fault_laws::specs::Lines::config_line))]
 fn line_of_config_fault(alloc: Global, fault: ConfigFault) -> Result<Octets, Memory>
     ensures { IfOk result (λ o. o ≡ config_line fault) }
 {

@@ -15,22 +15,25 @@ use Rattle.wl_document.specs.declared.fault.Place.{Place}
 use Rattle.wl_document.specs.declared.fault.DocFault.{DocFault}
 use Rattle.wl_document.specs.declared.fault.DocFault.TheVariants as fault
 use Rattle.wl_document.specs.Places.{at_top, at_bundle, at_entry, at_svid, item_at}
-use Rattle.wl_document.specs.Checks.{or_fault, decoded, no_id_fault, no_selector_fault}
-use Rattle.wl_document.specs.Arrays.{list_items, each_from, at_end, was_given}
-use Rattle.wl_document.specs.Members.{required, optional, object_at, text_at, text_of, number_at, number_of, list_at, list_of, list_or_empty, domain_at, domain_of, id_of, is_name, name_of, base64_at, base64_of, at_most, text_within, text_or_empty}
+use Rattle.json_members.specs.Members.{or_fault, required, optional, object_at, text_at, number_at, list_items, array_at}
+use Rattle.json_members.specs.Arrays.{each_from, at_end}
+use Rattle.json_members.specs.Texts.{value_of}
+use Rattle.wl_document.specs.Checks.{decoded, no_id_fault, no_selector_fault}
+use Rattle.wl_document.specs.Arrays.{was_given}
+use Rattle.wl_document.specs.Members.{text_of, number_of, list_at, list_of, list_or_empty, domain_at, domain_of, id_of, is_name, name_of, base64_at, base64_of, at_most, text_within, text_or_empty}
 use Rattle.wl_document.specs.Bundles.{x509_at, x509_of, bundle_name_of, bundle_domain_of, bundle_of, read_bundles, bundles_of}
 use Rattle.wl_document.specs.Entries.{selector_of, selector_list_of, selectors_of, federated_of, federates_of, federated_list_of, federates_with_of, dns_name_of, dns_names_of, dns_names_in, ttl_at, ttl_of, hint_of, extras_of, entry_name_of, entry_of, read_entries, entries_of}
 use Rattle.wl_document.specs.Svids.{svid_name_of, svid_of, doc_svid_key, read_svids, svids_of}
-use Rattle.wl_document.specs.Documents.{version_of, is_own, top_domain_of, own_domain_of, lists_of, has_x509, own_bundles_of, top_of, state_of, value_of, document_state}
+use Rattle.wl_document.specs.Documents.{version_of, is_own, top_domain_of, own_domain_of, lists_of, has_x509, own_bundles_of, top_of, state_of, document_state}
 use Rattle.wl_document.specs.States.{State}
 use Rattle.wl_entry.specs.Keys.{bundle_key, entry_key}
 use Rattle.sorted_lists.specs.Keys as keys
 use Rattle.fault_lines.specs.Names.{document_place, document_member, bundle_member, entry_member, svid_member}
 use Rattle.fault_lines.specs.Lines.{AreBounded}
 use Rattle.wl_replay.specs.Faults.{fault_numbers}
-use Rattle.wl_agent.specs.Sentences.{IsNamed, document_says}
-use Rattle.wl_agent.proofs.Named.{item_named}
-use Rattle.wl_agent.proofs.NamedFaults.{InDocument, DocumentFault, document_named}
+use Rattle.fault_laws.specs.Sentences.{IsNamed, document_says}
+use Rattle.fault_laws.proofs.Named.{item_named}
+use Rattle.fault_laws.proofs.NamedFaults.{InDocument, DocumentFault, document_named}
 
 abbrev Fails : {A : Type 0} → Result A DocFault → Type 0
 Fails (Ok x) = ⊤
@@ -74,38 +77,41 @@ bytes_checked p (Err e) sited = sited
 -- ---- a member at a place
 
 module _ (p : Place) (sited : InDocument p) where
-  member : (name : List ℕ) (d : Data) → Fails (required p name d)
+  member : (name : List ℕ) (d : Data) → Fails (required (fault.Missing p) name d)
   unfolding required
   member name d = needed (fault.Missing p) (get name d) sited
 
-  object : (d : Data) → Fails (object_at p d)
+  object : (d : Data) → Fails (object_at (fault.Kind p) d)
   unfolding object_at
   object d = next (or_fault (fault.Kind p) (as_object d)) (λ _. Ok tt) (needed (fault.Kind p) (as_object d) sited) (λ _. tt)
 
-  text : (d : Data) → Fails (text_at p d)
+  text : (d : Data) → Fails (text_at (fault.Kind p) d)
   unfolding text_at
   text d = needed (fault.Kind p) (as_str d) sited
 
   text_member : (name : List ℕ) (d : Data) → Fails (text_of p name d)
   unfolding text_of
-  text_member name d = next (required p name d) (text_at p) (member name d) text
+  text_member name d = next (required (fault.Missing p) name d) (text_at (fault.Kind p)) (member name d) text
 
-  number : (d : Data) → Fails (number_at p d)
+  number : (d : Data) → Fails (number_at (fault.Kind p) d)
   unfolding number_at
   number d = needed (fault.Kind p) (option_and_then as_u64 (as_number d)) sited
 
   number_member : (name : List ℕ) (d : Data) → Fails (number_of p name d)
   unfolding number_of
-  number_member name d = next (required p name d) (number_at p) (member name d) number
+  number_member name d = next (required (fault.Missing p) name d) (number_at (fault.Kind p)) (member name d) number
+
+  array : (d : Data) → Fails (array_at (fault.Kind p) d)
+  unfolding array_at
+  array d = next (or_fault (fault.Kind p) (as_array d)) (λ items. Ok (list_items items)) (needed (fault.Kind p) (as_array d) sited) (λ items. tt)
 
   list : (n : ℕ) (d : Data) → Fails (list_at n p d)
   unfolding list_at
-  list n d = next (or_fault (fault.Kind p) (as_array d)) (λ items. if nat_lt n (length (list_items items)) then Err (fault.TooMany p (length (list_items items))) else Ok (list_items items)) (needed (fault.Kind p) (as_array d) sited)
-      (λ items. either (nat_lt n (length (list_items items))) (Err (fault.TooMany p (length (list_items items)))) (Ok (list_items items)) sited tt)
+  list n d = next (array_at (fault.Kind p) d) _ (array d) (λ items. either (nat_lt n (length items)) (Err (fault.TooMany p (length items))) (Ok items) sited tt)
 
   list_member : (n : ℕ) (name : List ℕ) (d : Data) → Fails (list_of n p name d)
   unfolding list_of
-  list_member n name d = next (required p name d) (list_at n p) (member name d) (list n)
+  list_member n name d = next (required (fault.Missing p) name d) (list_at n p) (member name d) (list n)
 
   list_maybe : (n : ℕ) (name : List ℕ) (d : Data) → Fails (list_or_empty n p name d)
   unfolding list_or_empty
@@ -113,11 +119,11 @@ module _ (p : Place) (sited : InDocument p) where
 
   domain : (d : Data) → Fails (domain_at p d)
   unfolding domain_at
-  domain d = next (text_at p d) (λ t. no_id_fault p t (domain_fault 0 t)) (text d) (λ t. id_checked p t (domain_fault 0 t) sited)
+  domain d = next (text_at (fault.Kind p) d) (λ t. no_id_fault p t (domain_fault 0 t)) (text d) (λ t. id_checked p t (domain_fault 0 t) sited)
 
   domain_member : (name : List ℕ) (d : Data) → Fails (domain_of p name d)
   unfolding domain_of
-  domain_member name d = next (required p name d) (domain_at p) (member name d) domain
+  domain_member name d = next (required (fault.Missing p) name d) (domain_at p) (member name d) domain
 
   id_member : (own name : List ℕ) (d : Data) → Fails (id_of own p name d)
   unfolding id_of
@@ -130,11 +136,11 @@ module _ (p : Place) (sited : InDocument p) where
 
   base64 : (d : Data) → Fails (base64_at p d)
   unfolding base64_at
-  base64 d = next (text_at p d) _ (text d) (λ t. bytes_checked p _ sited)
+  base64 d = next (text_at (fault.Kind p) d) _ (text d) (λ t. bytes_checked p _ sited)
 
   base64_member : (name : List ℕ) (d : Data) → Fails (base64_of p name d)
   unfolding base64_of
-  base64_member name d = next (required p name d) (base64_at p) (member name d) base64
+  base64_member name d = next (required (fault.Missing p) name d) (base64_at p) (member name d) base64
 
   few : (n : ℕ) (bytes : List ℕ) → Fails (at_most n p bytes)
   unfolding at_most
@@ -142,7 +148,7 @@ module _ (p : Place) (sited : InDocument p) where
 
   few_text : (n : ℕ) (d : Data) → Fails (text_within n p d)
   unfolding text_within
-  few_text n d = next (text_at p d) (at_most n p) (text d) (few n)
+  few_text n d = next (text_at (fault.Kind p) d) (at_most n p) (text d) (few n)
 
   text_maybe : (n : ℕ) (name : List ℕ) (d : Data) → Fails (text_or_empty n p name d)
   unfolding text_or_empty
@@ -152,7 +158,7 @@ module _ (p : Place) (sited : InDocument p) where
 
   selector : (k : ℕ) (d : Data) → Fails (selector_of p k d)
   unfolding selector_of text_at document_place
-  selector k d = next (text_at (item_at p k) d) _ (needed (fault.Kind (item_at p k)) (as_str d) sited) (λ t. selector_checked (item_at p k) t (selector_fault t) sited)
+  selector k d = next (text_at (fault.Kind (item_at p k)) d) _ (needed (fault.Kind (item_at p k)) (as_str d) sited) (λ t. selector_checked (item_at p k) t (selector_fault t) sited)
 
   selectors : (d : Data) → Fails (selectors_of p d)
   unfolding selectors_of selector_list_of
@@ -162,11 +168,11 @@ module _ (p : Place) (sited : InDocument p) where
   federated : (ds : List Data) → Fails (federates_of p ds)
   unfolding federates_of federated_of domain_at text_at document_place
   federated ds = each (λ k before d. federated_of p k d) at_end 0 [] ds
-      (λ k before d. next (text_at (item_at p k) d) (λ t. no_id_fault (item_at p k) t (domain_fault 0 t)) (needed (fault.Kind (item_at p k)) (as_str d) sited) (λ t. id_checked (item_at p k) t (domain_fault 0 t) sited))
+      (λ k before d. next (text_at (fault.Kind (item_at p k)) d) (λ t. no_id_fault (item_at p k) t (domain_fault 0 t)) (needed (fault.Kind (item_at p k)) (as_str d) sited) (λ t. id_checked (item_at p k) t (domain_fault 0 t) sited))
 
   dns_name : (k : ℕ) (d : Data) → Fails (dns_name_of p k d)
   unfolding dns_name_of text_at document_place
-  dns_name k d = next (text_at (item_at p k) d) _ (needed (fault.Kind (item_at p k)) (as_str d) sited)
+  dns_name k d = next (text_at (fault.Kind (item_at p k)) d) _ (needed (fault.Kind (item_at p k)) (as_str d) sited)
       (λ t. either ((length t == 0) || nat_lt MAX_DNS_NAME_LEN (length t)) (Err (fault.Kind (item_at p k))) (Ok t) sited tt)
 
   dns_names : (ds : List Data) → Fails (dns_names_of p ds)
@@ -176,7 +182,7 @@ module _ (p : Place) (sited : InDocument p) where
   ttl : (d : Data) → Fails (ttl_of p d)
   unfolding ttl_of ttl_at
   ttl d = maybe (ttl_at p) DEFAULT_TTL (get (codes "ttl") d)
-      (λ v. next (number_at p v) _ (number v) (λ n. either ((n == 0) || nat_lt MAX_TTL n) (Err (fault.Kind p)) (Ok n) sited tt))
+      (λ v. next (number_at (fault.Kind p) v) _ (number v) (λ n. either ((n == 0) || nat_lt MAX_TTL n) (Err (fault.Kind p)) (Ok n) sited tt))
 
   hint : (version : ℕ) (d : Data) → Fails (hint_of version p d)
   unfolding hint_of
@@ -208,7 +214,7 @@ svid i field named fits = item_named (codes "svids") (svid_member field) i refl 
 
 bundle_name : (i : ℕ) (d : Data) → Fails (bundle_name_of i d)
 unfolding bundle_name_of bundle_member
-bundle_name i d = next (object_at (at_bundle i 0) d) _ (object (at_bundle i 0) (bundle i 0 refl) d) (λ _. domain_member (at_bundle i 1) (bundle i 1 refl) (codes "trust_domain") d)
+bundle_name i d = next (object_at (fault.Kind (at_bundle i 0)) d) _ (object (at_bundle i 0) (bundle i 0 refl) d) (λ _. domain_member (at_bundle i 1) (bundle i 1 refl) (codes "trust_domain") d)
 
 bundle_domain : (i : ℕ) (given : List ℕ → Bool) (d : Data) → Fails (bundle_domain_of i given d)
 unfolding bundle_domain_of bundle_member
@@ -239,7 +245,7 @@ extras version i d = next (federates_with_of i d) _ (next (federated_list_of i d
 
 entry_name : (i : ℕ) (given : List ℕ → Bool) (d : Data) → Fails (entry_name_of i given d)
 unfolding entry_name_of entry_member
-entry_name i given d = next (object_at (at_entry i 0) d) _ (object (at_entry i 0) (entry i 0 refl) d)
+entry_name i given d = next (object_at (fault.Kind (at_entry i 0)) d) _ (object (at_entry i 0) (entry i 0 refl) d)
     (λ _. next (name_of (at_entry i 1) (codes "id") d) _ (name_member (at_entry i 1) (entry i 1 refl) (codes "id") d)
     (λ id. either (given id) (Err (fault.Duplicate (at_entry i 1))) (Ok id) (entry i 1 refl) tt))
 
@@ -258,7 +264,7 @@ entries own version ds = next (read_entries own version ds) _ (each (λ i before
 
 svid_name : (i : ℕ) (given : List ℕ → Bool) (d : Data) → Fails (svid_name_of i given d)
 unfolding svid_name_of svid_member
-svid_name i given d = next (object_at (at_svid i 0) d) _ (object (at_svid i 0) (svid i 0 refl) d)
+svid_name i given d = next (object_at (fault.Kind (at_svid i 0)) d) _ (object (at_svid i 0) (svid i 0 refl) d)
     (λ _. next (name_of (at_svid i 1) (codes "entry") d) _ (name_member (at_svid i 1) (svid i 1 refl) (codes "entry") d)
     (λ id. either (given id) (Err (fault.Duplicate (at_svid i 1))) (Ok id) (svid i 1 refl) tt))
 
@@ -292,7 +298,7 @@ lists d = next (list_of MAX_BUNDLES (at_top 3) (codes "bundles") d) _ (list_memb
 
 members : (own : Option (List ℕ)) (d : Data) → Fails (top_of own d)
 unfolding top_of document_member
-members own d = next (object_at (at_top 0) d) _ (object (at_top 0) (top 0 refl) d)
+members own d = next (object_at (fault.Kind (at_top 0)) d) _ (object (at_top 0) (top 0 refl) d)
     (λ _. next (version_of d) _ (version d)
     (λ v. next (own_domain_of own d) _ (own_domain own d)
     (λ o. next (lists_of d) _ (lists d) (λ l. tt))))

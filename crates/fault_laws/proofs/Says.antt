@@ -17,9 +17,9 @@ use Rattle.wl_config.specs.declared.fault.ConfigFault.TheVariants as config
 use Rattle.wl_replay.specs.declared.fault.ScriptFault.{ScriptFault}
 use Rattle.wl_replay.specs.declared.fault.ScriptFault.TheVariants as script
 use Rattle.wl_replay.specs.Faults.{fault_numbers, id_numbers}
-use Rattle.wl_agent.specs.Lines as agent
-use Rattle.wl_agent.specs.ServeEnds.{config_line, config_numbers}
-use Rattle.wl_agent.specs.Sentences.{document_says, config_says, script_says, name_in_document, name_in_config, item, id_item, id_says}
+use Rattle.fault_laws.specs.Lines as written
+use Rattle.fault_laws.specs.Lines.{config_line, config_numbers}
+use Rattle.fault_laws.specs.Sentences.{document_says, config_says, script_says, name_in_document, name_in_config, item, id_item, id_says}
 
 -- ---- the sentence of a fault's numbers
 
@@ -72,8 +72,8 @@ config_sentence_is (config.Duplicate p) = refl
 config_sentence_is (config.TooLong n) = refl
 config_sentence_is config.Memory = refl
 
-script_sentence_is : (e : ScriptFault) → sentence (codes "script") (agent.script_numbers e) ≡ Some (script_says e)
-unfolding sentence script_sentence script_alone script_line agent.script_numbers
+script_sentence_is : (e : ScriptFault) → sentence (codes "script") (written.script_numbers e) ≡ Some (script_says e)
+unfolding sentence script_sentence script_alone script_line written.script_numbers
 script_sentence_is (script.Line n) = refl
 script_sentence_is (script.Kind n) = refl
 script_sentence_is (script.Conn n) = refl
@@ -86,14 +86,14 @@ script_sentence_is script.Memory = refl
 read_so : (subject numbers said : List ℕ) → explained_text (lines.fault_line subject numbers ++ 10 ∷ []) ≡ or_line (lines.fault_line subject numbers) (sentence subject numbers) ++ 10 ∷ [] → sentence subject numbers ≡ Some said → explained_text (lines.fault_line subject numbers ++ 10 ∷ []) ≡ said ++ 10 ∷ []
 read_so subject numbers said read is = read ∙ ap (λ o. or_line (lines.fault_line subject numbers) o ++ 10 ∷ []) is
 
-pub document_said : (e : DocFault) → AreBounded (fault_numbers e) → explained_text (agent.fault_line e) ≡ document_says e ++ 10 ∷ []
-unfolding agent.fault_line
+pub document_said : (e : DocFault) → AreBounded (fault_numbers e) → explained_text (written.fault_line e) ≡ document_says e ++ 10 ∷ []
+unfolding written.fault_line
 document_said e fit = read_so (codes "document") (fault_numbers e) (document_says e) (text_read (codes "document") (fault_numbers e) (refl, (refl, (refl, (refl, (refl, (refl, (refl, (refl, tt)))))))) (refl, (refl, (refl, (refl, (refl, (refl, (refl, (refl, tt)))))))) fit) (document_sentence_is e)
 
 pub config_said : (e : ConfigFault) → AreBounded (config_numbers e) → explained_text (config_line e) ≡ config_says e ++ 10 ∷ []
 unfolding config_line
 config_said e fit = read_so (codes "config") (config_numbers e) (config_says e) (text_read (codes "config") (config_numbers e) (refl, (refl, (refl, (refl, (refl, (refl, tt)))))) (refl, (refl, (refl, (refl, (refl, (refl, tt)))))) fit) (config_sentence_is e)
 
-pub script_said : (e : ScriptFault) → AreBounded (agent.script_numbers e) → explained_text (agent.script_line e) ≡ script_says e ++ 10 ∷ []
-unfolding agent.script_line
-script_said e fit = read_so (codes "script") (agent.script_numbers e) (script_says e) (text_read (codes "script") (agent.script_numbers e) (refl, (refl, (refl, (refl, (refl, (refl, tt)))))) (refl, (refl, (refl, (refl, (refl, (refl, tt)))))) fit) (script_sentence_is e)
+pub script_said : (e : ScriptFault) → AreBounded (written.script_numbers e) → explained_text (written.script_line e) ≡ script_says e ++ 10 ∷ []
+unfolding written.script_line
+script_said e fit = read_so (codes "script") (written.script_numbers e) (script_says e) (text_read (codes "script") (written.script_numbers e) (refl, (refl, (refl, (refl, (refl, (refl, tt)))))) (refl, (refl, (refl, (refl, (refl, (refl, tt)))))) fit) (script_sentence_is e)

@@ -9,9 +9,8 @@ ghost use Rattle.wl_config.specs.declared.fault.ConfigFault.{ConfigFault};
 ghost use Rattle.wl_config.specs.Configs.{configuration_of};
 ghost use Rattle.wl_replay.specs.declared.fault.ScriptFault.{ScriptFault};
 ghost use Rattle.wl_replay.specs.Faults.{fault_numbers};
-ghost use Rattle.wl_agent.specs.Lines.{fault_line, script_line, script_numbers};
-ghost use Rattle.wl_agent.specs.ServeEnds.{config_line, config_numbers};
-ghost use Rattle.wl_agent.specs.Sentences.{document_says, config_says, script_says, IsNamed};
+ghost use Rattle.fault_laws.specs.Lines.{fault_line, config_line, script_line, config_numbers, script_numbers};
+ghost use Rattle.fault_laws.specs.Sentences.{document_says, config_says, script_says, IsNamed};
 
 /// The line of each fault is explained by the sentence of that very fault. Its numbers are below 2^64, as those of any value
 /// of its type.

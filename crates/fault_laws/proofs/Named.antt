@@ -8,7 +8,7 @@ use Rattle.std.proofs.lemmas.Fmt.{decimal_by_steps}
 use Rattle.fault_lines.specs.Names.{item_name}
 use Rattle.fault_lines.specs.Sentences.{told_at}
 use Rattle.wl_document.specs.declared.fault.Place.{Place}
-use Rattle.wl_agent.specs.Sentences.{IsNamed, item, later_item, id_item}
+use Rattle.fault_laws.specs.Sentences.{IsNamed, item, later_item, id_item}
 
 pub joined : (a b : List ℕ) → IsNamed a → IsNamed b → IsNamed (a ++ b)
 joined a b first second = list_all-append (λ b. not (b == 63)) a b ∙ ap₂ (λ x y. x && y) first second

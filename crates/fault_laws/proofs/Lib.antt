@@ -1,0 +1,5 @@
+mod Says
+mod Named
+mod NamedFaults
+mod NamedDocuments
+mod NamedConfigs
