@@ -42,11 +42,15 @@ health_flags = record {
 }
 
 health_watch_flags : HasAskingFlags (sub health_watch).rules
-health_watch_flags = watch_flags
+health_watch_flags = record {
+  long = λ name. no_flag _ (record { flag = refl; asks = λ again rows. tt }) _;
+  short = λ x. no_flag _ (record { flag = refl; asks = λ again rows. tt }) _;
+  trails = λ i. one_trails _ refl (eqb 1 i);
+}
 
-takes_watch : (ops : List Text) → Takes (sub watch) (Finds (codes "watch")) ops (one_of ops)
+takes_watch : (ops : List Text) → Takes (sub watch) (Finds (codes "watch")) ops (at_most_one_of ops)
 unfolding walk_fault walked defaults_fault
-takes_watch [] = tt
+takes_watch [] = (refl, refl)
 takes_watch (a ∷ []) = (refl, refl)
 takes_watch (a ∷ b ∷ ops) = tt
 
@@ -132,8 +136,8 @@ takes_fetch (a ∷ ops) = go (nat_le (suc (length ops)) 65) refl
 pub reads_fetch : (ws : List Text) → AllTexts ws → Reads (sub fetch) (Finds (codes "fetch")) ws (option_and_then some_of (operands ws))
 reads_fetch = reads (sub fetch) (Finds (codes "fetch")) some_of fetch_flags takes_fetch
 
-pub reads_watch : (ws : List Text) → AllTexts ws → Reads (sub watch) (Finds (codes "watch")) ws (option_and_then one_of (operands ws))
-reads_watch = reads (sub watch) (Finds (codes "watch")) one_of watch_flags takes_watch
+pub reads_watch : (ws : List Text) → AllTexts ws → Reads (sub watch) (Finds (codes "watch")) ws (option_and_then at_most_one_of (operands ws))
+reads_watch = reads (sub watch) (Finds (codes "watch")) at_most_one_of watch_flags takes_watch
 
 pub reads_health : (ws : List Text) → AllTexts ws → Reads (sub health) (Finds (codes "health")) ws (option_and_then at_most_one_of (operands ws))
 reads_health = reads (sub health) (Finds (codes "health")) at_most_one_of health_flags takes_health

@@ -166,7 +166,7 @@ module _ (w : Text) (ws : List Text) (u : IsUtf8 w) (us : AllTexts ws) where
 
   by_name : (f a h v : Bool) → bytes_eq w (codes "fetch") ≡ f → bytes_eq w (codes "watch") ≡ a → bytes_eq w (codes "health") ≡ h → bytes_eq w (codes "health-watch") ≡ v → Wanted w ws
   by_name true a h v ef ea eh ev = at_name (codes "fetch") ef (parses_at (codes "fetch") (sub fetch) leads_fetch ws (option_and_then some_of (operands ws)) (reads_fetch ws us))
-  by_name false true h v ef ea eh ev = at_name (codes "watch") ea (parses_at (codes "watch") (sub watch) leads_watch ws (option_and_then one_of (operands ws)) (reads_watch ws us))
+  by_name false true h v ef ea eh ev = at_name (codes "watch") ea (parses_at (codes "watch") (sub watch) leads_watch ws (option_and_then at_most_one_of (operands ws)) (reads_watch ws us))
   by_name false false true v ef ea eh ev = at_name (codes "health") eh (parses_at (codes "health") (sub health) leads_health ws (option_and_then at_most_one_of (operands ws)) (reads_health ws us))
   by_name false false false true ef ea eh ev = at_name (codes "health-watch") ev (parses_at (codes "health-watch") (sub health_watch) leads_health_watch ws (option_and_then one_of (operands ws)) (reads_health_watch ws us))
   by_name false false false false ef ea eh ev =

@@ -14,6 +14,10 @@ what = record (operand (codes "WHAT")) { range = Some (record { start_inclusive 
 abbrev pub service_rule : Rule
 service_rule = new_rule (codes "SERVICE")
 
+-- how many messages, or no end
+abbrev pub count_rule : Rule
+count_rule = new_rule (codes "COUNT")
+
 abbrev pub leaf : Text → List Rule → Shape
 leaf name rules = record (new_shape name) { rules = rules }
 
@@ -21,7 +25,7 @@ abbrev pub fetch : Shape
 fetch = leaf (codes "fetch") (what ∷ [])
 
 abbrev pub watch : Shape
-watch = leaf (codes "watch") (operand (codes "COUNT") ∷ [])
+watch = leaf (codes "watch") (count_rule ∷ [])
 
 abbrev pub health : Shape
 health = leaf (codes "health") (service_rule ∷ [])

@@ -21,7 +21,7 @@ at_most_one_of (a ∷ b ∷ ops) = None
 abbrev pub fitting : List ℕ → List (List ℕ) → Option (List (List ℕ))
 fitting name ops =
     if bytes_eq name (codes "fetch") then some_of ops
-    else (if bytes_eq name (codes "watch") then one_of ops
+    else (if bytes_eq name (codes "watch") then at_most_one_of ops
     else (if bytes_eq name (codes "health") then at_most_one_of ops
     else (if bytes_eq name (codes "health-watch") then one_of ops
     else None)))

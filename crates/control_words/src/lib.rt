@@ -10,7 +10,7 @@ ghost use Rattle.clap.specs.Words.{app_of, found_of, kind_of, rows_of, rule_of, 
 ghost use Rattle.clap.specs.Simple.{shape_of};
 ghost use Rattle.clap.specs.declared.builder.command.Command.TheViews.{out-Command};
 ghost use Rattle.clap.specs.declared.error.ErrorKind.TheVariants.{OutOfMemory};
-ghost use Rattle.control_words.specs.Commands.{operand, what, service_rule, bare, wlctl, fetch, watch, health, health_watch};
+ghost use Rattle.control_words.specs.Commands.{operand, what, count_rule, service_rule, bare, wlctl, fetch, watch, health, health_watch};
 ghost use Rattle.control_words.specs.Found.{operands_in};
 ghost use Rattle.control_words.specs.Asked.{asked};
 ghost use Rattle.control_words.specs.Requests.{request_of};
@@ -40,7 +40,12 @@ fn what<'a>(alloc: Global) -> Arg<'a>
     ensures rule { rule_of result ≡ what }
     ensures local { result.global ≡ false }
 {
-    operand(alloc, "WHAT", "x509, bundles, or jwt and 1 to 64 audiences").num_args(1..=65)
+    operand(
+        alloc,
+        "WHAT",
+        "x509, bundles, jwt-bundles, or jwt and 1 to 64 audiences; --pem or --json; x509 --write FOLDER",
+    )
+    .num_args(1..=65)
 }
 
 /// `fetch WHAT..`.
@@ -53,15 +58,22 @@ fn fetch_command<'a>(alloc: Global) -> Result<Command<'a>, AllocError>
         .arg(what(alloc))
 }
 
-/// `watch COUNT`.
+/// How many messages are watched for.
+fn count<'a>(alloc: Global) -> Arg<'a>
+    ensures rule { rule_of result ≡ count_rule }
+    ensures local { result.global ≡ false }
+{
+    Arg::new(alloc, "COUNT").help("how many messages, 1 to 1000; without it they don't end")
+}
+
+/// `watch`, `watch COUNT`.
 fn watch_command<'a>(alloc: Global) -> Result<Command<'a>, AllocError>
     ensures shape { IfOk result (λ c. shape_of c ≡ watch) }
     ensures local { IfOk result (λ c. (out-Command c).has_globals ≡ false) }
 {
-    let count = operand(alloc, "COUNT", "how many messages, 1 to 1000");
     Command::new(alloc, "watch")
         .about("Writes the X.509 SVIDs of so many messages, as they come")
-        .arg(count)
+        .arg(count(alloc))
 }
 
 /// The service whose state is asked for.
@@ -129,7 +141,7 @@ fn operands<'a>(
         return texts(alloc, found, "WHAT");
     }
     if name == "watch" {
-        return Ok(vec![in alloc; text(found, "COUNT")]?);
+        return texts(alloc, found, "COUNT");
     }
     if name == "health" {
         return texts(alloc, found, "SERVICE");

@@ -6,13 +6,13 @@ use Rattle.std.proofs.Common.{arith, refl, sym, ◌∙◌, ap, inl, inr}
 use Rattle.clap_words.specs.Operands.{operands}
 use Rattle.control_words.specs.Requests as words
 use Rattle.wl_control.specs.declared.request.Request.{Request}
-use Rattle.wl_control.specs.declared.request.Request.TheVariants.{FetchJwt, Watch, HealthWatch}
+use Rattle.wl_control.specs.declared.request.Request.TheVariants.{FetchJwt, HealthWatch}
 use Rattle.wl_control.specs.declared.request.TokenForm.TheVariants as token
 use Rattle.wl_control.specs.declared.request.Format.{Format}
 use Rattle.clap.specs.declared.error.Error.{Error}
 use Rattle.wl_control.specs.declared.words.NoRequest.{NoRequest}
 use Rattle.wl_control.specs.declared.words.NoRequest.TheVariants.{Memory, Unfit}
-use Rattle.wl_control.specs.Words.{is_audience, jwt_of, x509_of, bundles_of, jwt_bundles_of, fetch_of, count_of, health_of, request_by, command_of, in_formats, request_of}
+use Rattle.wl_control.specs.Words.{is_audience, jwt_of, x509_of, bundles_of, jwt_bundles_of, fetch_of, count_of, watch_of, health_of, request_by, command_of, in_formats, request_of}
 use Rattle.wl_control.specs.Formats.{formats_from, others_from}
 
 abbrev pub Texts : Type 0
@@ -44,7 +44,7 @@ at_most_one_is (a ∷ b ∷ xs) = tt
 fitting_are : (w : List ℕ) (xs : Texts) → AreThese xs (words.fitting w xs)
 fitting_are w xs =
     either (bytes_eq w (codes "fetch")) xs _ _ (some_are (nat_le 1 (length xs) && nat_le (length xs) 65) xs)
-    (either (bytes_eq w (codes "watch")) xs _ _ (one_is xs)
+    (either (bytes_eq w (codes "watch")) xs _ _ (at_most_one_is xs)
     (either (bytes_eq w (codes "health")) xs _ _ (at_most_one_is xs)
     (either (bytes_eq w (codes "health-watch")) xs _ _ (one_is xs) tt)))
 
@@ -101,16 +101,21 @@ count_none q [] is = refl
 count_none q (a ∷ []) is = absurd (grind (arith, is))
 count_none q (a ∷ b ∷ xs) is = refl
 
+watch_none : (xs : Texts) → words.at_most_one_of xs ≡ None → watch_of xs ≡ None
+watch_none [] is = absurd (grind (arith, is))
+watch_none (a ∷ []) is = absurd (grind (arith, is))
+watch_none (a ∷ b ∷ xs) is = refl
+
 health_none : (xs : Texts) → words.at_most_one_of xs ≡ None → health_of xs ≡ None
 health_none [] is = absurd (grind (arith, is))
 health_none (a ∷ []) is = absurd (grind (arith, is))
 health_none (a ∷ b ∷ xs) is = refl
 
 none_by : (f a h v : Bool) (xs : Texts)
-    → (if f then words.some_of xs else (if a then words.one_of xs else (if h then words.at_most_one_of xs else (if v then words.one_of xs else None)))) ≡ None
-    → (if f then fetch_of xs else (if a then count_of Watch xs else (if h then health_of xs else (if v then count_of HealthWatch xs else None)))) ≡ None
+    → (if f then words.some_of xs else (if a then words.at_most_one_of xs else (if h then words.at_most_one_of xs else (if v then words.one_of xs else None)))) ≡ None
+    → (if f then fetch_of xs else (if a then watch_of xs else (if h then health_of xs else (if v then count_of HealthWatch xs else None)))) ≡ None
 none_by true a h v xs is = fetch_none xs is
-none_by false true h v xs is = count_none Watch xs is
+none_by false true h v xs is = watch_none xs is
 none_by false false true v xs is = health_none xs is
 none_by false false false true xs is = count_none HealthWatch xs is
 none_by false false false false xs is = refl

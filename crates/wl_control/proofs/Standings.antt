@@ -25,11 +25,10 @@ use Rattle.wl_control.specs.declared.asked.Verdict.{Verdict}
 use Rattle.wl_control.specs.declared.asked.Verdict.TheVariants.{Faulted}
 use Rattle.wl_control.specs.declared.request.Request.{Request}
 use Rattle.wl_control.specs.declared.program.Call.{Call}
-use Rattle.wl_control.specs.declared.limits.TheConstants.{READ_LIMIT, MAX_IDLES}
 use Rattle.wl_control.specs.declared.status.TheConstants.{READ_FAILED, WRITE_FAILED}
 use Rattle.wl_control.specs.Courses.{Course, course}
 use Rattle.wl_control.specs.Calls.{method_of, message_of, asked_of}
-use Rattle.wl_control.specs.Runs.{bytes_of, bytes_in, is_end, idles_with, idles_after, idles_in, limit_fault, link_fault, bytes_verdict, or_fault, course_by, verdict_of, line_of, verdict_line, text_of, sent_of, AreAwaited}
+use Rattle.wl_control.specs.Runs.{bytes_of, bytes_in, is_end, idles_with, idles_after, idles_in, read_limit, patience_of, limit_fault, link_fault, bytes_verdict, or_fault, course_by, verdict_of, line_of, verdict_line, text_of, sent_of, AreAwaited}
 use Rattle.wl_control.specs.Ends.{Moment, LinkGains, Passes, BreaksOff, BreaksSending, IsDecided, Ends, decided, fails_read, fails_send, fails_write, Breaks, SendsPart, Delivered, delivered, not_written, not_sent, Delivers, SendsAll}
 use Rattle.wl_control.specs.Standings.{reply_to, run_on, verdict_on, GoesOn, Starts, Standing, StepEnds}
 use Rattle.wl_control.proofs.Courses.{course_on}
@@ -70,17 +69,17 @@ listening_none : (a : Asked) (s : ClientState) → IsListening s → bytes_verdi
 listening_none a (Listening ending l) is = refl
 listening_none a (Failed fault) is = absurd is
 
-open_fault : (s : ClientState) (answers : List Answer) (left idles : ℕ) → list_any is_end answers ≡ false → length (bytes_in answers) + left ≡ READ_LIMIT → idles_in answers ≡ idles
-    → link_fault s answers ≡ limit_fault left idles
+open_fault : (q : Request) (s : ClientState) (answers : List Answer) (patience left idles : ℕ) → list_any is_end answers ≡ false → length (bytes_in answers) + left ≡ read_limit q → patience ≡ patience_of q → idles_in answers ≡ idles
+    → link_fault q s answers ≡ limit_fault patience left idles
 unfolding link_fault
-open_fault s answers left idles is_open read idle =
-    let remain : READ_LIMIT - length (bytes_in answers) ≡ left = omega arith in
-    rw (is_open, remain, idle) refl
+open_fault q s answers patience left idles is_open read waits idle =
+    let remain : read_limit q - length (bytes_in answers) ≡ left = omega (arith, read) in
+    rw (is_open, remain, idle, waits) refl
 
-pub verdict_here : (q : Request) (start now : Moment) (call : Call) (answers : List Answer) → Standing q start now call answers → verdict_of q answers ≡ option_map Faulted (limit_fault call.left call.idles)
+pub verdict_here : (q : Request) (start now : Moment) (call : Call) (answers : List Answer) → Standing q start now call answers → verdict_of q answers ≡ option_map Faulted (limit_fault call.patience call.left call.idles)
 unfolding verdict_of
 verdict_here q start now call answers st =
-    rw (st.asks, st.here, listening_none call.asked call.client.state st.listening, open_fault call.client.state answers call.left call.idles st.is_open st.read st.idle) refl
+    rw (st.asks, st.here, listening_none call.asked call.client.state st.listening, open_fault q call.client.state answers call.patience call.left call.idles st.is_open st.read st.patience st.idle) refl
 
 -- ---- a piece
 
@@ -114,12 +113,12 @@ sent_piece q call answers p here =
     ∙ sym (append_assoc first (heard b).bytes (reply_to call p).bytes))
 
 verdict_piece : (q : Request) (call : Call) (answers : List Answer) (p : List ℕ) → (heard (bytes_in answers)).after ≡ call.client.state → (course_by q answers).after ≡ Ok call.asked
-    → verdict_of q (answers ++ answer.Piece p ∷ []) ≡ or_fault (verdict_on call p) (link_fault (reply_to call p).after (answers ++ answer.Piece p ∷ []))
+    → verdict_of q (answers ++ answer.Piece p ∷ []) ≡ or_fault (verdict_on call p) (link_fault q (reply_to call p).after (answers ++ answer.Piece p ∷ []))
 unfolding verdict_of
 verdict_piece q call answers p here asks =
     let more = answers ++ answer.Piece p ∷ [] in
-    ap (λ (c : Course). or_fault (bytes_verdict c.after (heard (bytes_in more)).after) (link_fault (heard (bytes_in more)).after more)) (course_piece q call answers p here asks)
-    ∙ ap (λ (s : ClientState). or_fault (bytes_verdict (run_on call p).after s) (link_fault s more)) (after_piece call answers p here)
+    ap (λ (c : Course). or_fault (bytes_verdict c.after (heard (bytes_in more)).after) (link_fault q (heard (bytes_in more)).after more)) (course_piece q call answers p here asks)
+    ∙ ap (λ (s : ClientState). or_fault (bytes_verdict (run_on call p).after s) (link_fault q s more)) (after_piece call answers p here)
 
 -- ---- an answer without bytes
 
@@ -234,12 +233,12 @@ passes_next start old mid answers a s t p r =
     subst (λ xs. Passes start mid (answers ++ a ∷ []) xs t) (append-nil s)
     (subst (λ xs. Passes start mid (answers ++ a ∷ []) (s ++ []) xs) (append-nil t) (passes_more start old mid answers (a ∷ []) s [] t [] p r))
 
-below_limits : (left idles : ℕ) → 0 < left → idles < MAX_IDLES → limit_fault left idles ≡ None
-below_limits left idles some few = grind (arith, common_steps)
+below_limits : (patience left idles : ℕ) → 0 < left → idles < patience → limit_fault patience left idles ≡ None
+below_limits patience left idles some few = grind (arith, common_steps)
 
-undecided : (q : Request) (start now : Moment) (call : Call) (answers : List Answer) → Standing q start now call answers → 0 < call.left → call.idles < MAX_IDLES → verdict_of q answers ≡ None
+undecided : (q : Request) (start now : Moment) (call : Call) (answers : List Answer) → Standing q start now call answers → 0 < call.left → call.idles < call.patience → verdict_of q answers ≡ None
 undecided q start now call answers st some few =
-    verdict_here q start now call answers st ∙ ap (λ (f : Option ClientFault). option_map Faulted f) (below_limits call.left call.idles some few)
+    verdict_here q start now call answers st ∙ ap (λ (f : Option ClientFault). option_map Faulted f) (below_limits call.patience call.left call.idles some few)
 
 standing_piece : (q : Request) (start old new : Moment) (call after : Call) (answers : List Answer) (p : List ℕ) → Standing q start old call answers → verdict_of q answers ≡ None → GoesOn call p after
     → after.left + length p ≡ call.left → after.idles ≡ 0 → Passes start new (answers ++ answer.Piece p ∷ []) (sent_of q (answers ++ answer.Piece p ∷ [])) (course_by q (answers ++ answer.Piece p ∷ [])).lines
@@ -255,10 +254,11 @@ standing_piece q start old new call after answers p st none goes left idles out 
       let longer : length (bytes_in (answers ++ answer.Piece p ∷ [])) ≡ length (bytes_in answers) + length p = ap length (bytes_more answers (answer.Piece p)) ∙ length-append (bytes_in answers) p in
       let had = st.read in
       omega arith;
+  patience = goes.patience ∙ st.patience;
   idle = idles_more answers (answer.Piece p) ∙ sym idles;
 }
 
-pub step_got : (q : Request) (start old mid new : Moment) (call after : Call) (answers : List Answer) (p : List ℕ) (result : Result (Option ℕ) Memory) → Standing q start old call answers → 0 < call.left → call.idles < MAX_IDLES
+pub step_got : (q : Request) (start old mid new : Moment) (call after : Call) (answers : List Answer) (p : List ℕ) (result : Result (Option ℕ) Memory) → Standing q start old call answers → 0 < call.left → call.idles < call.patience
     → Passes old mid (answer.Piece p ∷ []) [] [] → after.left + length p ≡ call.left → after.idles ≡ 0
     → Delivers (reply_to call p).bytes (run_on call p).lines (verdict_on call p) mid new result → IfOk result (λ status. status ≡ None → GoesOn call p after) → StepEnds q start new after result
 step_got q start old mid new call after answers p result st some few came left idles given goes =
@@ -271,15 +271,15 @@ step_got q start old mid new call after answers p result st some few came left i
       passes = passes_next start old mid answers (answer.Piece p) (sent_of q answers) (course_by q answers).lines st.passes came;
       sends = sent_piece q call answers p st.here;
       lines = ap (λ (c : Course). c.lines) (course_piece q call answers p st.here st.asks);
-      decides = λ v is. verdict_piece q call answers p st.here st.asks ∙ ap (λ (o : Option Verdict). or_fault o (link_fault (reply_to call p).after more)) is;
+      decides = λ v is. verdict_piece q call answers p st.here st.asks ∙ ap (λ (o : Option Verdict). or_fault o (link_fault q (reply_to call p).after more)) is;
     } in
     step_delivers q start mid new after more (reply_to call p).bytes (run_on call p).lines (verdict_on call p) result due
     (λ open_end no_verdict out. (more, standing_piece q start old new call after answers p st none (IfOk-at_ok (λ (status : Option ℕ). status ≡ None → GoesOn call p after) open_end goes refl) left idles out))
     given
 
-pub step_idle : (q : Request) (start old new : Moment) (call after : Call) (answers : List Answer) → Standing q start old call answers → 0 < call.left → call.idles < MAX_IDLES
-    → Passes old new (answer.Idle ∷ []) [] [] → after.client ≡ call.client → after.asked ≡ call.asked → after.left ≡ call.left → after.idles ≡ call.idles + 1 → StepEnds q start new after (Ok None)
-step_idle q start old new call after answers st some few came client asked left idles =
+pub step_idle : (q : Request) (start old new : Moment) (call after : Call) (answers : List Answer) → Standing q start old call answers → 0 < call.left → call.idles < call.patience
+    → Passes old new (answer.Idle ∷ []) [] [] → after.client ≡ call.client → after.asked ≡ call.asked → after.left ≡ call.left → after.patience ≡ call.patience → after.idles ≡ call.idles + 1 → StepEnds q start new after (Ok None)
+step_idle q start old new call after answers st some few came client asked left patience idles =
     let none = undecided q start old call answers st some few in
     let more = answers ++ answer.Idle ∷ [] in (
       more,
@@ -295,20 +295,21 @@ step_idle q start old new call after answers st some few came client asked left 
             let same : length (bytes_in more) ≡ length (bytes_in answers) = ap length (bytes_same answers answer.Idle refl) in
             let had = st.read in
             omega arith;
+        patience = patience ∙ st.patience;
         idle = idles_more answers answer.Idle ∙ (ap (λ n. n + 1) st.idle ∙ sym idles);
       },
     )
 
-end_fault : (s : ClientState) (answers : List Answer) → list_any is_end answers ≡ false → link_fault s (answers ++ answer.End ∷ []) ≡ Some (faults.Cut (length (rest_in s)))
+end_fault : (q : Request) (s : ClientState) (answers : List Answer) → list_any is_end answers ≡ false → link_fault q s (answers ++ answer.End ∷ []) ≡ Some (faults.Cut (length (rest_in s)))
 unfolding link_fault
-end_fault s answers is_open = rw (end_more answers answer.End is_open) refl
+end_fault q s answers is_open = rw (end_more answers answer.End is_open) refl
 
 verdict_end : (q : Request) (start old : Moment) (call : Call) (answers : List Answer) → Standing q start old call answers → verdict_of q (answers ++ answer.End ∷ []) ≡ Some (Faulted (faults.Cut (length (rest_in call.client.state))))
 unfolding verdict_of
 verdict_end q start old call answers st =
-    rw (course_silent q answers answer.End refl, after_silent answers answer.End refl, st.asks, st.here, listening_none call.asked call.client.state st.listening, end_fault call.client.state answers st.is_open) refl
+    rw (course_silent q answers answer.End refl, after_silent answers answer.End refl, st.asks, st.here, listening_none call.asked call.client.state st.listening, end_fault q call.client.state answers st.is_open) refl
 
-pub step_end : (q : Request) (start old mid new : Moment) (call : Call) (answers : List Answer) (n : ℕ) (result : Result (Option ℕ) Memory) → Standing q start old call answers → 0 < call.left → call.idles < MAX_IDLES
+pub step_end : (q : Request) (start old mid new : Moment) (call : Call) (answers : List Answer) (n : ℕ) (result : Result (Option ℕ) Memory) → Standing q start old call answers → 0 < call.left → call.idles < call.patience
     → Passes old mid (answer.End ∷ []) [] [] → n ≡ length (rest_in call.client.state) → Delivers [] [] (Some (Faulted (faults.Cut n))) mid new result → StepEnds q start new call result
 step_end q start old mid new call answers n result st some few came rest given =
     let none = undecided q start old call answers st some few in
@@ -325,7 +326,7 @@ step_end q start old mid new call answers n result st some few came rest given =
     step_delivers q start mid new call more [] [] (Some (Faulted (faults.Cut n))) result due (λ open_end no_verdict out. absurd (cc no_verdict)) given
 
 pub step_limit : (q : Request) (start old new : Moment) (call : Call) (answers : List Answer) (fault : ClientFault) (result : Result (Option ℕ) Memory) → Standing q start old call answers
-    → limit_fault call.left call.idles ≡ Some fault → Delivers [] [] (Some (Faulted fault)) old new result → StepEnds q start new call result
+    → limit_fault call.patience call.left call.idles ≡ Some fault → Delivers [] [] (Some (Faulted fault)) old new result → StepEnds q start new call result
 step_limit q start old new call answers fault result st reached given =
     let due : Due q start old answers [] [] (Some (Faulted fault)) = record {
       sent_first = sent_of q answers;
@@ -352,7 +353,7 @@ breaks_here q start new answers awaited p = record {
   due_text = (verdict_line (verdict_of q answers), refl);
 }
 
-pub failed_told : (q : Request) (start old new : Moment) (call : Call) (answers : List Answer) → Standing q start old call answers → 0 < call.left → call.idles < MAX_IDLES
+pub failed_told : (q : Request) (start old new : Moment) (call : Call) (answers : List Answer) → Standing q start old call answers → 0 < call.left → call.idles < call.patience
     → Passes old new (answer.Failed ∷ []) [] [] → BreaksOff q start new
 failed_told q start old new call answers st some few came =
     breaks_here q start new (answers ++ answer.Failed ∷ []) (awaited_more q answers answer.Failed st.awaited (undecided q start old call answers st some few))
@@ -368,7 +369,7 @@ failed_untold q start old new call answers st same =
     (passes_more start old new answers [] (sent_of q answers) [] (course_by q answers).lines [] st.passes same))))
 
 pub step_failed : (q : Request) (start : Moment) (l m : Option LinkLog) (k : Option (List ℕ)) (r s w t u : ℕ) (call : Call) (answers : List Answer)
-    → Standing q start (record { link = l; sink = k; failed_receives = r; failed_sends = s; failed_writes = w }) call answers → 0 < call.left → call.idles < MAX_IDLES
+    → Standing q start (record { link = l; sink = k; failed_receives = r; failed_sends = s; failed_writes = w }) call answers → 0 < call.left → call.idles < call.patience
     → IfSome l (λ log. (m ≡ Some (with_heard log answer.Failed)) ⊎ ((2 ^ 64 ≤ r + 1) × (m ≡ Some log))) → Rose r t → r ≤ t → u ≡ s
     → Ends q start (record { link = m; sink = k; failed_receives = t; failed_sends = u; failed_writes = w }) READ_FAILED
 step_failed q start None m k r s w t u call answers st some few told rose later same =
@@ -404,6 +405,7 @@ stands_first q old new call begun p = record {
   awaited = λ n below. absurd (omega arith);
   is_open = refl;
   read = let none : length (bytes_in []) ≡ 0 = refl in omega (arith, begun.left);
+  patience = begun.patience;
   idle = sym begun.idles;
 }
 

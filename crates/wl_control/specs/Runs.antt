@@ -1,5 +1,5 @@
 -- What a run of the client program is due to send and to write, by the answers that its link gave (own rules).
-use Rattle.std.specs.Prelude.{◌≡◌, ℕ, ◌+◌, ◌-◌, ◌<◌, ◌==◌, nat_le, Bool, true, false, if◌then◌else◌, List, [], ◌∷◌, ◌++◌, length, take, Result, Ok, Err, Option, Some, None, option_map}
+use Rattle.std.specs.Prelude.{◌≡◌, ℕ, ◌+◌, ◌-◌, ◌<◌, ◌==◌, nat_le, nat_lt, Bool, true, false, if◌then◌else◌, List, [], ◌∷◌, ◌++◌, length, take, Result, Ok, Err, Option, Some, None, option_map}
 use Rattle.std.specs.List.{flat_map, list_any}
 use Rattle.wl_edge.specs.declared.link.Heard.{Heard as Answer}
 use Rattle.wl_edge.specs.declared.link.Heard.TheVariants as answer
@@ -11,7 +11,8 @@ use Rattle.wl_control.specs.declared.asked.Asked.{Asked}
 use Rattle.wl_control.specs.declared.asked.Verdict.{Verdict}
 use Rattle.wl_control.specs.declared.asked.Verdict.TheVariants.{Done, Denied, Faulted}
 use Rattle.wl_control.specs.declared.request.Request.{Request}
-use Rattle.wl_control.specs.declared.limits.TheConstants.{READ_LIMIT, MAX_IDLES}
+use Rattle.wl_control.specs.declared.limits.TheConstants.{READ_LIMIT, MAX_IDLES, ENDLESS_READ_LIMIT, ENDLESS_IDLES}
+use Rattle.wl_control.specs.declared.words.TheConstants.{MAX_COUNT}
 use Rattle.wl_control.specs.Lines.{status_line, fault_line}
 use Rattle.wl_control.specs.Courses.{Course, course}
 use Rattle.wl_control.specs.Calls.{method_of, message_of, asked_of}
@@ -52,15 +53,27 @@ idles_in answers = idles_after 0 answers
 
 -- ---- what is due
 
+-- a call for more messages than may be counted has no end
+abbrev pub is_endless : Request → Bool
+is_endless q = nat_lt MAX_COUNT (asked_of q).left
+
+-- how many bytes are read at most
+unfoldable pub read_limit : Request → ℕ
+read_limit q = if is_endless q then ENDLESS_READ_LIMIT else READ_LIMIT
+
+-- how often in a row nothing may come
+unfoldable pub patience_of : Request → ℕ
+patience_of q = if is_endless q then ENDLESS_IDLES else MAX_IDLES
+
 -- nothing more may be read, or nothing came for too long
-abbrev pub limit_fault : ℕ → ℕ → Option ClientFault
-limit_fault left idles = if left == 0 then Some faults.TooMuch else if nat_le MAX_IDLES idles then Some faults.Idle else None
+abbrev pub limit_fault : ℕ → ℕ → ℕ → Option ClientFault
+limit_fault patience left idles = if left == 0 then Some faults.TooMuch else if nat_le patience idles then Some faults.Idle else None
 
 -- the fault that the answers themselves have: the end, too many bytes, too long a silence
-unfoldable pub link_fault : ClientState → List Answer → Option ClientFault
-link_fault state answers =
+unfoldable pub link_fault : Request → ClientState → List Answer → Option ClientFault
+link_fault q state answers =
     if list_any is_end answers then Some (faults.Cut (length (rest_in state)))
-    else limit_fault (READ_LIMIT - length (bytes_in answers)) (idles_in answers)
+    else limit_fault (patience_of q) (read_limit q - length (bytes_in answers)) (idles_in answers)
 
 -- What the parts of the server's answer decide, or else the first fault in its bytes.
 abbrev pub bytes_verdict : Result Asked Verdict → ClientState → Option Verdict
@@ -80,7 +93,7 @@ course_by q answers = course (heard (bytes_in answers)).told (asked_of q)
 unfoldable pub verdict_of : Request → List Answer → Option Verdict
 verdict_of q answers =
     let state = (heard (bytes_in answers)).after in
-    or_fault (bytes_verdict (course_by q answers).after state) (link_fault state answers)
+    or_fault (bytes_verdict (course_by q answers).after state) (link_fault q state answers)
 
 abbrev pub line_of : Verdict → List ℕ
 line_of Done = []

@@ -8,10 +8,9 @@ use Rattle.wl_client.specs.Openings.{opening_of}
 use Rattle.wl_control.specs.declared.asked.Verdict.{Verdict}
 use Rattle.wl_control.specs.declared.request.Request.{Request}
 use Rattle.wl_control.specs.declared.program.Call.{Call}
-use Rattle.wl_control.specs.declared.limits.TheConstants.{READ_LIMIT}
 use Rattle.wl_control.specs.Courses.{Course, course}
 use Rattle.wl_control.specs.Calls.{method_of, message_of, asked_of}
-use Rattle.wl_control.specs.Runs.{bytes_in, is_end, idles_in, bytes_verdict, course_by, sent_of, AreAwaited}
+use Rattle.wl_control.specs.Runs.{read_limit, patience_of, bytes_in, is_end, idles_in, bytes_verdict, course_by, sent_of, AreAwaited}
 use Rattle.wl_control.specs.Ends.{Moment, Passes, BreaksOff, Ends}
 
 -- ---- a piece of the server's bytes
@@ -32,6 +31,7 @@ pub record GoesOn (call : Call) (piece : List ℕ) (after : Call) : Type 0 where
   pub state : after.client.state ≡ (reply_to call piece).after
   pub listening : IsListening after.client.state
   pub asks : (run_on call piece).after ≡ Ok after.asked
+  pub patience : after.patience ≡ call.patience
 
 -- ---- the answers so far
 
@@ -40,7 +40,8 @@ pub record Starts (q : Request) (call : Call) : Type 0 where
   pub opening : call.client.opening ≡ opening_of (method_of q) (message_of q)
   pub fresh : call.client.state ≡ fresh_state
   pub asks : call.asked ≡ asked_of q
-  pub left : call.left ≡ READ_LIMIT
+  pub left : call.left ≡ read_limit q
+  pub patience : call.patience ≡ patience_of q
   pub idles : call.idles ≡ 0
 
 -- A call stands behind these answers: they decide nothing, all that is due for them was sent and written, and its counts are
@@ -52,7 +53,8 @@ pub record Standing (q : Request) (start now : Moment) (call : Call) (answers : 
   pub asks : (course_by q answers).after ≡ Ok call.asked
   pub awaited : AreAwaited q answers
   pub is_open : list_any is_end answers ≡ false
-  pub read : length (bytes_in answers) + call.left ≡ READ_LIMIT
+  pub read : length (bytes_in answers) + call.left ≡ read_limit q
+  pub patience : call.patience ≡ patience_of q
   pub idle : idles_in answers ≡ call.idles
 
 -- a step goes on behind more answers, or ends the call

@@ -4,7 +4,7 @@ use Rattle.std.specs.Str.{bytes_eq}
 use Rattle.std.specs.List.{list_all}
 use Rattle.clap_words.specs.Operands.{operands}
 use Rattle.wl_control.specs.Formats.{formats_from, others_from}
-use Rattle.wl_control.specs.declared.words.TheConstants.{MAX_COUNT, MAX_AUDIENCES, MAX_WORD_LEN}
+use Rattle.wl_control.specs.declared.words.TheConstants.{MAX_COUNT, ENDLESS, MAX_AUDIENCES, MAX_WORD_LEN}
 use Rattle.wl_control.specs.declared.request.Form.TheVariants as form
 use Rattle.wl_control.specs.declared.request.TokenForm.TheVariants as token
 use Rattle.wl_control.specs.declared.request.Format.{Format}
@@ -69,6 +69,11 @@ count_of request [] = None
 count_of request (w ∷ []) = option_map request (count_in w)
 count_of request (w ∷ v ∷ ws) = None
 
+-- `watch`, which has no end, and `watch COUNT`
+abbrev pub watch_of : List (List ℕ) → Option Request
+watch_of [] = Some (Watch ENDLESS)
+watch_of (w ∷ ws) = count_of Watch (w ∷ ws)
+
 -- `health`, `health SERVICE`
 abbrev pub health_of : List (List ℕ) → Option Request
 health_of [] = Some (Health [])
@@ -78,7 +83,7 @@ health_of (w ∷ v ∷ ws) = None
 abbrev pub request_by : List ℕ → List (List ℕ) → Option Request
 request_by w ws =
     if bytes_eq w (codes "fetch") then fetch_of ws
-    else if bytes_eq w (codes "watch") then count_of Watch ws
+    else if bytes_eq w (codes "watch") then watch_of ws
     else if bytes_eq w (codes "health") then health_of ws
     else if bytes_eq w (codes "health-watch") then count_of HealthWatch ws
     else None

@@ -5,19 +5,18 @@ ghost use Rattle.wl_edge.specs.declared.link.Heard.{Heard as Answer};
 ghost use Rattle.wl_control.specs.declared.request.Request.{Request};
 ghost use Rattle.wl_control.specs.declared.request.Request.TheVariants.{Keep};
 ghost use Rattle.wl_control.specs.declared.asked.Verdict.TheVariants.{Faulted};
-ghost use Rattle.wl_control.specs.declared.limits.TheConstants.{MAX_IDLES};
 ghost use Rattle.wl_control.specs.Words.{request_of, IsFit};
 ghost use Rattle.wl_control.specs.Ends.{Moment, moment, Delivers, EndsWith, StatusExplains};
-ghost use Rattle.wl_control.specs.Runs.{or_fault, limit_fault};
+ghost use Rattle.wl_control.specs.Runs.{or_fault, is_endless, read_limit, patience_of, limit_fault};
 ghost use Rattle.wl_control.specs.Standings.{reply_to, run_on, verdict_on, GoesOn, Starts, Standing, StepEnds};
 
 use crate::asked::{Asked, Verdict};
 use crate::call::{asked_of, message_of, method_of};
-use crate::limits::{MAX_IDLES, READ_LIMIT};
+use crate::limits::{ENDLESS_IDLES, ENDLESS_READ_LIMIT, MAX_IDLES, READ_LIMIT};
 use crate::request::Request;
 use crate::sending::{Turn, deliver, send_all};
 use crate::status::{OUT_OF_MEMORY, READ_FAILED, USAGE, WRITE_FAILED};
-use crate::words::{NoRequest, read_request};
+use crate::words::{MAX_COUNT, NoRequest, read_request};
 use std::alloc::Global;
 use std::string::String;
 use wl_client::{Client, ClientFault};
@@ -27,7 +26,8 @@ use wl_octets::{Memory, Octets, Row};
 /// How many bytes one receive asks for at most.
 const PIECE_LEN: usize = 65_536;
 
-/// A call, what is asked for still, how many bytes may be read still, and how often in a row nothing came.
+/// A call, what is asked for still, how many bytes may be read still, how often in a row nothing came, and how often that
+/// may be.
 #[derive(Drop)]
 pub(crate) struct Call {
     alloc: Global,
@@ -35,6 +35,38 @@ pub(crate) struct Call {
     asked: Asked,
     left: usize,
     idles: u32,
+    patience: u32,
+}
+
+/// Whether a call has no end: it asks for more messages than may be counted.
+fn is_endless(request: &Request) -> bool
+    ensures { result ≡ is_endless request.now }
+{
+    asked_of(request).left > MAX_COUNT
+}
+
+/// How many bytes are read at most.
+#[tactic(auto, unfolding(crate::specs::Runs::read_limit))]
+fn read_limit(request: &Request) -> usize
+    ensures { result ≡ read_limit request.now }
+{
+    if is_endless(request) {
+        ENDLESS_READ_LIMIT
+    } else {
+        READ_LIMIT
+    }
+}
+
+/// How often in a row nothing may come.
+#[tactic(auto, unfolding(crate::specs::Runs::patience_of))]
+fn patience_of(request: &Request) -> u32
+    ensures { result ≡ patience_of request.now }
+{
+    if is_endless(request) {
+        ENDLESS_IDLES
+    } else {
+        MAX_IDLES
+    }
 }
 
 /// What came of a piece: how the call was decided, or the fault in the bytes, if any.
@@ -59,8 +91,9 @@ impl Call {
             alloc,
             client: Client::start(alloc, method_of(request), message.as_slice())?,
             asked: asked_of(request),
-            left: READ_LIMIT,
+            left: read_limit(request),
             idles: 0,
+            patience: patience_of(request),
         })
     }
 
@@ -72,6 +105,7 @@ impl Call {
         ensures goes_on { IfOk result (λ turn. turn.verdict ≡ None → GoesOn self.old piece.now self.new) }
         ensures left { self.new.left ≡ self.old.left }
         ensures idles { self.new.idles ≡ self.old.idles }
+        ensures patience { self.new.patience ≡ self.old.patience }
     {
         let mut sent = Octets::empty(self.alloc);
         let mut told = Row::empty(self.alloc);
@@ -103,6 +137,7 @@ impl Call {
         ensures goes_on { IfOk result (λ status. status ≡ None → GoesOn self.old piece.now self.new) }
         ensures left { self.new.left + length piece.now ≡ self.old.left }
         ensures idles { self.new.idles ≡ 0 }
+        ensures patience { self.new.patience ≡ self.old.patience }
     {
         self.left -= piece.len();
         self.idles = 0;
@@ -132,11 +167,11 @@ impl Call {
 
     /// The fault of a call that may read no more, or to which nothing came for too long.
     fn limit_fault(&self) -> Option<ClientFault>
-        ensures { result ≡ limit_fault self.now.left self.now.idles }
+        ensures { result ≡ limit_fault self.now.patience self.now.left self.now.idles }
     {
         if self.left == 0 {
             Some(ClientFault::TooMuch)
-        } else if self.idles >= MAX_IDLES {
+        } else if self.idles >= self.patience {
             Some(ClientFault::Idle)
         } else {
             None
@@ -152,12 +187,12 @@ impl Call {
     ) -> Result<Option<u8>, Memory>
         requires room { 0 < length room.old }
         requires within { length room.old ≤ self.old.left }
-        requires idles { self.old.idles < MAX_IDLES }
+        requires idles { self.old.idles < self.old.patience }
         ensures steps { (q : Request) (start : Moment) (answers : List Answer) → Standing q start
             (moment (L.told link.old) (K.taken sink.old) (L.failed_receives link.old) (L.failed_sends link.old) (K.faults sink.old)) self.old answers → StepEnds q start
             (moment (L.told link.new) (K.taken sink.new) (L.failed_receives link.new) (L.failed_sends link.new) (K.faults sink.new)) self.new result }
         ensures smaller { IfOk result (λ status. status ≡ None →
-            self.new.left * 601 + (600 - self.new.idles) < self.old.left * 601 + (600 - self.old.idles)) }
+            self.new.left * 4294967296 + (self.new.patience - self.new.idles) < self.old.left * 4294967296 + (self.old.patience - self.old.idles)) }
     {
         match link.receive(room) {
             Received::Got(count) => self.take(room.split_at(count).0, link, sink),
@@ -185,7 +220,7 @@ impl Call {
             (moment (L.told link.old) (K.taken sink.old) (L.failed_receives link.old) (L.failed_sends link.old) (K.faults sink.old)) self.old answers → StepEnds q start
             (moment (L.told link.new) (K.taken sink.new) (L.failed_receives link.new) (L.failed_sends link.new) (K.faults sink.new)) self.new result }
         ensures smaller { IfOk result (λ status. status ≡ None →
-            self.new.left * 601 + (600 - self.new.idles) < self.old.left * 601 + (600 - self.old.idles)) }
+            self.new.left * 4294967296 + (self.new.patience - self.new.idles) < self.old.left * 4294967296 + (self.old.patience - self.old.idles)) }
     {
         match self.limit_fault() {
             Some(fault) => self.fail(fault, link, sink),
@@ -240,7 +275,8 @@ fn make_call<L: Link, K: Sink>(
 
 /// Fetches so many messages of FetchX509SVID, as they come, and writes each as a frame of gRPC: a byte 0, the message's
 /// length in four bytes, and the message. One that has no files (`svid_files`) is a fault. The statuses, the lines of another
-/// status and of a fault, and the bounds are those of [`control`].
+/// status and of a fault, and the bounds are those of [`control`]: those of `watch` without a count for more than 1,000
+/// messages.
 pub fn keep<L: Link, K: Sink>(alloc: Global, count: u32, link: &mut L, sink: &mut K) -> u8
     ensures { StatusExplains (Some (Keep count))
         (moment (L.told link.old) (K.taken sink.old) (L.failed_receives link.old) (L.failed_sends link.old) (K.faults sink.old))
@@ -253,13 +289,16 @@ pub fn keep<L: Link, K: Sink>(alloc: Global, count: u32, link: &mut L, sink: &mu
 }
 
 /// Makes the call that the words ask for over the link, and writes a line for each SVID, token or state that comes:
-/// `fetch x509`, `fetch bundles`, `fetch jwt AUDIENCE..`, `watch COUNT`, `health`, `health SERVICE` and `health-watch COUNT`. The status
-/// is one of [`crate::status`]: `DONE` where all that was asked for was had and written; `USAGE` where the words fit
-/// nothing, and then nothing is sent or written; `DENIED` where the server answered another status than was awaited, and
-/// `CLIENT_FAULT` where its bytes or the link's answers have a fault, each with its line; `READ_FAILED` where a receive
-/// and `WRITE_FAILED` where a sending or a write failed; `OUT_OF_MEMORY`.
+/// `fetch x509`, `fetch bundles`, `fetch jwt AUDIENCE..`, `watch`, `watch COUNT`, `health`, `health SERVICE` and
+/// `health-watch COUNT`.
 ///
-/// At most 67,108,864 bytes are read, and the 600th receive in a row that is idle ends the call.
+/// The status is one of [`crate::status`]: `DONE` where all that was asked for was had and written; `USAGE` where the
+/// words fit nothing, and then nothing is sent or written; `DENIED` where the server answered another status than was
+/// awaited, and `CLIENT_FAULT` where its bytes or the link's answers have a fault, each with its line; `READ_FAILED`
+/// where a receive and `WRITE_FAILED` where a sending or a write failed; `OUT_OF_MEMORY`.
+///
+/// At most 67,108,864 bytes are read, and the 600th receive in a row that is idle ends the call. `watch` without a count
+/// asks for 4,294,967,295 messages, reads at most 2^63-1 bytes, and the 4,294,967,295th such receive ends it.
 ///
 /// The runtime's handle is not needed yet.
 pub fn control<R, L: Link, K: Sink>(

@@ -5,7 +5,7 @@ ghost use Rattle.std.specs.List.{list_all};
 ghost use Rattle.clap.specs.Words.{kind_of};
 ghost use Rattle.clap.specs.declared.error.ErrorKind.TheVariants.{OutOfMemory};
 ghost use Rattle.wl_control.specs.declared.request.Request.TheVariants.{Watch, HealthWatch};
-ghost use Rattle.wl_control.specs.Words.{digits_after, digits_of, count_in, is_audience, jwt_of, fetch_of, count_of, health_of, request_by, command_of, in_format, in_formats, request_of, IsFit};
+ghost use Rattle.wl_control.specs.Words.{digits_after, digits_of, count_in, is_audience, jwt_of, fetch_of, count_of, watch_of, health_of, request_by, command_of, in_format, in_formats, request_of, IsFit};
 
 use crate::formats::read_formats;
 use crate::request::{Form, Format, Request, TokenForm};
@@ -17,7 +17,10 @@ use std::string::String;
 use wl_octets::{Memory, Octets, Row};
 
 /// How many messages may be watched for.
-const MAX_COUNT: u32 = 1_000;
+pub(crate) const MAX_COUNT: u32 = 1_000;
+
+/// How many messages a watch without an end asks for.
+const ENDLESS: u32 = 4_294_967_295;
 
 /// How many audiences a token may have.
 const MAX_AUDIENCES: usize = 64;
@@ -143,6 +146,20 @@ fn one_count(words: &[Octets]) -> Option<u32>
     }
 }
 
+/// `watch`, with these words after it.
+fn watch_of(words: &[Octets]) -> Option<Request>
+    ensures value { result ≡ watch_of words.now }
+    ensures fit { IfSome result IsFit }
+{
+    if words.is_empty() {
+        return Some(Request::Watch(ENDLESS));
+    }
+    match one_count(words) {
+        Some(count) => Some(Request::Watch(count)),
+        None => None,
+    }
+}
+
 /// `health`, with these words after it.
 fn health_of(alloc: Global, mut words: Row<Octets>) -> Option<Request>
     ensures value { result ≡ health_of words }
@@ -170,10 +187,7 @@ fn request_by(alloc: Global, command: &[u8], words: Row<Octets>) -> Option<Reque
         return fetch_of(words);
     }
     if command == b"watch".as_slice() {
-        return match one_count(words.as_slice()) {
-            Some(count) => Some(Request::Watch(count)),
-            None => None,
-        };
+        return watch_of(words.as_slice());
     }
     if command == b"health".as_slice() {
         return health_of(alloc, words);

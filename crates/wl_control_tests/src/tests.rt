@@ -441,6 +441,20 @@ fn silence_ends_a_call(rt: HostRuntime) -> Result<(), Fail> {
 }
 
 #[test]
+fn watching_without_a_count_has_no_end(rt: HostRuntime) -> Result<(), Fail> {
+    let alloc = rt.alloc();
+    // After 600 receives that are idle come two messages, and then the end of the connection.
+    try_link(
+        &rt,
+        alloc,
+        "watch",
+        slow_link(alloc, 600, &[BEGUN, SVID, SVID])?,
+        status::CLIENT_FAULT,
+        b"svid spiffe://a.b/w chain=01 key=02 bundle=03 hint=\nsvid spiffe://a.b/w chain=01 key=02 bundle=03 hint=\nfault client 8\n",
+    )
+}
+
+#[test]
 fn only_so_much_is_read(rt: HostRuntime) -> Result<(), Fail> {
     let alloc = rt.alloc();
     // The last byte of the SVID is byte 67,108,864, and then one behind that.
@@ -468,7 +482,6 @@ fn words_that_fit_nothing(rt: HostRuntime) -> Result<(), Fail> {
         "fetch x509 x",
         "fetch bundles x",
         "fetch jwt",
-        "watch",
         "watch 0",
         "watch 1001",
         "watch 1 1",

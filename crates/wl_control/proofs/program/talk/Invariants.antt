@@ -14,4 +14,4 @@ invariant-receives g l = (q : Request) (start : Moment) (answers : List Answer) 
     l.call more
 
 abbrev pub decreases-receives : goal.decreases-receives
-decreases-receives g l = l.call.left * 601 + (600 - l.call.idles)
+decreases-receives g l = l.call.left * 4294967296 + (l.call.patience - l.call.idles)

@@ -16,7 +16,7 @@ pub returns-in-Idle-clause-steps : goal.returns-in-Idle-clause-steps
 returns-in-Idle-clause-steps g c = λ q start answers stood.
     step_idle q start _ _ c.args.self.now _ answers stood (omega (arith, c.requires.room, c.requires.within)) c.requires.idles
     (gives_one _ _ _ _ _ _ _ _ answer.Idle c.in-Idle.ensures.gives.tells c.in-Idle.ensures.gives.later c.in-Idle.ensures.sends)
-    refl refl refl refl
+    refl refl refl refl refl
 
 pub returns-in-End-clause-steps : goal.returns-in-End-clause-steps
 returns-in-End-clause-steps g c = λ q start answers stood.
