@@ -46,8 +46,13 @@ type HostClock<R> = TellingClock<RealClock<R>>;
 type HostUpstream<R> = TellingUpstream<SharingUpstream<AgentUpstream<R>>>;
 
 /// A seat of the real host.
-type RealSeat<R> =
-    Seat<RealListener, SeatAsks<AgentVoucher>, HostAttestor, HostClock<R>, RealReady>;
+type RealSeat<R> = Seat<
+    RealListener,
+    SeatAsks<AgentVoucher>,
+    HostAttestor,
+    HostClock<R>,
+    RealReady,
+>;
 
 /// A copy of the runtime.
 fn copy_of<R: Clone>(rt: &R) -> Result<R, Memory> {

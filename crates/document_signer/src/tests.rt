@@ -9,19 +9,25 @@ use wl_entry::Ask;
 use wl_octets::{Memory, Octets, Row};
 
 /// Two entries, of which the first has an identity.
-const FIRST: &[u8] = br#"{"version":1,"trust_domain":"a.b","bundles":[{"trust_domain":"a.b","x509":"AQ=="}],"entries":[
+const FIRST: &[u8] =
+    br#"{"version":1,"trust_domain":"a.b","bundles":[{"trust_domain":"a.b","x509":"AQ=="}],"entries":[
     {"id":"e1","spiffe_id":"spiffe://a.b/one","selectors":["k:1"]},
     {"id":"e2","spiffe_id":"spiffe://a.b/two","selectors":["k:2"]}],
     "svids":[{"entry":"e1","chain":"Yw==","key":"aw==","not_before":1,"not_after":9}]}"#;
 /// The second has one, too, and the first another.
-const SECOND: &[u8] = br#"{"version":1,"trust_domain":"a.b","bundles":[{"trust_domain":"a.b","x509":"AQ=="}],"entries":[
+const SECOND: &[u8] =
+    br#"{"version":1,"trust_domain":"a.b","bundles":[{"trust_domain":"a.b","x509":"AQ=="}],"entries":[
     {"id":"e1","spiffe_id":"spiffe://a.b/one","selectors":["k:1"]},
     {"id":"e2","spiffe_id":"spiffe://a.b/two","selectors":["k:2"]}],
     "svids":[{"entry":"e1","chain":"Yw==","key":"aw==","not_before":5,"not_after":19},
              {"entry":"e2","chain":"Yw==","key":"aw==","not_before":7,"not_after":9}]}"#;
 
 /// The identity's first second; none where the ask failed.
-fn first_second(alloc: Global, signer: &mut DocumentSigner, entry: &[u8]) -> Result<Option<u64>, Fail> {
+fn first_second(
+    alloc: Global,
+    signer: &mut DocumentSigner,
+    entry: &[u8],
+) -> Result<Option<u64>, Fail> {
     let ask = Ask {
         entry_id: Octets::from_slice(alloc, entry)?,
         spiffe_id: SpiffeId::parse(alloc, b"spiffe://a.b/one")?,
@@ -36,7 +42,10 @@ fn first_second(alloc: Global, signer: &mut DocumentSigner, entry: &[u8]) -> Res
 }
 
 /// An upstream that gives these documents.
-fn upstream_of(alloc: Global, documents: &[(&[u8], [Option<u64>; 2])]) -> Result<MemoryUpstream, Memory> {
+fn upstream_of(
+    alloc: Global,
+    documents: &[(&[u8], [Option<u64>; 2])],
+) -> Result<MemoryUpstream, Memory> {
     let mut answers = Row::empty(alloc);
     for (document, _) in documents {
         answers.push(Octets::from_slice(alloc, document)?)?;

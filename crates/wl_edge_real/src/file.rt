@@ -5,10 +5,9 @@ ghost use Rattle.wl_edge.specs.declared.upstream.TheConstants.{MAX_PULLED};
 
 use crate::upstream::append;
 use std::alloc::Global;
-use std::fs;
 use std::fs::{File, Files};
-use std::io;
 use std::io::ErrorKind;
+use std::{fs, io};
 use wl_edge::{EdgeFault, MAX_PULLED, ReadFault, RealSource, Upstream, read_all};
 use wl_octets::Octets;
 

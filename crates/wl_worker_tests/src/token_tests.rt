@@ -63,7 +63,12 @@ fn two_tokens(rt: HostRuntime) -> Result<(), Fail> {
     let asked = [callers.round(&rt, 0), callers.round(&rt, 1)];
     let calls = callers.sign(&rt, 2);
     let answered = [callers.round(&rt, 1), callers.round(&rt, 0)];
-    let first = took(alloc, &callers, 0, &[SERVER_SETTINGS, ACK, CREDIT_8, RESPONSE_HEAD, TOKEN]);
+    let first = took(
+        alloc,
+        &callers,
+        0,
+        &[SERVER_SETTINGS, ACK, CREDIT_8, RESPONSE_HEAD, TOKEN],
+    );
     let second = took(
         alloc,
         &callers,
@@ -93,9 +98,17 @@ fn late_token(rt: HostRuntime) -> Result<(), Fail> {
     let ended = callers.round(&rt, 0);
     let nothing = took(alloc, &callers, 0, &ASKED);
     let later = callers.round(&rt, 1);
-    let kept = took(alloc, &callers, 1, &[SERVER_SETTINGS, ACK, CREDIT_8, RESPONSE_HEAD, TOKEN]);
+    let kept = took(
+        alloc,
+        &callers,
+        1,
+        &[SERVER_SETTINGS, ACK, CREDIT_8, RESPONSE_HEAD, TOKEN],
+    );
     callers.end(&rt);
-    assert_eq!(rt; (asked, ended), (RoundEnd::On, RoundEnd::Ended(Ended::Closed)));
+    assert_eq!(rt;
+        (asked, ended),
+        (RoundEnd::On, RoundEnd::Ended(Ended::Closed))
+    );
     assert_eq!(rt; (calls, later), (1, RoundEnd::On));
     assert!(rt; nothing? && kept?);
     Ok(())

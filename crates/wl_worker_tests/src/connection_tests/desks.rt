@@ -77,32 +77,49 @@ fn manager(alloc: Global) -> Result<Manager<Free>, Stop> {
     }
 }
 
-/// A desk of the document for so many seats, and a pass of its publications.
+/// A desk of the document for so many seats, and so many passes of its publications.
 fn unsigned<R: Wait>(
     rt: &R,
     alloc: Global,
     seats: u32,
-) -> Result<(Desk<Free>, Option<Pass<Free>>), Stop> {
+    readers: u32,
+) -> Result<(Desk<Free>, Vec<Pass<Free>>), Stop> {
     let manager = manager(alloc)?;
     let first = last_edition(alloc, &manager)?;
-    let (publisher, passes) = start(rt, alloc, first, 1)?;
-    let pass = passes.into_vec().pop();
-    Ok((Desk::start(manager, publisher, seats), pass))
+    let (publisher, passes) = start(rt, alloc, first, readers)?;
+    Ok((Desk::start(manager, publisher, seats), passes.into_vec()))
 }
 
 /// The same where the entry's identity was signed at 100.
+pub fn open_for<R: Wait>(
+    rt: &R,
+    alloc: Global,
+    seats: u32,
+    readers: u32,
+) -> Result<(Mutex<Desk<Free>>, Vec<Pass<Free>>), Stop> {
+    let (desk, passes) = unsigned(rt, alloc, seats, readers)?;
+    let desk = Mutex::new(desk);
+    match sign(rt, alloc, &desk, 100, 1) {
+        Ok(()) => Ok((desk, passes)),
+        Err(stop) => {
+            desk.into_inner().end(rt);
+            Err(stop)
+        }
+    }
+}
+
+/// The same with one pass.
 pub fn open<R: Wait>(
     rt: &R,
     alloc: Global,
     seats: u32,
 ) -> Result<(Mutex<Desk<Free>>, Pass<Free>), Stop> {
-    let (desk, pass) = unsigned(rt, alloc, seats)?;
-    let desk = Mutex::new(desk);
-    match (pass, sign(rt, alloc, &desk, 100, 1)) {
-        (Some(pass), Ok(())) => Ok((desk, pass)),
-        (_, signed) => {
+    let (desk, mut passes) = open_for(rt, alloc, seats, 1)?;
+    match passes.pop() {
+        Some(pass) => Ok((desk, pass)),
+        None => {
             desk.into_inner().end(rt);
-            Err(signed.err().unwrap_or(Stop::NoPass))
+            Err(Stop::NoPass)
         }
     }
 }

@@ -11,8 +11,13 @@ use wl_octets::{Memory, Row};
 use wl_worker::Seat;
 
 /// A seat whose links are watched by this.
-pub type MemorySeat<P> =
-    Seat<MemoryListener, DirectAsks<MemorySigner>, MemoryAttestor, MemoryClock, P>;
+pub type MemorySeat<P> = Seat<
+    MemoryListener,
+    DirectAsks<MemorySigner>,
+    MemoryAttestor,
+    MemoryClock,
+    P,
+>;
 
 /// Whether a link took its whole talk, or else nothing.
 pub fn took(link: &MemoryLink, whole: bool) -> bool {

@@ -19,8 +19,8 @@ use wl_octets::{Memory, Octets, Row};
 use wl_publish::start;
 use wl_store::Ticket;
 use wl_worker::{
-    AskHub, Asked, Kept, Synced, TicketQueue, keep_once, keep_time, pull_documents, sign_asks, sign_once,
-    sync_once,
+    AskHub, Asked, Kept, Synced, TicketQueue, keep_once, keep_time, pull_documents, sign_asks,
+    sign_once, sync_once,
 };
 
 /// A desk of this document, for so many seats.

@@ -2,15 +2,19 @@
 
 ghost use Rattle.std.specs.Prelude.{None};
 
-use crate::connection_tests::desks::open;
+use crate::connection_tests::desks::open_for;
 use crate::connection_tests::outside::{Outside, Stop, memory_outside, numbers, plan};
 use ask_mail::TokenAsks;
 use std::alloc::Global;
+use std::marker::Model;
+use std::mem;
 use std::sync::{Mutex, Wait};
 use wl_desk::Desk;
-use wl_edge::{EdgeFault, MemoryBell, MemoryClock, MemoryLink, MemorySigner, OpenGate, Signer};
+use wl_edge::{
+    EdgeFault, MemoryBell, MemoryClock, MemoryLink, MemorySigner, OpenGate, Script, Signer,
+};
 use wl_entry::{Ask, Free, JwtToken, Signed};
-use wl_octets::Octets;
+use wl_octets::{Octets, Row};
 use wl_publish::Pass;
 use wl_worker::{AskHub, RoundEnd, SeatAsks, Served, TicketQueue, sign_next};
 
@@ -27,18 +31,54 @@ pub const TOKEN_CALL_Y: &[u8] =
 pub const TOKEN_U: &[u8] =
     b"\x00\x00\x1a\x00\x00\x00\x00\x00\x01\x00\x00\x00\x00\x15\x0a\x13\x0a\x0espiffe://a.b/w\x12\x01u\x00\x00\x0f\x01\x05\x00\x00\x00\x01\x00\x0bgrpc-status\x010";
 
-/// A connection with its link.
+/// A connection with its link, and a pass of its own.
 #[derive(Drop)]
 struct Caller {
     link: MemoryLink,
     served: Served,
+    pass: Pass<Free>,
+}
+
+impl Model for Caller {
+    ghost use Rattle.wl_worker.specs.Served.{HasSeenLast};
+    ghost use Rattle.wl_session.specs.Sessions.{SessionState};
+
+    ghost Value = { SessionState };
+
+    ghost view = { λ c. c.served.session };
+
+    ghost invariant = { λ c. HasSeenLast c.pass.seen c.served.session };
+}
+
+impl Caller {
+    /// A round of the connection of this number.
+    fn round<R: Wait>(
+        &mut self,
+        rt: &R,
+        desk: &Mutex<Desk<Free>>,
+        connection: u64,
+        asks: &mut SeatAsks<Free>,
+        outside: &mut Outside,
+    ) -> RoundEnd {
+        self.served.round(
+            rt,
+            desk,
+            &mut self.pass,
+            &mut self.link,
+            0,
+            &mut outside.attestor,
+            connection,
+            asks,
+            &mut outside.clock,
+            &OpenGate,
+        )
+    }
 }
 
 /// The connections of one seat, numbered in their order, and all that is around them.
 pub struct Callers {
     alloc: Global,
     desk: Mutex<Desk<Free>>,
-    pass: Pass<Free>,
     callers: Vec<Caller>,
     asks: SeatAsks<Free>,
     queue: TicketQueue<Free>,
@@ -46,22 +86,37 @@ pub struct Callers {
     bells: [MemoryBell; 1],
 }
 
-fn start_caller(alloc: Global, pieces: &[&[&[u8]]]) -> Result<Caller, Stop> {
+fn start_caller(alloc: Global, pieces: &[&[&[u8]]], pass: Pass<Free>) -> Result<Caller, Stop> {
     Ok(Caller {
         link: MemoryLink::start(alloc, plan(alloc, pieces)?)?,
         served: Served::start(alloc)?,
+        pass,
     })
 }
 
-fn all_callers(alloc: Global, links: &[&[&[&[u8]]]]) -> Result<Vec<Caller>, Stop> {
+fn all_callers(
+    alloc: Global,
+    links: &[&[&[&[u8]]]],
+    mut passes: Vec<Pass<Free>>,
+) -> Result<Vec<Caller>, Stop> {
     let mut callers = Vec::new(alloc);
     for pieces in links {
-        let next = start_caller(alloc, pieces)?;
+        let Some(pass) = passes.pop() else {
+            return Err(Stop::NoPass);
+        };
+        let next = start_caller(alloc, pieces, pass)?;
         if callers.push(next).is_err() {
             return Err(Stop::Memory);
         }
     }
     Ok(callers)
+}
+
+/// A signer that gives nothing.
+fn idle_signer(alloc: Global) -> MemorySigner {
+    let identities = Script::start(Row::empty(alloc), Row::empty(alloc));
+    let tokens = Script::start(Row::empty(alloc), Row::empty(alloc));
+    MemorySigner::start(alloc, identities, tokens)
 }
 
 /// A signer in memory during whose calls a connection ends.
@@ -70,7 +125,7 @@ struct Leaving<'a, R: Wait> {
     rt: &'a R,
     asks: &'a SeatAsks<Free>,
     connection: u64,
-    signer: &'a mut MemorySigner,
+    signer: MemorySigner,
 }
 
 impl<'a, R: Wait> Signer for Leaving<'a, R> {
@@ -119,20 +174,21 @@ impl Signer for Failing {
 
 impl Callers {
     /// Connections over links that give these pieces, at 100, with one signer of the tokens t and u.
-    pub fn start<R: Wait>(
-        rt: &R,
-        alloc: Global,
-        links: &[&[&[&[u8]]]],
-    ) -> Result<Callers, Stop> {
-        let callers = all_callers(alloc, links)?;
+    pub fn start<R: Wait>(rt: &R, alloc: Global, links: &[&[&[&[u8]]]]) -> Result<Callers, Stop> {
         let hub = AskHub::start(alloc, 1, 1)?;
         let asks = SeatAsks::start(alloc, &hub, 0)?;
         let outside = memory_outside(alloc, 100, &[], &[])?;
-        let (desk, pass) = open(rt, alloc, 1)?;
+        let (desk, passes) = open_for(rt, alloc, 1, links.len() as u32)?;
+        let callers = match all_callers(alloc, links, passes) {
+            Ok(callers) => callers,
+            Err(stop) => {
+                desk.into_inner().end(rt);
+                return Err(stop);
+            }
+        };
         Ok(Callers {
             alloc,
             desk,
-            pass,
             callers,
             asks,
             queue: TicketQueue::start(alloc, hub),
@@ -146,17 +202,12 @@ impl Callers {
         let Some(caller) = self.callers.get_mut(connection as usize) else {
             return RoundEnd::Later;
         };
-        caller.served.round(
+        caller.round(
             rt,
             &self.desk,
-            &mut self.pass,
-            &mut caller.link,
-            0,
-            &mut self.outside.attestor,
             connection,
             &mut self.asks,
-            &mut self.outside.clock,
-            &OpenGate,
+            &mut self.outside,
         )
     }
 
@@ -165,7 +216,15 @@ impl Callers {
         let signer = &mut self.outside.asks.signer;
         let clock = &mut self.outside.clock;
         for _ in 0..count {
-            sign_next(rt, self.alloc, &self.desk, &self.queue, signer, clock, &self.bells);
+            sign_next(
+                rt,
+                self.alloc,
+                &self.desk,
+                &self.queue,
+                signer,
+                clock,
+                &self.bells,
+            );
         }
         signer.calls().len()
     }
@@ -176,10 +235,19 @@ impl Callers {
             rt,
             asks: &self.asks,
             connection,
-            signer: &mut self.outside.asks.signer,
+            signer: mem::replace(&mut self.outside.asks.signer, idle_signer(self.alloc)),
         };
         let clock = &mut self.outside.clock;
-        sign_next(rt, self.alloc, &self.desk, &self.queue, &mut leaving, clock, &self.bells);
+        sign_next(
+            rt,
+            self.alloc,
+            &self.desk,
+            &self.queue,
+            &mut leaving,
+            clock,
+            &self.bells,
+        );
+        self.outside.asks.signer = leaving.signer;
         self.outside.asks.signer.calls().len()
     }
 
@@ -222,7 +290,6 @@ impl Callers {
         let Callers {
             alloc: _,
             desk,
-            pass: _,
             callers: _,
             asks: _,
             queue,

@@ -18,5 +18,5 @@ pub returns-in_default : goal.returns-in_default
 returns-in_default g c = (
   refl,
   refused_first (g.U.Upstream.told c.args.upkeep.now.upstream) (g.U.Upstream.told c.pull.new.self) (g.U.Upstream.faults c.args.upkeep.now.upstream) (g.U.Upstream.faults c.pull.new.self)
-  c.empty-document.result c.pull.new.into c.as_slice.result.now c.empty-document.ensures c.as_slice.ensures c.in-Ok.ensures.gives c.in-Err.fault c.in-Err.ensures.fault c.in_default.not-Memory,
+      c.empty-document.result c.pull.new.into c.as_slice.result.now c.empty-document.ensures c.as_slice.ensures c.in-Ok.ensures.gives c.in-Err.fault c.in-Err.ensures.fault c.in_default.not-Memory,
 )
