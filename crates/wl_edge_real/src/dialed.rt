@@ -118,7 +118,7 @@ fn dial<R: Net>(rt: &R, address: &Address) -> io::Result<ToldStream<Dialed<R::St
 impl<R: Net + Drop> DialedLink<R> {
     /// A link to the Unix socket of this path. Nothing is opened yet.
     pub fn start(rt: R, path: String) -> DialedLink<R>
-        ensures tells { (l : DialedLink R) → IsSome (⟦<DialedLink<R> as Link>⟧.told l) }
+        ensures tells { IsSome (⟦<DialedLink<R> as Link>⟧.told result) }
         ensures fresh { IsFresh (⟦<DialedLink<R> as Link>⟧.told result) (⟦<DialedLink<R> as Link>⟧.failed_receives result)
             (⟦<DialedLink<R> as Link>⟧.failed_sends result) (⟦<DialedLink<R> as Link>⟧.stalls result) }
     {
@@ -127,7 +127,7 @@ impl<R: Net + Drop> DialedLink<R> {
 
     /// A link to this address. Nothing is opened yet.
     pub fn start_at(rt: R, address: Address) -> DialedLink<R>
-        ensures tells { (l : DialedLink R) → IsSome (⟦<DialedLink<R> as Link>⟧.told l) }
+        ensures tells { IsSome (⟦<DialedLink<R> as Link>⟧.told result) }
         ensures fresh { IsFresh (⟦<DialedLink<R> as Link>⟧.told result) (⟦<DialedLink<R> as Link>⟧.failed_receives result)
             (⟦<DialedLink<R> as Link>⟧.failed_sends result) (⟦<DialedLink<R> as Link>⟧.stalls result) }
     {
