@@ -31,11 +31,19 @@ pub(crate) fn path_of(rt: &HostRuntime, name: &str) -> Result<String, Fail> {
     Ok(path)
 }
 
-/// The next link of a listener to which a peer has connected.
+/// The first link of a listener to which a peer has connected.
 pub(crate) fn accepted(listener: &mut RealListener) -> Result<RealLink, Fail>
     requires { ⟦<RealListener as Listener>⟧.told listener.old ≡ Some (record { kinds = []; finished = [] }) }
     ensures { IfOk result (λ _. HasOpenLink (⟦<RealListener as Listener>⟧.told listener.new)) }
 {
+    match listener.accept() {
+        Accepted::Link(link) => Ok(link),
+        _ => Err("no link")?,
+    }
+}
+
+/// The next link of a listener to which a peer has connected.
+fn next_link(listener: &mut RealListener) -> Result<RealLink, Fail> {
     match listener.accept() {
         Accepted::Link(link) => Ok(link),
         _ => Err("no link")?,
@@ -188,7 +196,7 @@ fn a_watcher_tells_of_links_and_a_bell_of_all(rt: HostRuntime) -> Result<(), Fai
     let mut links = Vec::new(alloc);
     for number in 3..6 {
         peers.push(UnixStream::connect(&rt, path.as_str())?)?;
-        let mut link = accepted(&mut listener)?;
+        let mut link = next_link(&mut listener)?;
         assert_eq!(rt; ready.add(number, &mut link), Ok(()));
         links.push(link)?;
     }
@@ -270,7 +278,7 @@ fn a_watched_listener_gives_links_after_a_wait(rt: HostRuntime) -> Result<(), Fa
     let _peer = UnixStream::connect(&rt, path.as_str())?;
     assert!(rt; matches!(listener.accept(), Accepted::Idle));
     assert_eq!(rt; told(rt.alloc(), &mut ready)?.len(), 0);
-    let _link = accepted(&mut listener)?;
+    let _link = next_link(&mut listener)?;
     fs::remove_file(&rt, path.as_str())?;
     Ok(())
 }
