@@ -228,23 +228,23 @@ fn make_signers<R: Net + Clock + Clone + Drop>(
     Ok(signers)
 }
 
-/// The upstream and the signers of a configuration, with their clocks.
+/// The upstream and the signers of a configuration, which share the documents' identities where it names no signer, with their clocks.
 fn make_upkeep<R: Net + Files + Clock + Clone + Drop>(
     rt: &R,
     alloc: Global,
     config: &Config,
-    identities: &Option<SharedIdentities>,
 ) -> Result<Upkeep<HostUpstream<R>, HostSigner<R>, HostClock<R>>, EdgeFault>
     ensures faults { IfOk result (λ u. ⟦<HostUpstream<R> as Upstream>⟧.faults u.upstream ≡ 0) }
     ensures told { IfOk result (λ u. IfSome (⟦<HostUpstream<R> as Upstream>⟧.told u.upstream)
         (λ log. log ≡ record { calls = []; number = 0 })) }
     ensures signers { IfOk result (λ u. 0 < length u.signers.items) }
 {
+    let identities = identities_of(alloc, config)?;
     Ok(Upkeep {
-        upstream: make_upstream(rt, alloc, config, identities)?,
+        upstream: make_upstream(rt, alloc, config, &identities)?,
         puller: TellingClock::start(RealClock::start(copy_of(rt)?)),
         keeper: TellingClock::start(RealClock::start(copy_of(rt)?)),
-        signers: make_signers(rt, alloc, config, identities)?,
+        signers: make_signers(rt, alloc, config, &identities)?,
     })
 }
 
@@ -294,11 +294,7 @@ impl<R: Net + Files + Clock + Clone + Drop + Send + Sync> Binder for RealHost<R>
         alloc: Global,
         config: &Config,
     ) -> Result<Parts<RealHost<R>>, EdgeFault> {
-        let identities = match identities_of(alloc, config) {
-            Ok(identities) => identities,
-            Err(Memory) => return Err(EdgeFault::Memory),
-        };
-        let upkeep = match make_upkeep(&self.rt, alloc, config, &identities) {
+        let upkeep = match make_upkeep(&self.rt, alloc, config) {
             Ok(upkeep) => upkeep,
             Err(fault) => return Err(self.count(fault)),
         };

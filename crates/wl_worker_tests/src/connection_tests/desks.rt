@@ -77,27 +77,28 @@ fn manager(alloc: Global) -> Result<Manager<Free>, Stop> {
     }
 }
 
-/// A desk of the document for so many seats, and so many passes of its publications.
+/// How many passes a desk has.
+const PASSES: u32 = 3;
+
+/// A desk of the document for so many seats, and passes of its publications.
 fn unsigned<R: Wait>(
     rt: &R,
     alloc: Global,
     seats: u32,
-    readers: u32,
 ) -> Result<(Desk<Free>, Vec<Pass<Free>>), Stop> {
     let manager = manager(alloc)?;
     let first = last_edition(alloc, &manager)?;
-    let (publisher, passes) = start(rt, alloc, first, readers)?;
+    let (publisher, passes) = start(rt, alloc, first, PASSES)?;
     Ok((Desk::start(manager, publisher, seats), passes.into_vec()))
 }
 
 /// The same where the entry's identity was signed at 100.
-pub fn open_for<R: Wait>(
+pub fn open_all<R: Wait>(
     rt: &R,
     alloc: Global,
     seats: u32,
-    readers: u32,
 ) -> Result<(Mutex<Desk<Free>>, Vec<Pass<Free>>), Stop> {
-    let (desk, passes) = unsigned(rt, alloc, seats, readers)?;
+    let (desk, passes) = unsigned(rt, alloc, seats)?;
     let desk = Mutex::new(desk);
     match sign(rt, alloc, &desk, 100, 1) {
         Ok(()) => Ok((desk, passes)),
@@ -114,7 +115,7 @@ pub fn open<R: Wait>(
     alloc: Global,
     seats: u32,
 ) -> Result<(Mutex<Desk<Free>>, Pass<Free>), Stop> {
-    let (desk, mut passes) = open_for(rt, alloc, seats, 1)?;
+    let (desk, mut passes) = open_all(rt, alloc, seats)?;
     match passes.pop() {
         Some(pass) => Ok((desk, pass)),
         None => {

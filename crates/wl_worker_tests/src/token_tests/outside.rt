@@ -2,7 +2,7 @@
 
 ghost use Rattle.std.specs.Prelude.{None};
 
-use crate::connection_tests::desks::open_for;
+use crate::connection_tests::desks::open_all;
 use crate::connection_tests::outside::{Outside, Stop, memory_outside, numbers, plan};
 use ask_mail::TokenAsks;
 use std::alloc::Global;
@@ -173,12 +173,12 @@ impl Signer for Failing {
 }
 
 impl Callers {
-    /// Connections over links that give these pieces, at 100, with one signer of the tokens t and u.
+    /// Connections, three at most, over links that give these pieces, at 100, with one signer of the tokens t and u.
     pub fn start<R: Wait>(rt: &R, alloc: Global, links: &[&[&[&[u8]]]]) -> Result<Callers, Stop> {
         let hub = AskHub::start(alloc, 1, 1)?;
         let asks = SeatAsks::start(alloc, &hub, 0)?;
         let outside = memory_outside(alloc, 100, &[], &[])?;
-        let (desk, passes) = open_for(rt, alloc, 1, links.len() as u32)?;
+        let (desk, passes) = open_all(rt, alloc, 1)?;
         let callers = match all_callers(alloc, links, passes) {
             Ok(callers) => callers,
             Err(stop) => {

@@ -1,5 +1,12 @@
-use Rattle.std.proofs.Common.{refl}
+use Rattle.std.specs.Prelude.{Result, Ok, Err}
+use Rattle.std.proofs.Common.{refl, sym, ap, ◌∙◌}
+use Rattle.wl_edge.specs.declared.fault.EdgeFault.{EdgeFault}
+use Rattle.wl_edge.specs.declared.fault.EdgeFault.TheVariants.{Memory}
 use Rattle.agentd.proofs.host.RealHostBinder.prepare.Goals as goal
+
+abbrev fault_of : {A : Type 0} → Result A EdgeFault → EdgeFault
+fault_of (Ok x) = Memory
+fault_of (Err fault) = fault
 
 pub returns-clause-prepared : goal.returns-clause-prepared
 returns-clause-prepared g c = record {
@@ -8,3 +15,6 @@ returns-clause-prepared g c = record {
   upstream_faults = c.in-Ok.ensures.faults;
   seats = rw (← c.config.view_is, ← c.as_slice.ensures) c.in-Ok-make_seats.ensures.seats;
 }
+
+pub returns-in-Err-make_seats-clause-failed : goal.returns-in-Err-make_seats-clause-failed
+returns-in-Err-make_seats-clause-failed g c = λ is. c.count-in-Err-make_seats.ensures.failed (sym c.count-in-Err-make_seats.ensures.same ∙ ap fault_of is)
