@@ -43,6 +43,9 @@ name_text names.Svid = codes "svid"
 name_text names.Svids = codes "svids"
 name_text names.Bundles = codes "bundles"
 name_text names.FederatedBundles = codes "federated_bundles"
+name_text names.Head = codes "head"
+name_text names.Claims = codes "claims"
+name_text names.SignatureVerified = codes "signature_verified"
 
 unfoldable pub text_value : List ℕ → List ℕ
 text_value text = 34 ∷ escaped text ++ 34 ∷ []
@@ -72,8 +75,11 @@ x509_item s =
     text_member 123 names.SpiffeId s.spiffe_id ++ bytes_member 44 names.X509Svid s.chain ++ bytes_member 44 names.X509SvidKey s.key
     ++ bytes_member 44 names.Bundle s.bundle ++ text_member 44 names.Hint s.hint ++ 125 ∷ []
 
+unfoldable pub jwt_members : JwtItem → List ℕ
+jwt_members s = text_member 123 names.SpiffeId s.spiffe_id ++ text_member 44 names.Svid s.svid ++ text_member 44 names.Hint s.hint
+
 unfoldable pub jwt_item : JwtItem → List ℕ
-jwt_item s = text_member 123 names.SpiffeId s.spiffe_id ++ text_member 44 names.Svid s.svid ++ text_member 44 names.Hint s.hint ++ 125 ∷ []
+jwt_item s = jwt_members s ++ 125 ∷ []
 
 unfoldable pub map_item : MapItem → List ℕ
 map_item b = text_value b.key ++ 58 ∷ bytes_value b.value

@@ -1,3 +1,4 @@
 pub mod Elements
 pub mod Blocks
 pub mod Json
+pub mod Decoded

@@ -1,7 +1,7 @@
 //! Messages as JSON.
 
 ghost use Rattle.std.specs.Prelude.{◌≡◌, ◌<◌, ◌==◌, ◌++◌, ◌∷◌, [], if◌then◌else◌, OnOk};
-ghost use Rattle.svid_forms.specs.Json.{hex_digit, escaped_byte, escaped, text_value, bytes_value, opening, text_member, bytes_member, items_from, x509_item, jwt_item, map_item, list_member, map_member, x509_json, bundles_json, jwt_bundles_json, jwt_json};
+ghost use Rattle.svid_forms.specs.Json.{hex_digit, escaped_byte, escaped, text_value, bytes_value, opening, text_member, bytes_member, items_from, x509_item, jwt_members, jwt_item, map_item, list_member, map_member, x509_json, bundles_json, jwt_bundles_json, jwt_json};
 
 use crate::names::{Name, text_of};
 use base64::engine::general_purpose::STANDARD;
@@ -37,9 +37,9 @@ fn put_escaped_byte(out: &mut Vec<u8>, byte: u8) -> Result<(), Memory>
     Ok(())
 }
 
-/// A text as it stands between quotation marks.
+/// A text as it stands between quotation marks in JSON.
 #[tactic(auto, unfolding(crate::specs::Json::escaped))]
-pub(crate) fn put_escaped(out: &mut Vec<u8>, text: &[u8]) -> Result<(), Memory>
+pub fn put_escaped(out: &mut Vec<u8>, text: &[u8]) -> Result<(), Memory>
     ensures { OnOk result (out.new.items ≡ out.old.items ++ escaped text.now) }
 {
     for byte in text {
@@ -71,7 +71,7 @@ fn put_bytes(alloc: Global, out: &mut Vec<u8>, bytes: &[u8]) -> Result<(), Memor
 
 /// A brace or a comma, and a name.
 #[tactic(auto, unfolding(crate::specs::Json::opening))]
-fn put_opening(out: &mut Vec<u8>, lead: u8, name: Name) -> Result<(), Memory>
+pub(crate) fn put_opening(out: &mut Vec<u8>, lead: u8, name: Name) -> Result<(), Memory>
     ensures { OnOk result (out.new.items ≡ out.old.items ++ opening lead name) }
 {
     out.extend_from_slice(&[lead, b'"'])?;
@@ -103,7 +103,7 @@ fn put_bytes_member(
 }
 
 /// The comma before an item that isn't the first.
-fn put_comma(out: &mut Vec<u8>, at: usize) -> Result<(), Memory>
+pub(crate) fn put_comma(out: &mut Vec<u8>, at: usize) -> Result<(), Memory>
     ensures { OnOk result (out.new.items ≡ out.old.items ++ (if at == 0 then [] else 44 ∷ [])) }
 {
     if at > 0 {
@@ -125,13 +125,21 @@ fn put_x509_item(alloc: Global, out: &mut Vec<u8>, svid: &X509Item) -> Result<()
     Ok(())
 }
 
-#[tactic(auto, unfolding(crate::specs::Json::jwt_item))]
-fn put_jwt_item(out: &mut Vec<u8>, svid: &JwtItem) -> Result<(), Memory>
-    ensures { OnOk result (out.new.items ≡ out.old.items ++ jwt_item svid.now) }
+#[tactic(auto, unfolding(crate::specs::Json::jwt_members))]
+pub(crate) fn put_jwt_members(out: &mut Vec<u8>, svid: &JwtItem) -> Result<(), Memory>
+    ensures { OnOk result (out.new.items ≡ out.old.items ++ jwt_members svid.now) }
 {
     put_text_member(out, b'{', Name::SpiffeId, svid.spiffe_id.as_slice())?;
     put_text_member(out, b',', Name::Svid, svid.svid.as_slice())?;
     put_text_member(out, b',', Name::Hint, svid.hint.as_slice())?;
+    Ok(())
+}
+
+#[tactic(auto, unfolding(crate::specs::Json::jwt_item))]
+fn put_jwt_item(out: &mut Vec<u8>, svid: &JwtItem) -> Result<(), Memory>
+    ensures { OnOk result (out.new.items ≡ out.old.items ++ jwt_item svid.now) }
+{
+    put_jwt_members(out, svid)?;
     out.push(b'}')?;
     Ok(())
 }

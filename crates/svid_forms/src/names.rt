@@ -15,6 +15,10 @@ pub(crate) enum Name {
     Svids,
     Bundles,
     FederatedBundles,
+    /// Own rule: what a token says.
+    Head,
+    Claims,
+    SignatureVerified,
 }
 
 /// The name as it is written.
@@ -31,5 +35,8 @@ pub(crate) fn text_of(name: Name) -> &'static [u8]
         Name::Svids => b"svids",
         Name::Bundles => b"bundles",
         Name::FederatedBundles => b"federated_bundles",
+        Name::Head => b"head",
+        Name::Claims => b"claims",
+        Name::SignatureVerified => b"signature_verified",
     }
 }
