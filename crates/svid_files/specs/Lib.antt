@@ -1,1 +1,4 @@
+pub mod Names
+pub mod Sds
 pub mod Files
+pub mod Serials

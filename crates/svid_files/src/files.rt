@@ -28,7 +28,12 @@ fn private_key(alloc: Global, der: &[u8]) -> Result<Octets, Memory>
 }
 
 /// Puts one more file.
-fn put(files: &mut Row<File>, name: Octets, is_secret: bool, bytes: Octets) -> Result<(), Memory>
+pub(crate) fn put(
+    files: &mut Row<File>,
+    name: Octets,
+    is_secret: bool,
+    bytes: Octets,
+) -> Result<(), Memory>
     ensures { OnOk result (files.new ≡ files.old ++ record { name = name; is_secret = is_secret; bytes = bytes } ∷ []) }
 {
     files.push(File {

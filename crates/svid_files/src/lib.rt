@@ -8,9 +8,13 @@ mod files;
 mod fitness;
 mod names;
 mod publishing;
+mod sds;
+mod serials;
 #[cfg(test)]
 mod tests;
+mod words;
 
 pub use files::files_of;
 pub use fitness::has_files;
 pub use publishing::{WriteFault, files_in, publish_message};
+pub use serials::serial_of;

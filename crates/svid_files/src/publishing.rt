@@ -7,10 +7,11 @@ ghost use Rattle.svid_files.specs.Files.{files_in};
 
 use crate::files::files_of;
 use crate::fitness::has_files;
+use crate::sds::put_sds;
 use file_sets::{File, Shelf, publish};
 use std::alloc::Global;
 use wl_client::decode_x509;
-use wl_octets::{Memory, Row};
+use wl_octets::{Memory, Octets, Row};
 use workload_proto::ProtoFault;
 
 /// Why a message's files aren't seen, or may not be seen.
@@ -24,10 +25,15 @@ pub enum WriteFault {
     Shelf,
 }
 
-/// The files of the message that these bytes are, an `X509SVIDResponse`; none where it has none.
+/// The files of the message that these bytes are, an `X509SVIDResponse`, and `sds.yaml` where `envoy` names the folder in
+/// which they are seen; none where the message has none.
 #[tactic(auto, unfolding(crate::specs::Files::files_in))]
-pub fn files_in(alloc: Global, message: &[u8]) -> Result<Option<Row<File>>, Memory>
-    ensures { IfOk result (λ files. files ≡ files_in message.now) }
+pub fn files_in(
+    alloc: Global,
+    envoy: &Option<Octets>,
+    message: &[u8],
+) -> Result<Option<Row<File>>, Memory>
+    ensures { IfOk result (λ files. files ≡ files_in envoy.now message.now) }
 {
     let message = match decode_x509(alloc, message) {
         Ok(message) => message,
@@ -37,31 +43,34 @@ pub fn files_in(alloc: Global, message: &[u8]) -> Result<Option<Row<File>>, Memo
     if !has_files(alloc, &message)? {
         return Ok(None);
     }
-    Ok(Some(files_of(alloc, &message)?))
+    let mut files = files_of(alloc, &message)?;
+    put_sds(alloc, &mut files, envoy, &message)?;
+    Ok(Some(files))
 }
 
 /// Has readers see the files of this message, an `X509SVIDResponse`, in place of those that they saw: all of them at once,
-/// or none. The number is one that no folder of the shelf has had.
+/// or none. With them they see `sds.yaml` where `envoy` names the folder. The number is one that no folder of the shelf has had.
 pub fn publish_message<S: Shelf>(
     alloc: Global,
     shelf: &mut S,
     number: u64,
+    envoy: &Option<Octets>,
     message: &[u8],
 ) -> Result<(), WriteFault>
     requires { IsTrue (S.tells shelf.old) → S.link shelf.old ≢ Some number }
     ensures tells { S.tells shelf.new ≡ S.tells shelf.old }
     // What is seen is exactly the files of the message.
-    ensures ok { IsTrue (S.tells shelf.old) → OnOk result ((files : List File) × (files_in message.now ≡ Some files)
+    ensures ok { IsTrue (S.tells shelf.old) → OnOk result ((files : List File) × (files_in envoy.now message.now ≡ Some files)
         × SawNew files (S.turns shelf.old) (seen (S.link shelf.new) (S.holds shelf.new)) (S.turns shelf.new)) }
     // After a fault it is what was seen before, or exactly the files of the message.
     ensures err { IsTrue (S.tells shelf.old) → OnErr result (SawOld (seen (S.link shelf.old) (S.holds shelf.old)) (S.turns shelf.old)
         (seen (S.link shelf.new) (S.holds shelf.new)) (S.turns shelf.new)
-        ⊎ ((files : List File) × (files_in message.now ≡ Some files)
+        ⊎ ((files : List File) × (files_in envoy.now message.now ≡ Some files)
         × SawNew files (S.turns shelf.old) (seen (S.link shelf.new) (S.holds shelf.new)) (S.turns shelf.new))) }
     // Nothing is written for a message that has no files.
-    ensures nothing { files_in message.now ≡ None → shelf.new ≡ shelf.old }
+    ensures nothing { files_in envoy.now message.now ≡ None → shelf.new ≡ shelf.old }
 {
-    let files = match files_in(alloc, message) {
+    let files = match files_in(alloc, envoy, message) {
         Ok(Some(files)) => files,
         Ok(None) => return Err(WriteFault::NoFiles),
         Err(Memory) => return Err(WriteFault::Memory),

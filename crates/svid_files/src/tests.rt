@@ -1,7 +1,8 @@
-use crate::{WriteFault, files_of, publish_message};
+use crate::{WriteFault, files_in, files_of, publish_message, serial_of};
 use file_sets::MemoryShelf;
 use std::test::*;
 use wl_client::decode_x509;
+use wl_octets::Octets;
 
 /// An `X509SVIDResponse` with two SVIDs and two federated bundles, whose certificates are SEQUENCEs of a few bytes.
 const TWO: &[u8] =
@@ -84,10 +85,10 @@ fn messages_without_files_change_nothing(rt: HostRuntime) -> Result<(), Fail> {
     ];
     for message in table {
         let mut shelf = MemoryShelf::start(alloc, u64::MAX);
-        assert_eq!(rt; publish_message(alloc, &mut shelf, 1, ONE), Ok(()));
+        assert_eq!(rt; publish_message(alloc, &mut shelf, 1, &None, ONE), Ok(()));
         assert_eq!(rt; shelf.link(), Some(1));
         assert_eq!(rt;
-            publish_message(alloc, &mut shelf, 2, message),
+            publish_message(alloc, &mut shelf, 2, &None, message),
             Err(WriteFault::NoFiles),
             "of {message:?}"
         );
@@ -106,9 +107,9 @@ fn each_call_fails_in_turn(rt: HostRuntime) -> Result<(), Fail> {
     // The first message takes the calls 0 to 5 (make, three files, sync, point), the second one 6 to 16; 17 is no call.
     for failing in 6..=17 {
         let mut shelf = MemoryShelf::start(alloc, failing);
-        let first = publish_message(alloc, &mut shelf, 1, ONE);
+        let first = publish_message(alloc, &mut shelf, 1, &None, ONE);
         assert_eq!(rt; (first, shelf.link()), (Ok(()), Some(1)), "at {failing}");
-        let second = publish_message(alloc, &mut shelf, 2, TWO);
+        let second = publish_message(alloc, &mut shelf, 2, &None, TWO);
         let seen = (shelf.link(), shelf.count());
         if failing == 17 {
             assert_eq!(rt; (second, seen), (Ok(()), (Some(2), 8)));
@@ -119,6 +120,90 @@ fn each_call_fails_in_turn(rt: HostRuntime) -> Result<(), Fail> {
                 "at {failing}"
             );
         }
+    }
+    Ok(())
+}
+
+/// The secrets of `ONE` in a folder whose name has a quotation mark.
+const ONE_SDS: &[u8] = b"resources:
+- \"@type\": type.googleapis.com/envoy.extensions.transport_sockets.tls.v3.Secret
+  name: \"svid\"
+  tls_certificate:
+    certificate_chain:
+      filename: \"/run/\\\"w/svid.pem\"
+    private_key:
+      filename: \"/run/\\\"w/key.pem\"
+    watched_directory:
+      path: \"/run/\\\"w\"
+- \"@type\": type.googleapis.com/envoy.extensions.transport_sockets.tls.v3.Secret
+  name: \"bundle\"
+  validation_context:
+    trusted_ca:
+      filename: \"/run/\\\"w/bundle.pem\"
+    watched_directory:
+      path: \"/run/\\\"w\"
+";
+
+/// How the last secret of `TWO` ends, which is that of its second federated bundle.
+const TWO_END: &[u8] = b"  name: \"federated/e.f\"
+  validation_context:
+    trusted_ca:
+      filename: \"/w/federated/e.f.pem\"
+    watched_directory:
+      path: \"/w\"
+";
+
+#[test]
+fn envoy_has_secrets(rt: HostRuntime) -> Result<(), Fail> {
+    let alloc = rt.alloc();
+    let table: [(&[u8], &[u8], usize, &[u8]); 2] = [
+        (ONE, b"/run/\"w", 3, ONE_SDS),
+        (TWO, b"/w", 8, TWO_END),
+    ];
+    for (message, folder, others, end) in table {
+        let files = files_in(alloc, &Some(Octets::from_slice(alloc, folder)?), message)?.expect(
+            &rt, "files",
+        );
+        assert_eq!(rt; files.len(), others + 1);
+        let last = &files.as_slice()[others];
+        assert_eq!(rt; last.name.as_slice(), b"sds.yaml".as_slice());
+        assert_eq!(rt; last.is_secret, false);
+        assert!(rt; last.bytes.as_slice().ends_with(end));
+        let without = files_in(alloc, &None, message)?.expect(&rt, "files");
+        assert_eq!(rt; without.len(), others);
+    }
+    let folder = Octets::from_slice(alloc, b"/run/\"w")?;
+    let files = files_in(alloc, &Some(folder), ONE)?.expect(&rt, "files");
+    let Some(last) = files.as_slice().last() else {
+        return Err("no file")?;
+    };
+    assert_eq!(rt; last.bytes.as_slice(), ONE_SDS);
+    Ok(())
+}
+
+#[test]
+fn chains_have_serial_numbers(rt: HostRuntime) -> Result<(), Fail> {
+    let table: [(&[u8], Option<&[u8]>); 8] = [
+        // The first bytes of a certificate of openssl's, whose serial number it writes as 0F5C; and of one with FF01.
+        (
+            b"\x30\x82\x01\x44\x30\x81\xeb\xa0\x03\x02\x01\x02\x02\x02\x0f\x5c\x30\x0a",
+            Some(b"\x0f\x5c"),
+        ),
+        (
+            b"\x30\x82\x01\x44\x30\x81\xeb\xa0\x03\x02\x01\x02\x02\x03\x00\xff\x01\x30\x0a",
+            Some(b"\xff\x01"),
+        ),
+        // Of version 1, with short lengths, and 0.
+        (b"\x30\x05\x30\x03\x02\x01\x07", Some(b"\x07")),
+        (b"\x30\x05\x30\x03\x02\x01\x00", Some(b"\x00")),
+        // No INTEGER, one that is cut off, one of more than 127 octets, nothing.
+        (b"\x30\x05\x30\x03\x03\x01\x07", None),
+        (b"\x30\x05\x30\x03\x02\x02\x07", None),
+        (b"\x30\x05\x30\x03\x02\x81\x01\x07", None),
+        (b"", None),
+    ];
+    for (chain, wanted) in table {
+        assert_eq!(rt; serial_of(chain), wanted, "of {chain:?}");
     }
     Ok(())
 }
