@@ -1,5 +1,6 @@
 -- The first fault of a configuration is at a member that has a name.
-use Rattle.std.specs.Prelude.{◌≡◌, ⊤, ℕ, ◌+◌, ◌==◌, ◌||◌, Bool, true, false, nat_lt, if◌then◌else◌, List, [], ◌∷◌, length, codes, Option, Some, None, option_and_then, Result, Ok, Err}
+use Rattle.std.specs.Prelude.{◌≡◌, ⊤, ℕ, ◌+◌, ◌*◌, ◌==◌, ◌||◌, Bool, true, false, nat_eq, nat_lt, if◌then◌else◌, List, [], ◌∷◌, ◌++◌, length, flat_map, codes, Option, Some, None, option_and_then, Result, Ok, Err}
+use Rattle.std.specs.List.{starts_with}
 use Rattle.std.proofs.Common.{refl, subst}
 use Rattle.serde_json.specs.Data.{Data}
 use Rattle.serde_json.specs.Find.{get, as_object, as_str, as_number, as_u64, as_array}
@@ -13,14 +14,18 @@ use Rattle.wl_document.specs.Places.{at_top, item_at}
 use Rattle.wl_document.specs.declared.fault.Place.{Place}
 use Rattle.wl_config.specs.declared.config.SocketFact.{SocketFact}
 use Rattle.wl_config.specs.declared.config.DocumentSource.TheVariants.{Socket, File}
+use Rattle.wl_config.specs.declared.config.LogLevel.TheVariants as log
 use Rattle.wl_config.specs.declared.fault.ConfigFault.{ConfigFault}
 use Rattle.wl_config.specs.declared.fault.ConfigFault.TheVariants as fault
-use Rattle.wl_config.specs.declared.limits.TheConstants.{CONFIG_LIMIT, MAX_SOCKETS, MAX_POLL_SECONDS, DEFAULT_POLL_SECONDS, MAX_SOCKET_SELECTORS, MAX_WORKERS, DEFAULT_WORKERS}
+use Rattle.wl_config.specs.declared.limits.TheConstants.{CONFIG_LIMIT, MAX_SOCKETS, MAX_POLL_SECONDS, DEFAULT_POLL_SECONDS, MAX_SIGNERS, DEFAULT_SIGNERS, MAX_SOCKET_SELECTORS, MAX_CONNECTIONS, MAX_ALL_CONNECTIONS, DEFAULT_CONNECTIONS, DEFAULT_MODE, MAX_ID}
 use Rattle.wl_config.specs.Places.{at_socket}
 use Rattle.wl_config.specs.Checks.{no_selector_fault}
 use Rattle.wl_config.specs.Members.{number_within, number_or, path_at, path_of, list_at, list_of}
-use Rattle.wl_config.specs.Sockets.{was_given, socket_path_of, rooms, workers_of, selector_of, selector_list_of, selectors_of, socket_of, sockets_of}
-use Rattle.wl_config.specs.Configs.{Configuration, version_of, source_by, source_of, signer_of, suppliers_of, poll_seconds_of, config_sockets_of, config_of, configuration_of}
+use Rattle.wl_config.specs.Guards.{mode_of, id_at, id_of, mode_at, mode_in, guard_of, no_value, absent, no_guard_of}
+use Rattle.wl_config.specs.Uids.{range_of, numbers_of, range_at, ranges_at, room_for, uids_of}
+use Rattle.wl_config.specs.Files.{marks_of, own_file_of, uid_files_of, paths_for, are_new, files_of}
+use Rattle.wl_config.specs.Sockets.{rooms, served_of, says_workers, connections_of, selector_of, selector_list_of, texts_of, some_plain, socket_of, sockets_of}
+use Rattle.wl_config.specs.Configs.{Configuration, version_of, source_by, source_of, signer_of, suppliers_of, poll_seconds_of, signers_of, level_of, level_at, log_of, root_path_at, metrics_of, manner_of, config_sockets_of, config_of, configuration_of}
 use Rattle.fault_lines.specs.Names.{config_place, config_member, socket_member}
 use Rattle.fault_lines.specs.Lines.{AreBounded}
 use Rattle.fault_laws.specs.Lines.{config_numbers}
@@ -104,10 +109,54 @@ module _ (p : Place) (sited : InConfig p) where
   unfolding selector_of text_at config_place
   selector k d = next (text_at (fault.Kind (item_at p k)) d) _ (needed (fault.Kind (item_at p k)) (as_str d) sited) (λ t. selector_checked (item_at p k) t (selector_fault t) sited)
 
-  selectors : (d : Data) → Fails (selectors_of p d)
-  unfolding selectors_of selector_list_of
-  selectors d = next (list_of MAX_SOCKET_SELECTORS p (codes "selectors") d) _ (list_member MAX_SOCKET_SELECTORS (codes "selectors") d)
-      (λ items. next (selector_list_of p items) _ (each (λ k before d. selector_of p k d) at_end 0 [] items (λ k before d. selector k d)) (λ texts. tt))
+  selector_list : (ds : List Data) → Fails (selector_list_of p ds)
+  unfolding selector_list_of
+  selector_list ds = each (λ k before d. selector_of p k d) at_end 0 [] ds (λ k before d. selector k d)
+
+  texts : (must : Bool) (d : Data) → Fails (texts_of must p d)
+  unfolding texts_of
+  texts must d = either must _ _
+      (next (list_of MAX_SOCKET_SELECTORS p (codes "selectors") d) (selector_list_of p) (list_member MAX_SOCKET_SELECTORS (codes "selectors") d) selector_list)
+      (maybe (λ v. list_at MAX_SOCKET_SELECTORS p v >>= selector_list_of p) [] (get (codes "selectors") d)
+      (λ v. next (list_at MAX_SOCKET_SELECTORS p v) (selector_list_of p) (list MAX_SOCKET_SELECTORS v) selector_list))
+
+  text : (d : Data) → Fails (text_at (fault.Kind p) d)
+  unfolding text_at
+  text d = needed (fault.Kind p) (as_str d) sited
+
+  id_maybe : (name : List ℕ) (d : Data) → Fails (id_of p name d)
+  unfolding id_of id_at
+  id_maybe name d = maybe (id_at p) None (get name d)
+      (λ v. next (number_at (fault.Kind p) v) _ (number v) (λ n. either (nat_lt MAX_ID n) (Err (fault.Kind p)) (Ok (Some n)) sited tt))
+
+  mode : (d : Data) → Fails (mode_at p d)
+  unfolding mode_at
+  mode d = next (text_at (fault.Kind p) d) _ (text d) (λ t. needed (fault.Kind p) (mode_of t) sited)
+
+  not_there : (name : List ℕ) (d : Data) → Fails (absent p name d)
+  unfolding absent
+  not_there name d = by (get name d)
+    where
+      by : (o : Option Data) → Fails (no_value p o)
+      by None = tt
+      by (Some v) = sited
+
+  room : (count more : ℕ) → Fails (room_for p count more)
+  unfolding room_for
+  room count more = either (nat_lt MAX_SOCKETS (count + more)) (Err (fault.TooMany p (count + more))) (Ok tt) sited tt
+
+  range : (k : ℕ) (d : Data) → Fails (range_at p k d)
+  unfolding range_at text_at config_place
+  range k d = next (text_at (fault.Kind (item_at p k)) d) _ (needed (fault.Kind (item_at p k)) (as_str d) sited) (λ t. needed (fault.Kind (item_at p k)) (range_of t) sited)
+
+  ranges : (ds : List Data) → Fails (ranges_at p ds)
+  unfolding ranges_at
+  ranges ds = each (λ k before d. range_at p k d) at_end 0 [] ds (λ k before d. range k d)
+
+  served : (name : List ℕ) (taken many : ℕ) (d : Data) → Fails (served_of p name taken many d)
+  unfolding served_of
+  served name taken many d = next (number_or DEFAULT_CONNECTIONS MAX_CONNECTIONS p name d) _ (number_maybe DEFAULT_CONNECTIONS MAX_CONNECTIONS name d)
+      (λ n. either (nat_lt MAX_ALL_CONNECTIONS (taken + many * n)) (Err (fault.TooMany p (taken + many * n))) (Ok n) sited tt)
 
 -- ---- places
 
@@ -121,22 +170,58 @@ socket i field named fits = item_named (codes "sockets") (socket_member field) i
 
 -- ---- sockets
 
-socket_path : (i : ℕ) (before : List SocketFact) (d : Data) → Fails (socket_path_of i before d)
-unfolding socket_path_of socket_member
-socket_path i before d = next (object_at (fault.Kind (at_socket i 0)) d) _ (object (at_socket i 0) (socket i 0 refl) d)
-    (λ _. next (path_of (at_socket i 1) (codes "path") d) _ (path_member (at_socket i 1) (socket i 1 refl) (codes "path") d)
-    (λ path. either (was_given before path) (Err (fault.Duplicate (at_socket i 1))) (Ok path) (socket i 1 refl) tt))
+guard : (i : ℕ) (d : Data) → Fails (guard_of i d)
+unfolding guard_of mode_in socket_member
+guard i d = next (id_of (at_socket i 4) (codes "owner") d) _ (id_maybe (at_socket i 4) (socket i 4 refl) (codes "owner") d)
+    (λ o. next (id_of (at_socket i 5) (codes "group") d) _ (id_maybe (at_socket i 5) (socket i 5 refl) (codes "group") d)
+    (λ g. next (mode_in i d) _ (maybe (mode_at (at_socket i 6)) DEFAULT_MODE (get (codes "mode") d) (mode (at_socket i 6) (socket i 6 refl))) (λ m. tt)))
 
-workers : (i taken : ℕ) (d : Data) → Fails (workers_of i taken d)
-unfolding workers_of socket_member
-workers i taken d = next (number_or DEFAULT_WORKERS MAX_WORKERS (at_socket i 2) (codes "workers") d) _ (number_maybe (at_socket i 2) (socket i 2 refl) DEFAULT_WORKERS MAX_WORKERS (codes "workers") d)
-    (λ n. either (nat_lt MAX_WORKERS (taken + n)) (Err (fault.TooMany (at_socket i 2) (taken + n))) (Ok n) (socket i 2 refl) tt)
+no_guard : (i : ℕ) (d : Data) → Fails (no_guard_of i d)
+unfolding no_guard_of socket_member
+no_guard i d = next (absent (at_socket i 4) (codes "owner") d) _ (not_there (at_socket i 4) (socket i 4 refl) (codes "owner") d)
+    (λ _. next (absent (at_socket i 5) (codes "group") d) _ (not_there (at_socket i 5) (socket i 5 refl) (codes "group") d)
+    (λ _. not_there (at_socket i 6) (socket i 6 refl) (codes "mode") d))
+
+uids : (i count : ℕ) (d : Data) → Fails (uids_of i count d)
+unfolding uids_of socket_member
+uids i count d = next (list_of MAX_SOCKETS (at_socket i 7) (codes "uids") d) _ (list_member (at_socket i 7) (socket i 7 refl) MAX_SOCKETS (codes "uids") d)
+    (λ items. next (ranges_at (at_socket i 7) items) _ (ranges (at_socket i 7) (socket i 7 refl) items)
+    (λ rs. next (room_for (at_socket i 7) count (length (flat_map numbers_of rs))) _ (room (at_socket i 7) (socket i 7 refl) count (length (flat_map numbers_of rs))) (λ _. tt)))
+
+own_file : (i count : ℕ) (path : List ℕ) (d : Data) → Fails (own_file_of i count path d)
+unfolding own_file_of socket_member config_member
+own_file i count path d = next (absent (at_socket i 7) (codes "uids") d) _ (not_there (at_socket i 7) (socket i 7 refl) (codes "uids") d)
+    (λ _. next (guard_of i d) _ (guard i d)
+    (λ g. next (room_for (at_top 5) count 1) _ (room (at_top 5) (top 5 refl) count 1) (λ _. tt)))
+
+uid_files : (i count : ℕ) (path : List ℕ) (at : ℕ) (d : Data) → Fails (uid_files_of i count path at d)
+unfolding uid_files_of
+uid_files i count path at d = next (no_guard_of i d) _ (no_guard i d) (λ _. next (uids_of i count d) _ (uids i count d) (λ us. tt))
+
+for_path : (i count : ℕ) (path marks : List ℕ) (d : Data) → Fails (paths_for i count path marks d)
+unfolding socket_member
+for_path i count path [] d = own_file i count path d
+for_path i count path (at ∷ []) d = uid_files i count path at d
+for_path i count path (at ∷ more ∷ rest) d = socket i 1 refl
+
+files : (i : ℕ) (before : List SocketFact) (d : Data) → Fails (files_of i before d)
+unfolding files_of socket_member
+files i before d = next (object_at (fault.Kind (at_socket i 0)) d) _ (object (at_socket i 0) (socket i 0 refl) d)
+    (λ _. next (path_of (at_socket i 1) (codes "path") d) _ (path_member (at_socket i 1) (socket i 1 refl) (codes "path") d)
+    (λ path. next (paths_for i (length before) path (marks_of path) d) _ (for_path i (length before) path (marks_of path) d)
+    (λ fs. either (are_new before fs) (Ok fs) (Err (fault.Duplicate (at_socket i 1))) tt (socket i 1 refl))))
+
+connections : (i taken many : ℕ) (d : Data) → Fails (connections_of i taken many d)
+unfolding connections_of socket_member
+connections i taken many d = either (says_workers d) _ _
+    (served (at_socket i 2) (socket i 2 refl) (codes "workers") taken many d)
+    (served (at_socket i 8) (socket i 8 refl) (codes "connections") taken many d)
 
 one_socket : (i : ℕ) (before : List SocketFact) (d : Data) → Fails (socket_of i before d)
 unfolding socket_of socket_member
-one_socket i before d = next (socket_path_of i before d) _ (socket_path i before d)
-    (λ path. next (workers_of i (rooms before) d) _ (workers i (rooms before) d)
-    (λ n. next (selectors_of (at_socket i 3) d) _ (selectors (at_socket i 3) (socket i 3 refl) d) (λ ss. tt)))
+one_socket i before d = next (files_of i before d) _ (files i before d)
+    (λ fs. next (connections_of i (rooms before) (length fs) d) _ (connections i (rooms before) (length fs) d)
+    (λ n. next (texts_of (some_plain fs) (at_socket i 3) d) _ (texts (at_socket i 3) (socket i 3 refl) (some_plain fs) d) (λ ts. tt)))
 
 -- ---- the top
 
@@ -168,13 +253,38 @@ seconds : (d : Data) → Fails (poll_seconds_of d)
 unfolding poll_seconds_of config_member
 seconds d = number_maybe (at_top 4) (top 4 refl) DEFAULT_POLL_SECONDS MAX_POLL_SECONDS (codes "poll_seconds") d
 
+signers : (d : Data) → Fails (signers_of d)
+unfolding signers_of config_member
+signers d = number_maybe (at_top 6) (top 6 refl) DEFAULT_SIGNERS MAX_SIGNERS (codes "signers") d
+
+level : (d : Data) → Fails (log_of d)
+unfolding log_of level_at config_member
+level d = maybe level_at log.Info (get (codes "log") d)
+    (λ v. next (text_at (fault.Kind (at_top 7)) v) _ (text (at_top 7) (top 7 refl) v) (λ t. needed (fault.Kind (at_top 7)) (level_of t) (top 7 refl)))
+
+root_path : (p : Place) (sited : InConfig p) (d : Data) → Fails (root_path_at p d)
+unfolding root_path_at
+root_path p sited d = next (path_at p d) _ (path p sited d) (λ t. either (starts_with nat_eq t (codes "/")) (Ok t) (Err (fault.Kind p)) tt sited)
+
+metrics : (d : Data) → Fails (metrics_of d)
+unfolding metrics_of config_member
+metrics d = maybe (λ member. root_path_at (at_top 8) member >>= λ path. Ok (Some path)) None (get (codes "metrics") d)
+    (λ v. next (root_path_at (at_top 8) v) (λ path. Ok (Some path)) (root_path (at_top 8) (top 8 refl) v) (λ path. tt))
+
+manner : (d : Data) → Fails (manner_of d)
+unfolding manner_of
+manner d = next (poll_seconds_of d) _ (seconds d)
+    (λ n. next (signers_of d) _ (signers d)
+    (λ k. next (log_of d) _ (level d)
+    (λ l. next (metrics_of d) _ (metrics d) (λ m. tt))))
+
 sockets : (d : Data) → Fails (config_sockets_of d)
 unfolding config_sockets_of sockets_of config_member
-sockets d = next (list_of MAX_SOCKETS (at_top 5) (codes "sockets") d) sockets_of (list_member (at_top 5) (top 5 refl) MAX_SOCKETS (codes "sockets") d) (λ ds. each socket_of at_end 0 [] ds one_socket)
+sockets d = next (list_of MAX_SOCKETS (at_top 5) (codes "sockets") d) sockets_of (list_member (at_top 5) (top 5 refl) MAX_SOCKETS (codes "sockets") d) (λ ds. each socket_of (λ before more. before ++ more) 0 [] ds one_socket)
 
 members : (d : Data) → Fails (config_of d)
 unfolding config_of
-members d = next (suppliers_of d) _ (suppliers d) (λ ss. next (poll_seconds_of d) _ (seconds d) (λ n. next (config_sockets_of d) _ (sockets d) (λ ss. tt)))
+members d = next (suppliers_of d) _ (suppliers d) (λ ss. next (manner_of d) _ (manner d) (λ m. next (config_sockets_of d) _ (sockets d) (λ ss. tt)))
 
 configuration : (bytes : List ℕ) → Fails (configuration_of bytes)
 unfolding configuration_of

@@ -53,6 +53,9 @@ config_member field =
     else if field == 3 then codes "signer"
     else if field == 4 then codes "poll_seconds"
     else if field == 5 then codes "sockets"
+    else if field == 6 then codes "signers"
+    else if field == 7 then codes "log"
+    else if field == 8 then codes "metrics"
     else codes "?"
 
 unfoldable pub socket_member : ℕ → List ℕ
@@ -61,6 +64,11 @@ socket_member field =
     else if field == 1 then codes ".path"
     else if field == 2 then codes ".workers"
     else if field == 3 then codes ".selectors"
+    else if field == 4 then codes ".owner"
+    else if field == 5 then codes ".group"
+    else if field == 6 then codes ".mode"
+    else if field == 7 then codes ".uids"
+    else if field == 8 then codes ".connections"
     else codes ".?"
 
 -- `NAME[INDEX]` and a member of that item

@@ -18,7 +18,7 @@ item_suffix kind p = if has_item kind p then codes "[" ++ decimal p.item ++ code
 
 -- the field's own array, or its first item
 unfoldable pub is_list : Place → Bool
-is_list p = (p.item == 0) && (((p.part == 2) && (nat_le 3 p.field && nat_le p.field 5)) || ((p.part == 4) && (p.field == 3)))
+is_list p = (p.item == 0) && (((p.part == 2) && (nat_le 3 p.field && nat_le p.field 5)) || ((p.part == 4) && ((p.field == 3) || (p.field == 7))))
 
 unfoldable pub kind_what : Place → List ℕ
 kind_what p =

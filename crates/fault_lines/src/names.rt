@@ -79,6 +79,9 @@ fn config_member(field: u64) -> &'static [u8]
         3 => b"signer",
         4 => b"poll_seconds",
         5 => b"sockets",
+        6 => b"signers",
+        7 => b"log",
+        8 => b"metrics",
         _ => b"?",
     }
 }
@@ -92,6 +95,11 @@ fn socket_member(field: u64) -> &'static [u8]
         1 => b".path",
         2 => b".workers",
         3 => b".selectors",
+        4 => b".owner",
+        5 => b".group",
+        6 => b".mode",
+        7 => b".uids",
+        8 => b".connections",
         _ => b".?",
     }
 }

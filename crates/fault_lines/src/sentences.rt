@@ -45,7 +45,7 @@ fn is_list(place: Place) -> bool
 {
     place.item == 0
         && ((place.part == 2 && (3 <= place.field && place.field <= 5))
-            || (place.part == 4 && place.field == 3))
+            || (place.part == 4 && (place.field == 3 || place.field == 7)))
 }
 
 #[tactic(auto, unfolding(crate::specs::Sentences::kind_what))]

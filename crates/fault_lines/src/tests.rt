@@ -109,7 +109,7 @@ const DOCUMENTS: [Case; 28] = [
     ("fault document 14", "document: memory ran out"),
 ];
 
-const CONFIGS: [Case; 11] = [
+const CONFIGS: [Case; 21] = [
     ("fault config 1", "configuration: is not JSON"),
     ("fault config 2", "version: is not 1"),
     ("fault config 3 0 0 2 0", "upstream or document: is missing"),
@@ -120,6 +120,43 @@ const CONFIGS: [Case; 11] = [
     (
         "fault config 4 4 1 3 0",
         "sockets[1].selectors: the list or its first item is of the wrong kind or out of range",
+    ),
+    (
+        "fault config 4 0 0 6 0",
+        "signers: is of the wrong kind or out of range",
+    ),
+    (
+        "fault config 4 0 0 7 0",
+        "log: is of the wrong kind or out of range",
+    ),
+    ("fault config 5 0 0 8 0", "metrics: is empty"),
+    (
+        "fault config 4 4 1 4 0",
+        "sockets[1].owner: is of the wrong kind or out of range",
+    ),
+    (
+        "fault config 4 4 1 5 0",
+        "sockets[1].group: is of the wrong kind or out of range",
+    ),
+    (
+        "fault config 4 4 1 6 0",
+        "sockets[1].mode: is of the wrong kind or out of range",
+    ),
+    (
+        "fault config 4 4 1 7 0",
+        "sockets[1].uids: the list or its first item is of the wrong kind or out of range",
+    ),
+    (
+        "fault config 4 4 1 7 2",
+        "sockets[1].uids[2]: is of the wrong kind or out of range",
+    ),
+    (
+        "fault config 7 4 1 7 0 65",
+        "sockets[1].uids: comes to 65, more than its limit",
+    ),
+    (
+        "fault config 7 4 2 8 0 65600",
+        "sockets[2].connections: comes to 65600, more than its limit",
     ),
     ("fault config 5 4 0 1 0", "sockets[0].path: is empty"),
     (

@@ -1,20 +1,25 @@
 -- A configuration (own rules): the checks in their order over the value that its JSON is (RFC 8259, the last of equal
 -- members); the first that fails is the fault.
-use Rattle.std.specs.Prelude.{ℕ, ◌<◌, ◌≤◌, ◌==◌, List, length, codes, nat_lt, if◌then◌else◌, Option, Some, None, IfSome, Result, Ok, Err}
+use Rattle.std.specs.Prelude.{◌≡◌, ℕ, ◌<◌, ◌≤◌, ◌==◌, List, length, codes, true, nat_eq, nat_lt, if◌then◌else◌, Option, Some, None, IfSome, Result, Ok, Err}
+use Rattle.std.specs.List.{starts_with}
+use Rattle.std.specs.Str.{bytes_eq}
 use Rattle.serde_json.specs.Data.{Data}
 use Rattle.serde_json.specs.Find.{get}
 use Rattle.list_laws.specs.Results.{◌>>=◌}
-use Rattle.json_members.specs.Members.{or_fault, required, optional, object_at, number_at}
+use Rattle.json_members.specs.Members.{or_fault, required, optional, object_at, number_at, text_at}
 use Rattle.json_members.specs.Texts.{value_of}
 use Rattle.wl_document.specs.Places.{at_top}
+use Rattle.wl_document.specs.declared.fault.Place.{Place}
 use Rattle.wl_config.specs.Members.{number_or, path_at, list_of}
 use Rattle.wl_config.specs.Sockets.{sockets_of, SocketsWithin}
 use Rattle.wl_config.specs.declared.config.SocketFact.{SocketFact}
 use Rattle.wl_config.specs.declared.config.DocumentSource.{DocumentSource}
 use Rattle.wl_config.specs.declared.config.DocumentSource.TheVariants.{Socket, File}
+use Rattle.wl_config.specs.declared.config.LogLevel.{LogLevel}
+use Rattle.wl_config.specs.declared.config.LogLevel.TheVariants as level
 use Rattle.wl_config.specs.declared.fault.ConfigFault.{ConfigFault}
 use Rattle.wl_config.specs.declared.fault.ConfigFault.TheVariants.{NotJson, Version, Missing, Kind, TooLong}
-use Rattle.wl_config.specs.declared.limits.TheConstants.{CONFIG_LIMIT, MAX_SOCKETS, MAX_POLL_SECONDS, DEFAULT_POLL_SECONDS}
+use Rattle.wl_config.specs.declared.limits.TheConstants.{CONFIG_LIMIT, MAX_SOCKETS, MAX_POLL_SECONDS, DEFAULT_POLL_SECONDS, MAX_SIGNERS, DEFAULT_SIGNERS}
 
 -- the path of a socket or of a file
 abbrev pub path_in : DocumentSource → List ℕ
@@ -25,6 +30,9 @@ pub record Configuration : Type 0 where
   pub documents : DocumentSource
   pub signer : Option (List ℕ)
   pub poll_seconds : ℕ
+  pub signers : ℕ
+  pub log : LogLevel
+  pub metrics : Option (List ℕ)
   pub sockets : List SocketFact
 
 -- the facts that every configuration has
@@ -33,6 +41,9 @@ pub record Within (c : Configuration) : Type 0 where
   pub signer : IfSome c.signer (λ path. 0 < length path)
   pub some_seconds : 0 < c.poll_seconds
   pub few_seconds : c.poll_seconds ≤ MAX_POLL_SECONDS
+  pub some_signers : 0 < c.signers
+  pub few_signers : c.signers ≤ MAX_SIGNERS
+  pub metrics : IfSome c.metrics (λ path. starts_with nat_eq path (codes "/") ≡ true)
   pub some_sockets : 0 < length c.sockets
   pub few_sockets : length c.sockets ≤ MAX_SOCKETS
   pub sockets : SocketsWithin c.sockets
@@ -75,6 +86,50 @@ suppliers_of d = do
 unfoldable pub poll_seconds_of : Data → Result ℕ ConfigFault
 poll_seconds_of d = number_or DEFAULT_POLL_SECONDS MAX_POLL_SECONDS (at_top 4) (codes "poll_seconds") d
 
+-- how many asks are under way at once: the default, where it is absent
+unfoldable pub signers_of : Data → Result ℕ ConfigFault
+signers_of d = number_or DEFAULT_SIGNERS MAX_SIGNERS (at_top 6) (codes "signers") d
+
+unfoldable pub level_of : List ℕ → Option LogLevel
+level_of text =
+    if bytes_eq text (codes "error") then Some level.Error
+    else if bytes_eq text (codes "warn") then Some level.Warn
+    else if bytes_eq text (codes "info") then Some level.Info
+    else if bytes_eq text (codes "debug") then Some level.Debug
+    else None
+
+unfoldable pub level_at : Data → Result LogLevel ConfigFault
+level_at d = text_at (Kind (at_top 7)) d >>= λ text. or_fault (Kind (at_top 7)) (level_of text)
+
+-- which events the log has: those of `info`, where it is absent
+unfoldable pub log_of : Data → Result LogLevel ConfigFault
+log_of d = optional level_at level.Info (get (codes "log") d)
+
+-- a path from the root
+unfoldable pub root_path_at : Place → Data → Result (List ℕ) ConfigFault
+root_path_at p d = do
+  path ← path_at p d
+  if starts_with nat_eq path (codes "/") then Ok path else Err (Kind p)
+
+-- the socket of the agent's figures, which may be left out
+unfoldable pub metrics_of : Data → Result (Option (List ℕ)) ConfigFault
+metrics_of d = optional (λ member. root_path_at (at_top 8) member >>= λ path. Ok (Some path)) None (get (codes "metrics") d)
+
+-- how the agent runs
+pub record Manner : Type 0 where
+  pub poll_seconds : ℕ
+  pub signers : ℕ
+  pub log : LogLevel
+  pub metrics : Option (List ℕ)
+
+unfoldable pub manner_of : Data → Result Manner ConfigFault
+manner_of d = do
+  poll_seconds ← poll_seconds_of d
+  signers ← signers_of d
+  log ← log_of d
+  metrics ← metrics_of d
+  Ok (record { poll_seconds = poll_seconds; signers = signers; log = log; metrics = metrics })
+
 -- at least one socket
 unfoldable pub config_sockets_of : Data → Result (List SocketFact) ConfigFault
 config_sockets_of d = list_of MAX_SOCKETS (at_top 5) (codes "sockets") d >>= sockets_of
@@ -83,9 +138,17 @@ config_sockets_of d = list_of MAX_SOCKETS (at_top 5) (codes "sockets") d >>= soc
 unfoldable pub config_of : Data → Result Configuration ConfigFault
 config_of d = do
   suppliers ← suppliers_of d
-  poll_seconds ← poll_seconds_of d
+  manner ← manner_of d
   sockets ← config_sockets_of d
-  Ok (record { documents = suppliers.documents; signer = suppliers.signer; poll_seconds = poll_seconds; sockets = sockets })
+  Ok (record {
+    documents = suppliers.documents;
+    signer = suppliers.signer;
+    poll_seconds = manner.poll_seconds;
+    signers = manner.signers;
+    log = manner.log;
+    metrics = manner.metrics;
+    sockets = sockets;
+  })
 
 -- the configuration that these bytes are
 unfoldable pub configuration_of : List ℕ → Result Configuration ConfigFault

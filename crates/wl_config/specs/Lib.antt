@@ -2,6 +2,9 @@
 pub mod Places
 pub mod Checks
 pub mod Members
+pub mod Guards
+pub mod Uids
+pub mod Files
 pub mod Sockets
 pub mod Configs
 pub mod Attested

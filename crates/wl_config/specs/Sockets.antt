@@ -1,8 +1,8 @@
 -- The sockets of a configuration (own rules), and the facts that each list of them has.
-use Rattle.std.specs.Prelude.{◌≡◌, ℕ, ◌+◌, ◌<◌, ◌≤◌, ◌&&◌, List, [], ◌∷◌, map, length, sum_by, codes, Bool, true, not, nat_lt, if◌then◌else◌, Result, Ok, Err}
+use Rattle.std.specs.Prelude.{◌≡◌, ℕ, ◌+◌, ◌*◌, ◌<◌, ◌≤◌, ◌&&◌, List, [], ◌∷◌, ◌++◌, map, length, sum_by, codes, decimal, Bool, true, is_some, is_none, nat_lt, if◌then◌else◌, Option, Some, None, Result, Ok, Err}
 use Rattle.std.specs.List.{list_any, AllByRecursion}
-use Rattle.std.specs.Str.{bytes_eq}
 use Rattle.serde_json.specs.Data.{Data}
+use Rattle.serde_json.specs.Find.{get}
 use Rattle.list_laws.specs.Results.{◌>>=◌}
 use Rattle.wl_selector.specs.Selectors.{selector_fault, sorted_texts}
 use Rattle.wl_document.specs.declared.fault.Place.{Place}
@@ -10,35 +10,37 @@ use Rattle.wl_document.specs.Places.{item_at}
 use Rattle.wl_config.specs.Places.{at_socket}
 use Rattle.wl_config.specs.Checks.{no_selector_fault}
 use Rattle.json_members.specs.Arrays.{each_from, at_end}
-use Rattle.json_members.specs.Members.{object_at, text_at}
-use Rattle.wl_config.specs.Members.{number_or, path_of, list_of}
+use Rattle.json_members.specs.Members.{optional, text_at}
+use Rattle.wl_config.specs.Members.{number_or, list_at, list_of}
+use Rattle.wl_config.specs.Files.{are_distinct, files_of}
 use Rattle.wl_config.specs.declared.config.SocketFact.{SocketFact}
+use Rattle.wl_config.specs.declared.files.SocketFile.{SocketFile}
 use Rattle.wl_config.specs.declared.fault.ConfigFault.{ConfigFault}
-use Rattle.wl_config.specs.declared.fault.ConfigFault.TheVariants.{Kind, TooMany, Duplicate}
-use Rattle.wl_config.specs.declared.limits.TheConstants.{MAX_SOCKET_SELECTORS, MAX_WORKERS, DEFAULT_WORKERS}
+use Rattle.wl_config.specs.declared.fault.ConfigFault.TheVariants.{Kind, TooMany}
+use Rattle.wl_config.specs.declared.limits.TheConstants.{MAX_SOCKET_SELECTORS, MAX_CONNECTIONS, MAX_ALL_CONNECTIONS, DEFAULT_CONNECTIONS}
 
--- ---- one socket, beside those before it
-
--- some socket before has this path
-unfoldable pub was_given : List SocketFact → List ℕ → Bool
-was_given before path = list_any (λ s. bytes_eq path s.path) before
-
--- a path that no socket before has
-unfoldable pub socket_path_of : ℕ → List SocketFact → Data → Result (List ℕ) ConfigFault
-socket_path_of i before d = do
-  object ← object_at (Kind (at_socket i 0)) d
-  path ← path_of (at_socket i 1) (codes "path") d
-  if was_given before path then Err (Duplicate (at_socket i 1)) else Ok path
+-- ---- connections
 
 -- how many connections these sockets serve at once, all together
 abbrev pub rooms : List SocketFact → ℕ
-rooms sockets = sum_by (λ s. s.workers) sockets
+rooms sockets = sum_by (λ s. s.connections) sockets
 
--- a room with which all of them do not pass the limit
-unfoldable pub workers_of : ℕ → ℕ → Data → Result ℕ ConfigFault
-workers_of i taken d = do
-  n ← number_or DEFAULT_WORKERS MAX_WORKERS (at_socket i 2) (codes "workers") d
-  if nat_lt MAX_WORKERS (taken + n) then Err (TooMany (at_socket i 2) (taken + n)) else Ok n
+-- a number with which each of so many sockets more serves as many, and all of them do not pass the limit
+unfoldable pub served_of : Place → List ℕ → ℕ → ℕ → Data → Result ℕ ConfigFault
+served_of p name taken many d = do
+  n ← number_or DEFAULT_CONNECTIONS MAX_CONNECTIONS p name d
+  if nat_lt MAX_ALL_CONNECTIONS (taken + many * n) then Err (TooMany p (taken + many * n)) else Ok n
+
+-- `workers` is what `connections` was called: it is read where `connections` is not there
+unfoldable pub says_workers : Data → Bool
+says_workers d = is_none (get (codes "connections") d) && is_some (get (codes "workers") d)
+
+unfoldable pub connections_of : ℕ → ℕ → ℕ → Data → Result ℕ ConfigFault
+connections_of i taken many d =
+    if says_workers d then served_of (at_socket i 2) (codes "workers") taken many d
+    else served_of (at_socket i 8) (codes "connections") taken many d
+
+-- ---- selectors
 
 -- `type:value` in UTF-8
 unfoldable pub selector_of : Place → ℕ → Data → Result (List ℕ) ConfigFault
@@ -47,39 +49,54 @@ selector_of p k d = text_at (Kind (item_at p k)) d >>= λ text. no_selector_faul
 unfoldable pub selector_list_of : Place → List Data → Result (List (List ℕ)) ConfigFault
 selector_list_of p ds = each_from (λ k before d. selector_of p k d) at_end 0 [] ds
 
--- Repeated ones count once in the set and each in the length.
-unfoldable pub selectors_of : Place → Data → Result (List (List ℕ)) ConfigFault
-selectors_of p d = do
-  items ← list_of MAX_SOCKET_SELECTORS p (codes "selectors") d
-  texts ← selector_list_of p items
-  Ok (sorted_texts texts)
+-- They have to be there, or they may be left out.
+unfoldable pub texts_of : Bool → Place → Data → Result (List (List ℕ)) ConfigFault
+texts_of needed p d =
+    if needed then list_of MAX_SOCKET_SELECTORS p (codes "selectors") d >>= selector_list_of p
+    else optional (λ v. list_at MAX_SOCKET_SELECTORS p v >>= selector_list_of p) [] (get (codes "selectors") d)
 
--- the socket at this index
-unfoldable pub socket_of : ℕ → List SocketFact → Data → Result SocketFact ConfigFault
+-- what a socket of a uid says of its callers beside `selectors`
+abbrev pub own_selectors : Option ℕ → List (List ℕ)
+own_selectors None = []
+own_selectors (Some uid) = (codes "unix:uid:" ++ decimal uid) ∷ []
+
+-- ---- one item of the array, beside the sockets before it
+
+-- Repeated selectors count once in the set and each in the length.
+abbrev pub fact_of : ℕ → List (List ℕ) → SocketFile → SocketFact
+fact_of connections texts file = record {
+  path = file.path;
+  guard = file.guard;
+  connections = connections;
+  selectors = sorted_texts (texts ++ own_selectors file.uid);
+}
+
+-- some file has no selector of its own
+abbrev pub some_plain : List SocketFile → Bool
+some_plain files = list_any (λ f. is_none f.uid) files
+
+-- the sockets of the item at this index, in the order of their uids
+unfoldable pub socket_of : ℕ → List SocketFact → Data → Result (List SocketFact) ConfigFault
 socket_of i before d = do
-  path ← socket_path_of i before d
-  workers ← workers_of i (rooms before) d
-  selectors ← selectors_of (at_socket i 3) d
-  Ok (record { path = path; workers = workers; selectors = selectors })
+  files ← files_of i before d
+  connections ← connections_of i (rooms before) (length files) d
+  texts ← texts_of (some_plain files) (at_socket i 3) d
+  Ok (map (fact_of connections texts) files)
 
 -- ---- all sockets
 
 unfoldable pub sockets_of : List Data → Result (List SocketFact) ConfigFault
-sockets_of ds = each_from socket_of at_end 0 [] ds
+sockets_of ds = each_from socket_of (λ before more. before ++ more) 0 [] ds
 
--- no two are the same bytes
-abbrev pub are_distinct : List (List ℕ) → Bool
-are_distinct [] = true
-are_distinct (p ∷ ps) = not (list_any (λ q. bytes_eq q p) ps) && are_distinct ps
-
--- A socket has a path and a room, and not too many selectors.
+-- A socket has a path and a room, and not too many selectors: its own beside those of `selectors`.
 pub record SocketWithin (s : SocketFact) : Type 0 where
   pub path : 0 < length s.path
-  pub workers : 0 < s.workers
-  pub selectors : length s.selectors ≤ MAX_SOCKET_SELECTORS
+  pub some_connections : 0 < s.connections
+  pub few_connections : s.connections ≤ MAX_CONNECTIONS
+  pub selectors : length s.selectors ≤ MAX_SOCKET_SELECTORS + 1
 
 -- So has each of them; their paths are distinct, and their rooms together are within the limit.
 pub record SocketsWithin (sockets : List SocketFact) : Type 0 where
   pub each : AllByRecursion SocketWithin sockets
   pub distinct : are_distinct (map (λ s. s.path) sockets) ≡ true
-  pub room : rooms sockets ≤ MAX_WORKERS
+  pub room : rooms sockets ≤ MAX_ALL_CONNECTIONS

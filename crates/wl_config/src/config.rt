@@ -4,12 +4,25 @@ use std::marker::Model;
 use wl_octets::{Octets, Row};
 use wl_selector::Selectors;
 
+/// Who may open a socket's file, and so connect to it.
+#[derive(Clone, Copy, Debug, Drop, PartialEq, Eq)]
+pub struct SocketGuard {
+    /// The uid that owns the file; the agent's own where there is none.
+    pub owner: Option<u32>,
+    /// Its group; the agent's own where there is none.
+    pub group: Option<u32>,
+    /// Its permission bits, at most 0o777.
+    pub mode: u32,
+}
+
 /// A socket on which the agent listens.
 #[derive(Drop, PartialEq)]
 pub struct SocketFact {
     pub path: Octets,
-    /// The room of the socket: how many connections it serves at once.
-    pub workers: u32,
+    /// Who may connect to it.
+    pub guard: SocketGuard,
+    /// How many connections it serves at once.
+    pub connections: u32,
     /// The selectors of each caller that connects to it.
     pub selectors: Selectors,
 }
@@ -23,8 +36,17 @@ pub enum DocumentSource {
     File(Octets),
 }
 
-/// A configuration within its limits: paths are not empty, those of the sockets are distinct, and the rooms of all
-/// sockets together are at most [`MAX_WORKERS`](crate::MAX_WORKERS).
+/// Which events the agent's log has: each level has those of the levels before it.
+#[derive(Clone, Copy, Debug, Drop, PartialEq, Eq)]
+pub enum LogLevel {
+    Error,
+    Warn,
+    Info,
+    Debug,
+}
+
+/// A configuration within its limits: paths are not empty, those of the sockets are distinct, and all sockets together
+/// serve at most [`MAX_ALL_CONNECTIONS`](crate::MAX_ALL_CONNECTIONS) connections.
 #[derive(Drop)]
 pub struct Config {
     /// Where documents come from.
@@ -33,7 +55,13 @@ pub struct Config {
     pub signer: Option<Octets>,
     /// How many seconds lie between two rounds of upkeep.
     pub poll_seconds: u32,
-    /// The sockets, in the order in which the configuration gives them.
+    /// How many asks of the signer are under way at once.
+    pub signers: u32,
+    /// Which events the log has.
+    pub log: LogLevel,
+    /// The path, from the root, of the socket at which the agent's figures can be read. Without it there is none.
+    pub metrics: Option<Octets>,
+    /// The sockets, in the order in which the configuration gives them, those of an item with uids by their order.
     pub sockets: Row<SocketFact>,
 }
 
@@ -42,7 +70,7 @@ impl Model for Config {
 
     ghost Value = { Configuration };
 
-    ghost view = { λ c. record { documents = c.documents; signer = c.signer; poll_seconds = c.poll_seconds; sockets = c.sockets } };
+    ghost view = { λ c. record { documents = c.documents; signer = c.signer; poll_seconds = c.poll_seconds; signers = c.signers; log = c.log; metrics = c.metrics; sockets = c.sockets } };
 
-    ghost invariant = { λ c. Within (record { documents = c.documents; signer = c.signer; poll_seconds = c.poll_seconds; sockets = c.sockets }) };
+    ghost invariant = { λ c. Within (record { documents = c.documents; signer = c.signer; poll_seconds = c.poll_seconds; signers = c.signers; log = c.log; metrics = c.metrics; sockets = c.sockets }) };
 }

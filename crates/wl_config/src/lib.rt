@@ -7,6 +7,10 @@
 mod attestor;
 mod config;
 mod fault;
+#[cfg(test)]
+mod fault_tests;
+mod files;
+mod guards;
 mod limits;
 mod members;
 mod places;
@@ -15,9 +19,13 @@ mod selectors;
 mod sockets;
 #[cfg(test)]
 mod tests;
+mod uids;
 
 pub use attestor::SocketAttestor;
-pub use config::{Config, DocumentSource, SocketFact};
+pub use config::{Config, DocumentSource, LogLevel, SocketFact, SocketGuard};
 pub use fault::ConfigFault;
-pub use limits::{CONFIG_LIMIT, MAX_SOCKET_SELECTORS, MAX_SOCKETS, MAX_WORKERS};
+pub use limits::{
+    CONFIG_LIMIT, DEFAULT_MODE, MAX_ALL_CONNECTIONS, MAX_CONNECTIONS, MAX_ID, MAX_SIGNERS,
+    MAX_SOCKET_SELECTORS, MAX_SOCKETS,
+};
 pub use read::read_config;

@@ -2,15 +2,25 @@
 
 /// How many bytes a configuration has at most.
 pub const CONFIG_LIMIT: usize = 1_048_576;
-/// How many sockets there are at most.
-pub const MAX_SOCKETS: usize = 8;
-/// How many selectors a socket has at most, repeats counted.
+/// How many sockets there are at most, one for each uid counted.
+pub const MAX_SOCKETS: usize = 64;
+/// How many selectors `selectors` of a socket has at most, repeats counted.
 pub const MAX_SOCKET_SELECTORS: usize = 256;
+/// How many connections a socket serves at once at most.
+pub const MAX_CONNECTIONS: u32 = 16_384;
 /// How many connections all sockets together serve at once at most.
-pub const MAX_WORKERS: u32 = 32;
+pub const MAX_ALL_CONNECTIONS: u32 = 65_536;
 /// How many connections a socket serves at once where it does not say.
-pub const DEFAULT_WORKERS: u32 = 4;
+pub const DEFAULT_CONNECTIONS: u32 = 64;
+/// The greatest number of a user or a group: all bits set stand for "unchanged" (chown of POSIX).
+pub const MAX_ID: u32 = 4_294_967_294;
+/// The mode of a socket's file where it does not say: read and write for its owner.
+pub const DEFAULT_MODE: u32 = 0o600;
 /// How many seconds lie between two rounds of upkeep at most: an hour.
 pub const MAX_POLL_SECONDS: u32 = 3_600;
 /// The same where the configuration does not say.
 pub const DEFAULT_POLL_SECONDS: u32 = 5;
+/// How many asks of the signer are under way at once at most.
+pub const MAX_SIGNERS: u32 = 16;
+/// The same where the configuration does not say.
+pub const DEFAULT_SIGNERS: u32 = 4;

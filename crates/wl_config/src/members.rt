@@ -80,7 +80,7 @@ pub(crate) fn path_of(
 
 /// An array of at least one item and at most so many.
 #[tactic(auto, unfolding(crate::specs::Members::list_at))]
-fn list_at(limit: usize, place: Place, value: &Value) -> Result<&[Value], ConfigFault>
+pub(crate) fn list_at(limit: usize, place: Place, value: &Value) -> Result<&[Value], ConfigFault>
     ensures value { Gives (λ v. map view v.now) result (list_at limit place (view value.now)) }
     ensures some { IfOk result (λ v. 0 < length v.now) }
     ensures few { IfOk result (λ v. length v.now ≤ limit) }

@@ -1,24 +1,28 @@
 //! A configuration, read.
 
-ghost use Rattle.std.specs.Prelude.{◌≡◌, ℕ, ◌<◌, ◌≤◌, length, IfOk, IfSome};
+ghost use Rattle.std.specs.Prelude.{◌≡◌, ℕ, ◌<◌, ◌≤◌, length, codes, true, nat_eq, IfOk, IfSome};
+ghost use Rattle.std.specs.List.{starts_with};
 ghost use Rattle.serde_json.specs.View.{view};
 ghost use Rattle.json_members.specs.Members.{or_fault};
 ghost use Rattle.json_members.specs.Texts.{value_of};
 ghost use Rattle.wl_config.specs.Checks.{Gives};
-ghost use Rattle.wl_config.specs.declared.limits.TheConstants.{MAX_SOCKETS, MAX_POLL_SECONDS};
+ghost use Rattle.wl_config.specs.declared.limits.TheConstants.{MAX_SOCKETS, MAX_POLL_SECONDS, MAX_SIGNERS};
 ghost use Rattle.wl_config.specs.Sockets.{SocketsWithin};
-ghost use Rattle.wl_config.specs.Configs.{path_in, version_of, source_of, signer_of, suppliers_of, poll_seconds_of, config_sockets_of, config_of, configuration_of};
+ghost use Rattle.wl_config.specs.Configs.{path_in, version_of, source_of, signer_of, suppliers_of, poll_seconds_of, signers_of, level_of, level_at, log_of, root_path_at, metrics_of, manner_of, config_sockets_of, config_of, configuration_of};
 ghost use Rattle.wl_config.specs.declared.fault.ConfigFault.TheVariants.{NotJson};
 
-use crate::config::{Config, DocumentSource, SocketFact};
+use crate::config::{Config, DocumentSource, LogLevel, SocketFact};
 use crate::fault::ConfigFault;
-use crate::limits::{CONFIG_LIMIT, DEFAULT_POLL_SECONDS, MAX_POLL_SECONDS, MAX_SOCKETS};
+use crate::limits::{
+    CONFIG_LIMIT, DEFAULT_POLL_SECONDS, DEFAULT_SIGNERS, MAX_POLL_SECONDS, MAX_SIGNERS, MAX_SOCKETS,
+};
 use crate::members::{list_of, number_or, path_at};
 use crate::places::top_place;
 use crate::sockets::sockets;
-use json_members::{json_value, number_at, object_at, required};
+use json_members::{json_value, number_at, object_at, required, text_at};
 use serde_json::Value;
 use std::alloc::Global;
+use wl_document::Place;
 use wl_octets::{Octets, Row};
 
 /// The version, which is 1.
@@ -120,18 +124,129 @@ fn poll_seconds(value: &Value) -> Result<u32, ConfigFault>
     )
 }
 
+/// How many asks of the signer are under way at once.
+#[tactic(auto, unfolding(crate::specs::Configs::signers_of))]
+fn signers(value: &Value) -> Result<u32, ConfigFault>
+    ensures value { Gives (λ n. n) result (signers_of (view value.now)) }
+    ensures some { IfOk result (λ n. 0 < n) }
+    ensures few { IfOk result (λ n. n ≤ MAX_SIGNERS) }
+{
+    number_or(DEFAULT_SIGNERS, MAX_SIGNERS, top_place(6), "signers", value)
+}
+
+/// The level of this name.
+#[tactic(auto, unfolding(crate::specs::Configs::level_of))]
+fn level(name: &[u8]) -> Option<LogLevel>
+    ensures { result ≡ level_of name.now }
+{
+    if name == b"error".as_slice() {
+        Some(LogLevel::Error)
+    } else if name == b"warn".as_slice() {
+        Some(LogLevel::Warn)
+    } else if name == b"info".as_slice() {
+        Some(LogLevel::Info)
+    } else if name == b"debug".as_slice() {
+        Some(LogLevel::Debug)
+    } else {
+        None
+    }
+}
+
+/// The level that a value names.
+#[tactic(auto, unfolding(crate::specs::Configs::level_at))]
+fn level_at(value: &Value) -> Result<LogLevel, ConfigFault>
+    ensures { Gives (λ l. l) result (level_at (view value.now)) }
+{
+    let fault = ConfigFault::Kind(top_place(7));
+    match level(text_at(fault, value)?.as_bytes()) {
+        Some(level) => Ok(level),
+        None => Err(fault),
+    }
+}
+
+/// Which events the log has.
+#[tactic(auto, unfolding(crate::specs::Configs::log_of))]
+fn log(value: &Value) -> Result<LogLevel, ConfigFault>
+    ensures { Gives (λ l. l) result (log_of (view value.now)) }
+{
+    match value.get("log") {
+        Some(member) => level_at(member),
+        None => Ok(LogLevel::Info),
+    }
+}
+
+/// A path from the root.
+#[tactic(auto, unfolding(crate::specs::Configs::root_path_at))]
+fn root_path_at(alloc: Global, place: Place, value: &Value) -> Result<Octets, ConfigFault>
+    ensures value { Gives (λ o. o) result (root_path_at place (view value.now)) }
+    ensures root { IfOk result (λ o. starts_with nat_eq o (codes "/") ≡ true) }
+{
+    let path = path_at(alloc, place, value)?;
+    if path.as_slice().starts_with(b"/") {
+        Ok(path)
+    } else {
+        Err(ConfigFault::Kind(place))
+    }
+}
+
+/// The path of the socket of the agent's figures, where it is given.
+#[tactic(auto, unfolding(crate::specs::Configs::metrics_of))]
+fn metrics(alloc: Global, value: &Value) -> Result<Option<Octets>, ConfigFault>
+    ensures value { Gives (λ m. m) result (metrics_of (view value.now)) }
+    ensures root { IfOk result (λ m. IfSome m (λ path. starts_with nat_eq path (codes "/") ≡ true)) }
+{
+    match value.get("metrics") {
+        Some(member) => Ok(Some(root_path_at(alloc, top_place(8), member)?)),
+        None => Ok(None),
+    }
+}
+
+/// How the agent runs.
+#[derive(Drop)]
+struct Manner {
+    poll_seconds: u32,
+    signers: u32,
+    log: LogLevel,
+    metrics: Option<Octets>,
+}
+
+/// The other members of the top, without the sockets: how the agent runs.
+#[tactic(auto, unfolding(crate::specs::Configs::manner_of))]
+fn other_members(alloc: Global, value: &Value) -> Result<Manner, ConfigFault>
+    ensures value { Gives (λ m. record { poll_seconds = m.poll_seconds; signers = m.signers; log = m.log; metrics = m.metrics }) result (manner_of (view value.now)) }
+    ensures some_seconds { IfOk result (λ m. 0 < m.poll_seconds) }
+    ensures few_seconds { IfOk result (λ m. m.poll_seconds ≤ MAX_POLL_SECONDS) }
+    ensures some_signers { IfOk result (λ m. 0 < m.signers) }
+    ensures few_signers { IfOk result (λ m. m.signers ≤ MAX_SIGNERS) }
+    ensures metrics { IfOk result (λ m. IfSome m.metrics (λ path. starts_with nat_eq path (codes "/") ≡ true)) }
+{
+    let poll_seconds = poll_seconds(value)?;
+    let signers = signers(value)?;
+    let log = log(value)?;
+    let metrics = metrics(alloc, value)?;
+    Ok(Manner {
+        poll_seconds,
+        signers,
+        log,
+        metrics,
+    })
+}
+
 /// The configuration that a value's members name.
 #[tactic(auto, unfolding(crate::specs::Configs::config_of))]
 fn config(alloc: Global, value: &Value) -> Result<Config, ConfigFault>
     ensures { Gives (λ c. c) result (config_of (view value.now)) }
 {
     let suppliers = first_members(alloc, value)?;
-    let poll_seconds = poll_seconds(value)?;
+    let manner = other_members(alloc, value)?;
     let sockets = config_sockets(alloc, value)?;
     Ok(Config {
         documents: suppliers.documents,
         signer: suppliers.signer,
-        poll_seconds,
+        poll_seconds: manner.poll_seconds,
+        signers: manner.signers,
+        log: manner.log,
+        metrics: manner.metrics,
         sockets: Row::from_vec(sockets),
     })
 }

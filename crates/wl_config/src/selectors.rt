@@ -1,19 +1,23 @@
 //! The selectors of a socket.
 
-ghost use Rattle.std.specs.Prelude.{◌≡◌, ℕ, ◌<◌, ◌≤◌, length, map, IfOk};
+ghost use Rattle.std.specs.Prelude.{◌≡◌, ℕ, ◌+◌, ◌<◌, ◌≤◌, ◌++◌, length, map, codes, decimal, IfOk};
 ghost use Rattle.serde_json.specs.View.{view};
 ghost use Rattle.wl_config.specs.declared.limits.TheConstants.{MAX_SOCKET_SELECTORS};
 ghost use Rattle.wl_config.specs.Checks.{Gives, selector_fault_at};
-ghost use Rattle.wl_config.specs.Sockets.{selector_of, selector_list_of, selectors_of};
+ghost use Rattle.wl_config.specs.Sockets.{selector_of, selector_list_of, texts_of, own_selectors};
+ghost use Rattle.wl_selector.specs.Selectors.{sorted_texts};
+ghost use Rattle.wl_selector.specs.declared.faults.SelectorFault.TheVariants as faults;
 
 use crate::fault::ConfigFault;
 use crate::limits::MAX_SOCKET_SELECTORS;
-use crate::members::list_of;
+use crate::members::{list_at, list_of};
 use crate::places::item_place;
 use json_members::text_at;
 use serde_json::Value;
 use std::alloc::Global;
+use std::string::ToString;
 use wl_document::Place;
+use wl_octets::{Memory, Octets, clone_all};
 use wl_selector::{Selector, SelectorFault, Selectors, SelectorsFault};
 
 /// The fault of a member whose text has this fault.
@@ -58,21 +62,76 @@ fn selector_list(
     Ok(done)
 }
 
-/// The selectors of a socket, as a set.
-#[tactic(auto, unfolding(crate::specs::Sockets::selectors_of))]
-pub(crate) fn selectors(
+/// The selectors that a socket names. They have to be there, or they may be left out.
+#[tactic(auto, unfolding(crate::specs::Sockets::texts_of))]
+pub(crate) fn texts(
     alloc: Global,
+    needed: bool,
     place: Place,
     value: &Value,
-) -> Result<Selectors, ConfigFault>
-    ensures value { Gives (λ s. s) result (selectors_of place (view value.now)) }
-    ensures few { IfOk result (λ s. length s ≤ MAX_SOCKET_SELECTORS) }
+) -> Result<Vec<Selector>, ConfigFault>
+    ensures value { Gives (λ v. v.items) result (texts_of needed place (view value.now)) }
+    ensures few { IfOk result (λ v. length v.items ≤ MAX_SOCKET_SELECTORS) }
 {
-    let values = list_of(MAX_SOCKET_SELECTORS, place, "selectors", value)?;
-    let items = selector_list(alloc, place, values)?;
-    match Selectors::from_list(alloc, items, MAX_SOCKET_SELECTORS as u32) {
+    if needed {
+        let values = list_of(MAX_SOCKET_SELECTORS, place, "selectors", value)?;
+        return selector_list(alloc, place, values);
+    }
+    match value.get("selectors") {
+        Some(member) => {
+            selector_list(alloc, place, list_at(MAX_SOCKET_SELECTORS, place, member)?)
+        }
+        None => Ok(Vec::new(alloc)),
+    }
+}
+
+/// The text of a uid's selector.
+fn uid_text(alloc: Global, uid: u32) -> Result<Octets, Memory>
+    ensures { IfOk result (λ o. o ≡ codes "unix:uid:" ++ decimal uid) }
+{
+    let mut text = Octets::from_slice(alloc, b"unix:uid:")?;
+    text.push_slice(u64::from(uid).to_string(alloc)?.as_bytes())?;
+    Ok(text)
+}
+
+/// The fault of a text that is a selector: memory ran out.
+fn only_memory(fault: SelectorFault) -> Memory
+    requires { fault ≡ faults.Memory }
+{
+    match fault {
+        SelectorFault::Memory => Memory,
+        _ => unreachable!(),
+    }
+}
+
+/// The selector of a uid.
+fn uid_selector(alloc: Global, uid: u32) -> Result<Selector, Memory>
+    ensures { IfOk result (λ s. s ≡ codes "unix:uid:" ++ decimal uid) }
+{
+    let text = uid_text(alloc, uid)?;
+    match Selector::parse(alloc, text.as_slice()) {
+        Ok(selector) => Ok(selector),
+        Err(fault) => Err(only_memory(fault)),
+    }
+}
+
+/// These selectors, and that of the uid where there is one, as a set.
+pub(crate) fn selectors_with(
+    alloc: Global,
+    texts: &[Selector],
+    uid: Option<u32>,
+) -> Result<Selectors, Memory>
+    requires { length texts.now ≤ MAX_SOCKET_SELECTORS }
+    ensures value { IfOk result (λ s. s ≡ sorted_texts (texts.now ++ own_selectors uid)) }
+    ensures few { IfOk result (λ s. length s ≤ MAX_SOCKET_SELECTORS + 1) }
+{
+    let mut items = clone_all(alloc, texts)?.into_vec();
+    if let Some(uid) = uid {
+        items.push(uid_selector(alloc, uid)?)?;
+    }
+    match Selectors::from_list(alloc, items, MAX_SOCKET_SELECTORS as u32 + 1) {
         Ok(selectors) => Ok(selectors),
         Err(SelectorsFault::TooMany(_)) => unreachable!(),
-        Err(SelectorsFault::Memory) => Err(ConfigFault::Memory),
+        Err(SelectorsFault::Memory) => Err(Memory),
     }
 }

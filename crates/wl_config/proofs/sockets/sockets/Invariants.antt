@@ -1,8 +1,13 @@
-use Rattle.std.proofs.Common.{◌≡◌, [], length}
-use Rattle.json_members.specs.Arrays.{at_end}
+use Rattle.std.proofs.Common.{◌≡◌, ◌<◌, ◌≤◌, [], ◌++◌, length}
 use Rattle.json_members.proofs.Walks.{Reached}
 use Rattle.wl_config.specs.Sockets.{rooms, socket_of, SocketsWithin}
 use Rattle.wl_config.proofs.sockets.sockets.Given as goal
 
 abbrev pub invariant-loop-value : goal.invariant-loop-value
-invariant-loop-value l = Reached socket_of at_end [] l.values l.index l.value-index l.done.items × SocketsWithin l.done.items × (l.taken ≡ rooms l.done.items) × (length l.done.items ≡ l.value-index)
+invariant-loop-value l = record {
+  read : Reached socket_of (λ before more. before ++ more) [] l.values l.index l.value-index l.done.items;
+  within : SocketsWithin l.done.items;
+  taken : l.taken ≡ rooms l.done.items;
+  few : length l.done.items ≤ 64;
+  some : 0 < l.value-index → 0 < length l.done.items;
+}
