@@ -14,6 +14,7 @@ mod file;
 #[cfg(test)]
 mod file_tests;
 mod gate;
+mod hidden;
 mod link;
 mod listener;
 mod output;
@@ -27,7 +28,7 @@ mod told_stream;
 mod upstream;
 
 pub use bell::RealBell;
-pub use binding::{BindFault, bind, bind_all};
+pub use binding::{BindFault, Guard, bind, bind_all};
 pub use clock::RealClock;
 pub use command_line::words;
 pub use dialed::{Address, DialedLink};

@@ -4,13 +4,14 @@ ghost use Rattle.std.specs.Prelude.{◌≡◌, [], Some, IfOk};
 ghost use Rattle.wl_edge.specs.Listeners.{HasOpenLink};
 
 use crate::{
-    BindFault, DialedLink, RealBell, RealClock, RealGate, RealLink, RealListener, RealReady,
+    BindFault, DialedLink, Guard, RealBell, RealClock, RealGate, RealLink, RealListener, RealReady,
     RealUpstream, bind, bind_all,
 };
 use std::alloc::{AllocGlobal, Global};
 use std::fs::Files;
 use std::io::{Read, Write};
 use std::net::Net;
+use std::os::unix::fs::PermissionsExt;
 use std::os::unix::net::{UnixListener, UnixStream};
 use std::test::Fail;
 use std::time::{Duration, Instant};
@@ -50,11 +51,18 @@ fn next_link(listener: &mut RealListener) -> Result<RealLink, Fail> {
     }
 }
 
+/// Read and write for the process's own user.
+const OWN: Guard = Guard {
+    owner: None,
+    group: None,
+    mode: 0o600,
+};
+
 /// A listener at this path.
-pub(crate) fn bound<R: Files + Net>(rt: &R, path: &str) -> Result<RealListener, Fail>
+pub(crate) fn bound<R: AllocGlobal + Files + Net>(rt: &R, path: &str) -> Result<RealListener, Fail>
     ensures { IfOk result (λ l. ⟦<RealListener as Listener>⟧.told l ≡ Some (record { kinds = []; finished = [] })) }
 {
-    match bind(rt, path) {
+    match bind(rt, rt.alloc(), path, OWN) {
         Ok(listener) => Ok(listener),
         Err(_) => Err("bind")?,
     }
@@ -63,7 +71,7 @@ pub(crate) fn bound<R: Files + Net>(rt: &R, path: &str) -> Result<RealListener, 
 /// Whether a file that is no socket stays.
 fn leaves_a_file<R: AllocGlobal + Files + Net>(rt: &R, path: &str) -> Result<bool, Fail> {
     fs::write(rt, path, "abc")?;
-    let refused = bind(rt, path).err();
+    let refused = bind(rt, rt.alloc(), path, OWN).err();
     let text = fs::read_to_string(rt, path)?;
     fs::remove_file(rt, path)?;
     Ok(refused == Some(BindFault::NotASocket) && text.as_str() == "abc")
@@ -72,8 +80,9 @@ fn leaves_a_file<R: AllocGlobal + Files + Net>(rt: &R, path: &str) -> Result<boo
 /// Whether nobody else can listen where one listens.
 fn is_taken<R: Files + Net>(rt: &R, alloc: Global, path: &str) -> Result<bool, Fail> {
     let paths = [String::from_str(alloc, path)?];
-    let all = bind_all(rt, alloc, &paths).err();
-    Ok(all == Some((0, BindFault::Taken)) && bind(rt, path).err() == Some(BindFault::Taken))
+    let all = bind_all(rt, alloc, &paths, OWN).err();
+    let one = bind(rt, alloc, path, OWN).err();
+    Ok(all == Some((0, BindFault::Taken)) && one == Some(BindFault::Taken))
 }
 
 #[test]
@@ -86,6 +95,37 @@ fn a_listener_replaces_what_is_stale(rt: HostRuntime) -> Result<(), Fail> {
     drop(listener);
     drop(bound(&rt, path.as_str())?);
     fs::remove_file(&rt, path.as_str())?;
+    Ok(())
+}
+
+/// Whether nothing stands beside a socket in its folder, and the socket's file has this mode.
+fn stands_alone(rt: &HostRuntime, folder: &str, path: &str, mode: u32) -> Result<bool, Fail> {
+    let mut count: u32 = 0;
+    for entry in fs::read_dir(rt, folder)? {
+        entry?;
+        count = count.saturating_add(1);
+    }
+    let found = fs::symlink_metadata(rt, path)?.permissions().mode();
+    Ok(count == 1 && found & 0o777 == mode)
+}
+
+/// The umask takes no bit of a mode away, and the hidden folder is gone, whatever name it found.
+#[test]
+fn a_socket_has_its_mode(rt: HostRuntime) -> Result<(), Fail> {
+    let folder = path_of(&rt, "guarded")?;
+    fs::create_dir(&rt, folder.as_str())?;
+    let path = format!(in rt.alloc(); "{folder}/w.sock")?;
+    for mode in [0o600, 0o666, 0o777, 0o660, 0] {
+        let guard = Guard { mode, ..OWN };
+        let listener = bind(&rt, rt.alloc(), path.as_str(), guard).map_err(|_| "bind")?;
+        assert!(rt;
+            stands_alone(&rt, folder.as_str(), path.as_str(), mode)?,
+            "{mode}"
+        );
+        drop(listener);
+        fs::remove_file(&rt, path.as_str())?;
+    }
+    fs::remove_dir(&rt, folder.as_str())?;
     Ok(())
 }
 
@@ -190,7 +230,7 @@ fn next_told(alloc: Global, ready: &mut RealReady) -> Result<Row<u32>, Fail> {
 fn a_watcher_tells_of_links_and_a_bell_of_all(rt: HostRuntime) -> Result<(), Fail> {
     let alloc = rt.alloc();
     let path = path_of(&rt, "ready")?;
-    let mut listener = bind(&rt, path.as_str()).map_err(|_| "bind")?;
+    let mut listener = bind(&rt, alloc, path.as_str(), OWN).map_err(|_| "bind")?;
     let (mut ready, bell) = RealReady::start(&rt, alloc, &mut listener)?;
     let mut peers = Vec::new(alloc);
     let mut links = Vec::new(alloc);
