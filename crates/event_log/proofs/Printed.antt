@@ -1,0 +1,233 @@
+-- What is escaped is printed, and so is each line before its newline.
+use Rattle.std.proofs.Common.{ℕ, ◌+◌, ◌/◌, ◌%◌, ◌≤◌, ◌<◌, ◌^◌, ◌≡◌, ◌==◌, ◌&&◌, Bool, nat_lt, nat_le, true, false, if◌then◌else◌, List, [], ◌∷◌, ◌++◌, arith, refl, codes}
+use Rattle.std.specs.Fmt.{decimal}
+use Rattle.std.proofs.lemmas.Fmt.{decimal_by_steps}
+use Rattle.fault_lines.specs.Explanations.{explained_text}
+use Rattle.event_log.specs.Texts.{escaped, escaped_byte, hex_digit, is_printed, are_printed, word_field, number_field, text_field}
+use Rattle.event_log.specs.Events.{level_of, level_name, event_name, bind_name, reason_name, pull_name, sign_name}
+use Rattle.event_log.specs.Lines.{bind_fields, fault_fields, fields, repeated, said, line, fits}
+use Rattle.event_log.specs.declared.level.Level.{Level}
+use Rattle.event_log.specs.declared.level.Level.TheVariants.{Error, Warn, Info, Debug}
+use Rattle.event_log.specs.declared.causes.BindCause.{BindCause}
+use Rattle.event_log.specs.declared.causes.BindCause.TheVariants.{Taken, NotASocket, Refused}
+use Rattle.event_log.specs.declared.causes.Reason.{Reason}
+use Rattle.event_log.specs.declared.causes.Reason.TheVariants.{NotFound, PermissionDenied, ConnectionRefused, AddressInUse, WouldBlock, TimedOut, InvalidInput, Other}
+use Rattle.event_log.specs.declared.causes.PullCause.{PullCause}
+use Rattle.event_log.specs.declared.causes.PullCause.TheVariants.{Socket, File}
+use Rattle.event_log.specs.declared.causes.SignCause.{SignCause}
+use Rattle.event_log.specs.declared.causes.SignCause.TheVariants.{NoAnswer, NotInDocument}
+use Rattle.event_log.specs.declared.event.Event.{Event}
+use Rattle.event_log.specs.declared.event.Event.TheVariants.{BindFailed, ConfigurationUnread, ConfigurationRefused, FirstDocumentRefused, NoFirstDocument, ListenFailed, HostFailed, OutputFailed, OutOfMemory, AuthorityFailed, AuthorityBack, SigningFailed, TokenFailed, Signed, SignerBack, Serving, Stopping, Connected, Closed}
+
+pub printed_append : (xs ys : List ℕ) → are_printed xs ≡ true → are_printed ys ≡ true → are_printed (xs ++ ys) ≡ true
+printed_append [] ys h k = k
+printed_append (x ∷ xs) ys h k =
+    let rest = printed_append xs ys in
+    grind (arith, rest)
+
+if_printed : (c : Bool) (xs ys : List ℕ) → (c ≡ true → are_printed xs ≡ true) → (c ≡ false → are_printed ys ≡ true) → are_printed (if c then xs else ys) ≡ true
+if_printed true xs ys h k = h refl
+if_printed false xs ys h k = k refl
+
+digit_printed : (n : ℕ) → n < 16 → is_printed (hex_digit n) ≡ true
+unfolding hex_digit
+digit_printed n h = grind arith
+
+both_true : (c d : Bool) → c ≡ true → d ≡ true → (c && (d && true)) ≡ true
+both_true c d h k = grind arith
+
+one_true : (c : Bool) → c ≡ true → (c && true) ≡ true
+one_true c h = grind arith
+
+pub byte_printed : (b : ℕ) → are_printed (escaped_byte b) ≡ true
+unfolding escaped_byte
+byte_printed b =
+    let high : b / 16 % 16 < 16 = omega arith in
+    let low : b % 16 < 16 = omega arith in
+    if_printed (b == 34) _ _ (λ e. refl)
+    (λ e. if_printed (b == 92) _ _ (λ e. refl)
+    (λ e. if_printed (nat_le 32 b && nat_le b 126) _ _ (λ e. one_true _ e)
+    (λ e. both_true _ _ (digit_printed _ high) (digit_printed _ low))))
+
+pub text_printed : (bytes : List ℕ) → are_printed (escaped bytes) ≡ true
+text_printed [] = refl
+text_printed (b ∷ bytes) = printed_append (escaped_byte b) (escaped bytes) (byte_printed b) (text_printed bytes)
+
+-- ---- numbers
+
+one_digit : (n : ℕ) → n < 10 → are_printed ((48 + n) ∷ []) ≡ true
+one_digit n h = grind arith
+
+abbrev Digits : ℕ → List ℕ → Type 0
+Digits n ds = are_printed ds ≡ true
+
+more_digits : (n : ℕ) (ds : List ℕ) → 10 ≤ n → are_printed ds ≡ true → are_printed (ds ++ ((48 + n % 10) ∷ [])) ≡ true
+more_digits n ds big h =
+    let small : n % 10 < 10 = omega arith in
+    printed_append ds _ h (one_digit (n % 10) small)
+
+pub number_printed : (n : ℕ) → n < 2 ^ 64 → are_printed (decimal n) ≡ true
+number_printed n small = decimal_by_steps Digits one_digit more_digits n small
+
+-- ---- members
+
+pub word_printed : (key word : List ℕ) → are_printed key ≡ true → are_printed word ≡ true → are_printed (word_field key word) ≡ true
+unfolding word_field
+word_printed key word h k = printed_append (key ++ codes "=") word (printed_append key (codes "=") h refl) k
+
+pub number_field_printed : (key : List ℕ) (n : ℕ) → are_printed key ≡ true → n < 2 ^ 64 → are_printed (number_field key n) ≡ true
+unfolding number_field
+number_field_printed key n h small = printed_append (key ++ codes "=") (decimal n) (printed_append key (codes "=") h refl) (number_printed n small)
+
+pub text_field_printed : (key text : List ℕ) → are_printed key ≡ true → are_printed (text_field key text) ≡ true
+unfolding text_field
+text_field_printed key text h =
+    printed_append (key ++ codes "=\"" ++ escaped text) (codes "\"")
+    (printed_append (key ++ codes "=\"") (escaped text) (printed_append key (codes "=\"") h refl) (text_printed text)) refl
+
+below : (n : ℕ) → nat_lt n (2 ^ 64) ≡ true → n < 2 ^ 64
+below n h = grind arith
+
+-- ---- words
+
+level_printed : (level : Level) → are_printed (level_name level) ≡ true
+unfolding level_name
+level_printed Error = refl
+level_printed Warn = refl
+level_printed Info = refl
+level_printed Debug = refl
+
+name_printed : (event : Event) → are_printed (event_name event) ≡ true
+unfolding event_name
+name_printed (BindFailed _ _) = refl
+name_printed ConfigurationUnread = refl
+name_printed (ConfigurationRefused _) = refl
+name_printed (FirstDocumentRefused _) = refl
+name_printed NoFirstDocument = refl
+name_printed (ListenFailed _) = refl
+name_printed HostFailed = refl
+name_printed OutputFailed = refl
+name_printed OutOfMemory = refl
+name_printed (AuthorityFailed _ _) = refl
+name_printed AuthorityBack = refl
+name_printed (SigningFailed _ _) = refl
+name_printed (TokenFailed _ _) = refl
+name_printed (Signed _ _) = refl
+name_printed SignerBack = refl
+name_printed (Serving _) = refl
+name_printed (Stopping _) = refl
+name_printed (Connected _) = refl
+name_printed (Closed _) = refl
+
+reason_printed : (reason : Reason) → are_printed (reason_name reason) ≡ true
+unfolding reason_name
+reason_printed NotFound = refl
+reason_printed PermissionDenied = refl
+reason_printed ConnectionRefused = refl
+reason_printed AddressInUse = refl
+reason_printed WouldBlock = refl
+reason_printed TimedOut = refl
+reason_printed InvalidInput = refl
+reason_printed Other = refl
+
+pull_printed : (cause : PullCause) → are_printed (pull_name cause) ≡ true
+unfolding pull_name
+pull_printed Socket = refl
+pull_printed File = refl
+
+sign_printed : (cause : SignCause) → are_printed (sign_name cause) ≡ true
+unfolding sign_name
+sign_printed NoAnswer = refl
+sign_printed NotInDocument = refl
+
+bind_printed : (cause : BindCause) → are_printed (bind_name cause) ≡ true
+unfolding bind_name
+bind_printed Taken = refl
+bind_printed NotASocket = refl
+bind_printed (Refused _) = refl
+
+-- ---- what an event says
+
+bind_fields_printed : (cause : BindCause) → are_printed (bind_fields cause) ≡ true
+unfolding bind_fields
+bind_fields_printed Taken = word_printed (codes "cause") (bind_name Taken) refl (bind_printed Taken)
+bind_fields_printed NotASocket = word_printed (codes "cause") (bind_name NotASocket) refl (bind_printed NotASocket)
+bind_fields_printed (Refused reason) =
+    printed_append (word_field (codes "cause") (bind_name (Refused reason))) (word_field (codes "reason") (reason_name reason))
+    (word_printed (codes "cause") (bind_name (Refused reason)) refl (bind_printed (Refused reason)))
+    (word_printed (codes "reason") (reason_name reason) refl (reason_printed reason))
+
+fault_printed : (fault : List ℕ) → are_printed (fault_fields fault) ≡ true
+unfolding fault_fields
+fault_printed fault =
+    printed_append (text_field (codes "fault") fault) (text_field (codes "text") (explained_text fault))
+    (text_field_printed (codes "fault") fault refl) (text_field_printed (codes "text") (explained_text fault) refl)
+
+unsigned_printed : (entry : List ℕ) (cause : SignCause) → are_printed (text_field (codes "entry") entry ++ word_field (codes "cause") (sign_name cause)) ≡ true
+unsigned_printed entry cause =
+    printed_append (text_field (codes "entry") entry) (word_field (codes "cause") (sign_name cause))
+    (text_field_printed (codes "entry") entry refl) (word_printed (codes "cause") (sign_name cause) refl (sign_printed cause))
+
+number_below : (key : List ℕ) (n : ℕ) → are_printed key ≡ true → nat_lt n (2 ^ 64) ≡ true → are_printed (number_field key n) ≡ true
+number_below key n h small = number_field_printed key n h (below n small)
+
+fields_printed : (event : Event) → fits event ≡ true → are_printed (fields event) ≡ true
+unfolding fields fits
+fields_printed (BindFailed path cause) h =
+    printed_append (text_field (codes "path") path.now) (bind_fields cause) (text_field_printed (codes "path") path.now refl) (bind_fields_printed cause)
+fields_printed ConfigurationUnread h = refl
+fields_printed (ConfigurationRefused fault) h = fault_printed fault.now
+fields_printed (FirstDocumentRefused fault) h = fault_printed fault.now
+fields_printed NoFirstDocument h = refl
+fields_printed (ListenFailed socket) h = number_below (codes "socket") socket refl h
+fields_printed HostFailed h = refl
+fields_printed OutputFailed h = refl
+fields_printed OutOfMemory h = refl
+fields_printed (AuthorityFailed cause since) h =
+    printed_append (word_field (codes "cause") (pull_name cause)) (text_field (codes "since") since.now)
+    (word_printed (codes "cause") (pull_name cause) refl (pull_printed cause)) (text_field_printed (codes "since") since.now refl)
+fields_printed AuthorityBack h = refl
+fields_printed (SigningFailed ask cause) h = unsigned_printed ask.now.entry_id cause
+fields_printed (TokenFailed ask cause) h = unsigned_printed ask.now.entry_id cause
+fields_printed (Signed ask not_after) h =
+    printed_append (text_field (codes "entry") ask.now.entry_id) (number_field (codes "not_after") not_after)
+    (text_field_printed (codes "entry") ask.now.entry_id refl) (number_below (codes "not_after") not_after refl h)
+fields_printed SignerBack h = refl
+fields_printed (Serving sockets) h = number_below (codes "sockets") sockets refl h
+fields_printed (Stopping status) h = number_below (codes "status") status refl h
+fields_printed (Connected socket) h = number_below (codes "socket") socket refl h
+fields_printed (Closed socket) h = number_below (codes "socket") socket refl h
+
+repeated_printed : (n : ℕ) → n < 2 ^ 64 → are_printed (repeated n) ≡ true
+unfolding repeated
+repeated_printed n small = if_printed (n == 0) [] (number_field (codes "repeated") n) (λ e. refl) (λ e. number_field_printed (codes "repeated") n refl small)
+
+-- the time and the level
+abbrev begun : List ℕ → Event → List ℕ
+begun time event = codes "ts=" ++ escaped time ++ word_field (codes "level") (level_name (level_of event))
+
+begun_printed : (time : List ℕ) (event : Event) → are_printed (begun time event) ≡ true
+begun_printed time event =
+    printed_append (codes "ts=" ++ escaped time) (word_field (codes "level") (level_name (level_of event)))
+    (text_printed time) (word_printed (codes "level") (level_name (level_of event)) refl (level_printed (level_of event)))
+
+-- and the name
+abbrev named : List ℕ → Event → List ℕ
+named time event = begun time event ++ word_field (codes "event") (event_name event)
+
+named_printed : (time : List ℕ) (event : Event) → are_printed (named time event) ≡ true
+named_printed time event =
+    printed_append (begun time event) (word_field (codes "event") (event_name event))
+    (begun_printed time event) (word_printed (codes "event") (event_name event) refl (name_printed event))
+
+said_printed : (time : List ℕ) (event : Event) (held : ℕ) → fits event ≡ true → held < 2 ^ 64 → are_printed (said time event held) ≡ true
+unfolding said
+said_printed time event held h small =
+    printed_append (named time event ++ fields event) (repeated held)
+    (printed_append (named time event) (fields event) (named_printed time event) (fields_printed event h))
+    (repeated_printed held small)
+
+pub line_printed : (time : List ℕ) (event : Event) (held : ℕ) → fits event ≡ true → held < 2 ^ 64 →
+    (line time event held ≡ said time event held ++ 10 ∷ []) × (are_printed (said time event held) ≡ true)
+unfolding line
+line_printed time event held h small = (refl, said_printed time event held h small)

@@ -1,0 +1,92 @@
+-- Events: their levels, names and words. Own rule: docs/OPERATING.md has the table.
+use Rattle.std.specs.Prelude.{ℕ, List, codes}
+use Rattle.event_log.specs.declared.level.Level.{Level}
+use Rattle.event_log.specs.declared.level.Level.TheVariants.{Error, Warn, Info, Debug}
+use Rattle.event_log.specs.declared.causes.BindCause.{BindCause}
+use Rattle.event_log.specs.declared.causes.BindCause.TheVariants.{Taken, NotASocket, Refused}
+use Rattle.event_log.specs.declared.causes.Reason.{Reason}
+use Rattle.event_log.specs.declared.causes.Reason.TheVariants.{NotFound, PermissionDenied, ConnectionRefused, AddressInUse, WouldBlock, TimedOut, InvalidInput, Other}
+use Rattle.event_log.specs.declared.causes.PullCause.{PullCause}
+use Rattle.event_log.specs.declared.causes.PullCause.TheVariants.{Socket, File}
+use Rattle.event_log.specs.declared.causes.SignCause.{SignCause}
+use Rattle.event_log.specs.declared.causes.SignCause.TheVariants.{NoAnswer, NotInDocument}
+use Rattle.event_log.specs.declared.event.Event.{Event}
+use Rattle.event_log.specs.declared.event.Event.TheVariants.{BindFailed, ConfigurationUnread, ConfigurationRefused, FirstDocumentRefused, NoFirstDocument, ListenFailed, HostFailed, OutputFailed, OutOfMemory, AuthorityFailed, AuthorityBack, SigningFailed, TokenFailed, Signed, SignerBack, Serving, Stopping, Connected, Closed}
+
+unfoldable pub level_name : Level → List ℕ
+level_name Error = codes "error"
+level_name Warn = codes "warn"
+level_name Info = codes "info"
+level_name Debug = codes "debug"
+
+-- how much is said at a level: errors alone are 0
+unfoldable pub rank : Level → ℕ
+rank Error = 0
+rank Warn = 1
+rank Info = 2
+rank Debug = 3
+
+unfoldable pub level_of : Event → Level
+level_of (BindFailed _ _) = Error
+level_of ConfigurationUnread = Error
+level_of (ConfigurationRefused _) = Error
+level_of (FirstDocumentRefused _) = Error
+level_of NoFirstDocument = Error
+level_of (ListenFailed _) = Error
+level_of HostFailed = Error
+level_of OutputFailed = Error
+level_of OutOfMemory = Error
+level_of (AuthorityFailed _ _) = Warn
+level_of AuthorityBack = Info
+level_of (SigningFailed _ _) = Warn
+level_of (TokenFailed _ _) = Warn
+level_of (Signed _ _) = Info
+level_of SignerBack = Info
+level_of (Serving _) = Info
+level_of (Stopping _) = Info
+level_of (Connected _) = Debug
+level_of (Closed _) = Debug
+
+unfoldable pub event_name : Event → List ℕ
+event_name (BindFailed _ _) = codes "bind_failed"
+event_name ConfigurationUnread = codes "configuration_unread"
+event_name (ConfigurationRefused _) = codes "configuration_refused"
+event_name (FirstDocumentRefused _) = codes "first_document_refused"
+event_name NoFirstDocument = codes "no_first_document"
+event_name (ListenFailed _) = codes "listen_failed"
+event_name HostFailed = codes "host_failed"
+event_name OutputFailed = codes "output_failed"
+event_name OutOfMemory = codes "out_of_memory"
+event_name (AuthorityFailed _ _) = codes "authority_failed"
+event_name AuthorityBack = codes "authority_back"
+event_name (SigningFailed _ _) = codes "signing_failed"
+event_name (TokenFailed _ _) = codes "token_failed"
+event_name (Signed _ _) = codes "signed"
+event_name SignerBack = codes "signer_back"
+event_name (Serving _) = codes "serving"
+event_name (Stopping _) = codes "stopping"
+event_name (Connected _) = codes "connected"
+event_name (Closed _) = codes "closed"
+
+unfoldable pub bind_name : BindCause → List ℕ
+bind_name Taken = codes "taken"
+bind_name NotASocket = codes "not_a_socket"
+bind_name (Refused _) = codes "refused"
+
+unfoldable pub reason_name : Reason → List ℕ
+reason_name NotFound = codes "not_found"
+reason_name PermissionDenied = codes "permission_denied"
+reason_name ConnectionRefused = codes "connection_refused"
+reason_name AddressInUse = codes "address_in_use"
+reason_name WouldBlock = codes "would_block"
+reason_name TimedOut = codes "timed_out"
+reason_name InvalidInput = codes "invalid_input"
+reason_name Other = codes "other"
+
+unfoldable pub pull_name : PullCause → List ℕ
+pull_name Socket = codes "socket"
+pull_name File = codes "file"
+
+unfoldable pub sign_name : SignCause → List ℕ
+sign_name NoAnswer = codes "no_answer"
+sign_name NotInDocument = codes "not_in_document"

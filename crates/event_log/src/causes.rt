@@ -1,0 +1,62 @@
+//! Why something failed.
+
+use std::io::ErrorKind;
+
+/// Why nobody listens at a path.
+#[derive(Clone, Copy, Debug, Drop, PartialEq, Eq)]
+pub enum BindCause {
+    /// Somebody else listens there.
+    Taken,
+    /// What stands there is no socket.
+    NotASocket,
+    /// The operating system refused, for this reason.
+    Refused(Reason),
+}
+
+/// The operating system's reason, by its kind.
+#[derive(Clone, Copy, Debug, Drop, PartialEq, Eq)]
+pub enum Reason {
+    NotFound,
+    PermissionDenied,
+    ConnectionRefused,
+    AddressInUse,
+    WouldBlock,
+    TimedOut,
+    InvalidInput,
+    /// Each other kind.
+    Other,
+}
+
+/// From where no document came.
+#[derive(Clone, Copy, Debug, Drop, PartialEq, Eq)]
+pub enum PullCause {
+    /// The authority's socket could not be opened, or was cut off.
+    Socket,
+    /// The file could not be read.
+    File,
+}
+
+/// Why nothing was signed.
+#[derive(Clone, Copy, Debug, Drop, PartialEq, Eq)]
+pub enum SignCause {
+    /// The signer's socket could not be opened, or gave no answer that fits the ask in time.
+    NoAnswer,
+    /// The document has no identity for the entry, and signs no token.
+    NotInDocument,
+}
+
+impl Reason {
+    /// The reason of this kind.
+    pub fn of_kind(kind: ErrorKind) -> Reason {
+        match kind {
+            ErrorKind::NotFound => Reason::NotFound,
+            ErrorKind::PermissionDenied => Reason::PermissionDenied,
+            ErrorKind::ConnectionRefused => Reason::ConnectionRefused,
+            ErrorKind::AddrInUse => Reason::AddressInUse,
+            ErrorKind::WouldBlock => Reason::WouldBlock,
+            ErrorKind::TimedOut => Reason::TimedOut,
+            ErrorKind::InvalidInput => Reason::InvalidInput,
+            _ => Reason::Other,
+        }
+    }
+}

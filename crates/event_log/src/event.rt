@@ -1,0 +1,51 @@
+//! What may be said. No variant holds the bytes of a key, a token or a message.
+
+use crate::causes::{BindCause, PullCause, SignCause};
+use crate::fault_line::FaultLine;
+use crate::path_text::PathText;
+use crate::time_text::TimeText;
+use wl_entry::Ask;
+
+/// An event: ids, causes, numbers and paths. A socket is named by its number in the configuration, from 0; of an ask the
+/// line has the entry's id.
+#[derive(Drop)]
+pub enum Event<'a> {
+    /// Nobody listens at the path of a socket of the configuration.
+    BindFailed(&'a PathText, BindCause),
+    /// The configuration could not be read.
+    ConfigurationUnread,
+    /// The configuration has this fault.
+    ConfigurationRefused(&'a FaultLine),
+    /// The first document has this fault.
+    FirstDocumentRefused(&'a FaultLine),
+    /// No first document came.
+    NoFirstDocument,
+    /// A listener failed for good.
+    ListenFailed(u32),
+    /// A socket, a listener, or what watches its links failed.
+    HostFailed,
+    /// Standard output could not be written.
+    OutputFailed,
+    /// Memory ran out.
+    OutOfMemory,
+    /// No document came, for the first time at this time.
+    AuthorityFailed(PullCause, &'a TimeText),
+    /// A document came again.
+    AuthorityBack,
+    /// No identity was signed for the ask.
+    SigningFailed(&'a Ask, SignCause),
+    /// No token was signed for the ask.
+    TokenFailed(&'a Ask, SignCause),
+    /// An identity was signed for the ask, which ends at this Unix second.
+    Signed(&'a Ask, u64),
+    /// The signer answered again.
+    SignerBack,
+    /// So many sockets are served.
+    Serving(u32),
+    /// The process ends with this status.
+    Stopping(u8),
+    /// A caller connected to this socket.
+    Connected(u32),
+    /// A connection of this socket was closed.
+    Closed(u32),
+}

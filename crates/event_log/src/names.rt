@@ -1,0 +1,119 @@
+//! The names of events and causes in a line.
+
+ghost use Rattle.std.specs.Prelude.{◌≡◌};
+ghost use Rattle.event_log.specs.Events.{level_of, event_name, bind_name, reason_name, pull_name, sign_name};
+
+use crate::causes::{BindCause, PullCause, Reason, SignCause};
+use crate::event::Event;
+use crate::level::Level;
+
+impl BindCause {
+    #[tactic(auto, unfolding(crate::specs::Events::bind_name))]
+    pub(crate) fn name(self) -> &'static [u8]
+        ensures { result.now ≡ bind_name self }
+    {
+        match self {
+            BindCause::Taken => b"taken",
+            BindCause::NotASocket => b"not_a_socket",
+            BindCause::Refused(_) => b"refused",
+        }
+    }
+}
+
+impl Reason {
+    #[tactic(auto, unfolding(crate::specs::Events::reason_name))]
+    pub(crate) fn name(self) -> &'static [u8]
+        ensures { result.now ≡ reason_name self }
+    {
+        match self {
+            Reason::NotFound => b"not_found",
+            Reason::PermissionDenied => b"permission_denied",
+            Reason::ConnectionRefused => b"connection_refused",
+            Reason::AddressInUse => b"address_in_use",
+            Reason::WouldBlock => b"would_block",
+            Reason::TimedOut => b"timed_out",
+            Reason::InvalidInput => b"invalid_input",
+            Reason::Other => b"other",
+        }
+    }
+}
+
+impl PullCause {
+    #[tactic(auto, unfolding(crate::specs::Events::pull_name))]
+    pub(crate) fn name(self) -> &'static [u8]
+        ensures { result.now ≡ pull_name self }
+    {
+        match self {
+            PullCause::Socket => b"socket",
+            PullCause::File => b"file",
+        }
+    }
+}
+
+impl SignCause {
+    #[tactic(auto, unfolding(crate::specs::Events::sign_name))]
+    pub(crate) fn name(self) -> &'static [u8]
+        ensures { result.now ≡ sign_name self }
+    {
+        match self {
+            SignCause::NoAnswer => b"no_answer",
+            SignCause::NotInDocument => b"not_in_document",
+        }
+    }
+}
+
+impl<'a> Event<'a> {
+    /// How grave it is.
+    #[tactic(auto, unfolding(crate::specs::Events::level_of))]
+    pub fn level(&self) -> Level
+        ensures { result ≡ level_of self.now }
+    {
+        match self {
+            Event::BindFailed(_, _)
+            | Event::ConfigurationUnread
+            | Event::ConfigurationRefused(_)
+            | Event::FirstDocumentRefused(_)
+            | Event::NoFirstDocument
+            | Event::ListenFailed(_)
+            | Event::HostFailed
+            | Event::OutputFailed
+            | Event::OutOfMemory => Level::Error,
+            Event::AuthorityFailed(_, _) | Event::SigningFailed(_, _) | Event::TokenFailed(_, _) =>
+                { Level::Warn }
+            Event::AuthorityBack
+            | Event::Signed(_, _)
+            | Event::SignerBack
+            | Event::Serving(_)
+            | Event::Stopping(_) => Level::Info,
+            Event::Connected(_) | Event::Closed(_) => Level::Debug,
+        }
+    }
+
+    /// Its name in a line.
+    #[tactic(auto, unfolding(crate::specs::Events::event_name))]
+    pub(crate) fn name(&self) -> &'static [u8]
+        ensures { result.now ≡ event_name self.now }
+    {
+        match self {
+            Event::BindFailed(_, _) => b"bind_failed",
+            Event::ConfigurationUnread => b"configuration_unread",
+            Event::ConfigurationRefused(_) => b"configuration_refused",
+            Event::FirstDocumentRefused(_) => b"first_document_refused",
+            Event::NoFirstDocument => b"no_first_document",
+            Event::ListenFailed(_) => b"listen_failed",
+            Event::HostFailed => b"host_failed",
+            Event::OutputFailed => b"output_failed",
+            Event::OutOfMemory => b"out_of_memory",
+            Event::AuthorityFailed(_, _) => b"authority_failed",
+            Event::AuthorityBack => b"authority_back",
+            Event::SigningFailed(_, _) => b"signing_failed",
+            Event::TokenFailed(_, _) => b"token_failed",
+            Event::Signed(_, _) => b"signed",
+            Event::SignerBack => b"signer_back",
+            Event::Serving(_) => b"serving",
+            Event::Stopping(_) => b"stopping",
+            Event::Connected(_) => b"connected",
+            Event::Closed(_) => b"closed",
+        }
+    }
+}

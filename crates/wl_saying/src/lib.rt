@@ -1,0 +1,21 @@
+//! Things of the outside of which the log speaks: each wraps another, and says what an operator is to know of its calls. In all
+//! that contracts see it is the other thing.
+#![tactic(auto)]
+
+mod binding;
+mod gate;
+mod listener;
+mod memory;
+mod repeats;
+mod signer;
+mod sink;
+#[cfg(test)]
+mod tests;
+mod upstream;
+
+pub use binding::say_unbound;
+pub use gate::SayingGate;
+pub use listener::SayingListener;
+pub use signer::SayingSigner;
+pub use sink::KeepingSink;
+pub use upstream::SayingUpstream;
