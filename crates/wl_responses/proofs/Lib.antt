@@ -10,15 +10,15 @@ mod Frames
 mod Peers
 mod Replying
 mod Going
-mod Endings
-mod Deciding
+pub mod Endings
+pub mod Deciding
 mod Falling
 mod Taking
 mod Attesting
 mod Cutting
 pub mod Moving
-mod Waiting
-mod Awaiting
+pub mod Waiting
+pub mod Awaiting
 mod Running
 mod Living
-mod Turning
+pub mod Turning
