@@ -8,12 +8,14 @@ use Rattle.control_words.specs.Requests as words
 use Rattle.wl_control.specs.declared.request.Request.{Request}
 use Rattle.wl_control.specs.declared.request.Request.TheVariants.{FetchJwt, HealthWatch}
 use Rattle.wl_control.specs.declared.request.TokenForm.TheVariants as token
-use Rattle.wl_control.specs.declared.request.Format.{Format}
+use Rattle.wl_control.specs.declared.request.TokenAsk.{TokenAsk}
+use Rattle.wl_control.specs.declared.request.Choice.{Choice}
+use Rattle.wl_control.specs.declared.choices.Place.TheVariants.{Front}
 use Rattle.clap.specs.declared.error.Error.{Error}
 use Rattle.wl_control.specs.declared.words.NoRequest.{NoRequest}
 use Rattle.wl_control.specs.declared.words.NoRequest.TheVariants.{Memory, Unfit}
-use Rattle.wl_control.specs.Words.{is_audience, jwt_of, x509_of, bundles_of, jwt_bundles_of, fetch_of, count_of, watch_of, health_of, request_by, command_of, in_formats, request_of}
-use Rattle.wl_control.specs.Formats.{formats_from, others_from}
+use Rattle.wl_control.specs.Words.{is_audience, jwt_of, x509_of, bundles_of, jwt_bundles_of, fetch_of, count_of, watch_of, health_of, request_by, command_of, with_choices, request_of}
+use Rattle.wl_control.specs.Choices.{choices_from, others_from}
 
 abbrev pub Texts : Type 0
 Texts = List (List ℕ)
@@ -70,10 +72,13 @@ asked_for ws name n given ops o is same these by = request_fits ws name given is
 
 -- ---- words that are no request fit no command
 
+abbrev ask_for : Texts → TokenAsk
+ask_for xs = record { audiences = xs; id = None; form = token.Lines; is_decoded = false }
+
 jwt_none : (xs : Texts) → nat_le (length xs) 64 ≡ false → jwt_of xs ≡ None
 jwt_none xs many = go (nat_le 1 (length xs))
   where
-    go : (b : Bool) → (if b && (nat_le (length xs) 64 && list_all is_audience xs) then Some (FetchJwt token.Lines xs) else None) ≡ None
+    go : (b : Bool) → (if b && (nat_le (length xs) 64 && list_all is_audience xs) then Some (FetchJwt (ask_for xs)) else None) ≡ None
     go false = refl
     go true = rw many refl
 
@@ -133,13 +138,13 @@ unfolding command_of
 no_request_fits [] is = refl
 no_request_fits (w ∷ ws) is = none_fits w (operands ws) (no_request w (option_and_then (words.fitting w) (operands ws)) is)
 
--- ---- with the format
+-- ---- with the options
 
-pub in_formats_by : (ws : Texts) (formats : List Format) (others : Texts) (q : Request) (o : Option Request) → formats ≡ formats_from false ws → others ≡ others_from false ws → command_of others ≡ Some q → o ≡ in_formats formats q → request_of ws ≡ o
+pub chosen_by : (ws : Texts) (choices : List Choice) (others : Texts) (q : Request) (o : Option Request) → choices ≡ choices_from Front ws → others ≡ others_from Front ws → command_of others ≡ Some q → o ≡ with_choices choices q → request_of ws ≡ o
 unfolding request_of
-in_formats_by ws formats others q o named rest is by = rw (← named, ← rest, is, by) refl
+chosen_by ws choices others q o named rest is by = rw (← named, ← rest, is, by) refl
 
-pub no_command : (ws : Texts) (others : Texts) → others ≡ others_from false ws → command_of others ≡ None → request_of ws ≡ None
+pub no_command : (ws : Texts) (others : Texts) → others ≡ others_from Front ws → command_of others ≡ None → request_of ws ≡ None
 unfolding request_of
 no_command ws others rest none = rw (← rest, none) refl
 

@@ -1,5 +1,6 @@
 pub mod Courses
 pub mod Fitting
+pub mod Ids
 pub mod Messages
 pub mod Passages
 pub mod Printable

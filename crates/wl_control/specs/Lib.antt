@@ -1,4 +1,4 @@
-pub mod Formats
+pub mod Choices
 pub mod Words
 pub mod Escapes
 pub mod Lines

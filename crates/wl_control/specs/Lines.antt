@@ -1,6 +1,6 @@
 -- The texts that are written, which PEM and JSON have in svid_forms, and the lines (own rules): ids, tokens and texts of the server are escaped, and nothing stands for the empty
 -- byte string.
-use Rattle.std.specs.Prelude.{ℕ, ◌==◌, ◌&&◌, nat_lt, length, if◌then◌else◌, List, [], ◌∷◌, ◌++◌, codes, Bool, Result, Ok, Err}
+use Rattle.std.specs.Prelude.{ℕ, ◌==◌, ◌&&◌, nat_lt, length, if◌then◌else◌, List, [], ◌∷◌, ◌++◌, codes, Bool, Option, Some, None, Result, Ok, Err}
 use Rattle.std.specs.Fmt.{decimal}
 use Rattle.std.specs.List.{flat_map, list_all}
 use Rattle.pb_wire.specs.declared.fault.FieldFault.{FieldFault}
@@ -18,10 +18,13 @@ use Rattle.wl_client.specs.Messages.{x509_of, bundles_of, jwt_of, jwt_bundles_of
 use Rattle.workload_proto.specs.declared.field_number.TheConstants.{X509_SVID_CHAIN, MAP_ITEM_VALUE}
 use Rattle.grpc_wire.specs.Messages.{framed}
 use Rattle.svid_files.specs.Files.{has_files}
+use Rattle.jws_text.specs.declared.said.Said.{Said}
+use Rattle.jws_text.specs.Tokens.{said_in}
+use Rattle.svid_forms.specs.Decoded.{decoded_json}
 use Rattle.svid_forms.specs.Blocks.{svid_blocks, bundle_blocks, is_svid_whole, is_bundle_whole}
 use Rattle.svid_forms.specs.Json.{x509_json, bundles_json, jwt_json, jwt_bundles_json}
 use Rattle.wl_control.specs.declared.asked.Kind.{Kind}
-use Rattle.wl_control.specs.declared.asked.Kind.TheVariants.{X509, X509Frame, Bundles, Jwt, JwtBundles, State}
+use Rattle.wl_control.specs.declared.asked.Kind.TheVariants.{X509, X509Frame, Bundles, Jwt, DecodedJwt, JwtBundles, State}
 use Rattle.wl_control.specs.declared.request.Form.TheVariants.{Lines, Pem, Json}
 use Rattle.wl_control.specs.declared.request.TokenForm.TheVariants as token
 use Rattle.wl_control.specs.Escapes.{hex, escaped}
@@ -36,8 +39,22 @@ svid_line s = codes "svid " ++ escaped s.spiffe_id ++ codes " chain=" ++ hex s.c
 unfoldable pub bundle_line : MapItem → List ℕ
 bundle_line b = codes "bundle " ++ escaped b.key ++ codes " bundle=" ++ hex b.value ++ line_end
 
+unfoldable pub jwt_start : JwtItem → List ℕ
+jwt_start s = codes "jwt " ++ escaped s.spiffe_id ++ codes " " ++ escaped s.svid ++ codes " hint=" ++ hex s.hint
+
 unfoldable pub jwt_line : JwtItem → List ℕ
-jwt_line s = codes "jwt " ++ escaped s.spiffe_id ++ codes " " ++ escaped s.svid ++ codes " hint=" ++ hex s.hint ++ line_end
+jwt_line s = jwt_start s ++ line_end
+
+-- what a token says, whose signature nobody verified
+unfoldable pub said_parts : List ℕ → List ℕ → List ℕ
+said_parts head claims = codes " head=" ++ escaped head ++ codes " claims=" ++ escaped claims
+
+abbrev pub said_part : Option Said → List ℕ
+said_part None = codes " undecodable"
+said_part (Some s) = said_parts s.head s.claims
+
+unfoldable pub decoded_line : JwtItem → List ℕ
+decoded_line s = jwt_start s ++ said_part (said_in s.svid) ++ codes " signature=unverified" ++ line_end
 
 -- grpc.health.v1: 1 is SERVING, 2 NOT_SERVING; own rule: any other is told as unknown
 unfoldable pub state_line : ℕ → List ℕ
@@ -67,6 +84,9 @@ bundle_lines m = flat_map bundle_line m.bundles
 
 abbrev pub jwt_lines : JwtResponse → List ℕ
 jwt_lines m = flat_map jwt_line m.svids
+
+abbrev pub decoded_lines : JwtResponse → List ℕ
+decoded_lines m = flat_map decoded_line m.svids
 
 abbrev pub jwt_bundle_lines : JwtBundlesResponse → List ℕ
 jwt_bundle_lines m = flat_map bundle_line m.bundles
@@ -98,6 +118,8 @@ lines_of (Bundles Pem) message = whole_by MAP_ITEM_VALUE bundles_are_whole bundl
 lines_of (Bundles Json) message = lines_by bundles_json (bundles_of message)
 lines_of (Jwt token.Lines) message = lines_by jwt_lines (jwt_of message)
 lines_of (Jwt token.Json) message = lines_by jwt_json (jwt_of message)
+lines_of (DecodedJwt token.Lines) message = lines_by decoded_lines (jwt_of message)
+lines_of (DecodedJwt token.Json) message = lines_by decoded_json (jwt_of message)
 lines_of (JwtBundles token.Lines) message = lines_by jwt_bundle_lines (jwt_bundles_of message)
 lines_of (JwtBundles token.Json) message = lines_by jwt_bundles_json (jwt_bundles_of message)
 lines_of State message = lines_by state_line (state_of message)

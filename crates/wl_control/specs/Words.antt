@@ -1,28 +1,22 @@
 -- The words of the client program (own rules).
-use Rattle.std.specs.Prelude.{◌≡◌, ◌≤◌, true, false, ℕ, ◌+◌, ◌*◌, ◌-◌, ◌==◌, ◌&&◌, Bool, nat_le, if◌then◌else◌, List, [], ◌∷◌, length, codes, Option, Some, None, option_map, option_and_then}
+use Rattle.std.specs.Prelude.{◌≡◌, ◌≤◌, true, false, ℕ, ◌==◌, ◌&&◌, not, Bool, nat_le, if◌then◌else◌, List, [], ◌∷◌, length, codes, Option, Some, None, IfSome, is_some, option_map, option_and_then}
 use Rattle.std.specs.Str.{bytes_eq}
 use Rattle.std.specs.List.{list_all}
+use Rattle.decimal_text.specs.Decimals.{number_up_to}
+use Rattle.spiffe_id.specs.Faults.{id_fault}
+use Rattle.spiffe_id.specs.declared.finding.TheConstants.{MAX_ID_LEN}
 use Rattle.clap_words.specs.Operands.{operands}
-use Rattle.wl_control.specs.Formats.{formats_from, others_from}
+use Rattle.wl_control.specs.Choices.{choices_from, others_from}
+use Rattle.wl_control.specs.declared.choices.Place.TheVariants.{Front}
 use Rattle.wl_control.specs.declared.words.TheConstants.{MAX_COUNT, ENDLESS, MAX_AUDIENCES, MAX_WORD_LEN}
 use Rattle.wl_control.specs.declared.request.Form.TheVariants as form
+use Rattle.wl_control.specs.declared.request.TokenForm.{TokenForm}
 use Rattle.wl_control.specs.declared.request.TokenForm.TheVariants as token
-use Rattle.wl_control.specs.declared.request.Format.{Format}
-use Rattle.wl_control.specs.declared.request.Format.TheVariants.{Pem, Json}
+use Rattle.wl_control.specs.declared.request.TokenAsk.{TokenAsk}
+use Rattle.wl_control.specs.declared.request.Choice.{Choice}
+use Rattle.wl_control.specs.declared.request.Choice.TheVariants.{Pem, Json, Decode, Id}
 use Rattle.wl_control.specs.declared.request.Request.{Request}
 use Rattle.wl_control.specs.declared.request.Request.TheVariants.{FetchX509, FetchBundles, FetchJwt, FetchJwtBundles, Watch, Keep, Health, HealthWatch}
-
-abbrev pub is_digit : ℕ → Bool
-is_digit b = nat_le 48 b && nat_le b 57
-
--- the number that the digits write after those that gave n, where it is not above the most that may be counted
-abbrev pub digits_after : ℕ → List ℕ → Option ℕ
-digits_after n [] = Some n
-digits_after n (b ∷ bytes) = if is_digit b && nat_le (10 * n + (b - 48)) MAX_COUNT then digits_after (10 * n + (b - 48)) bytes else None
-
-abbrev pub digits_of : List ℕ → Option ℕ
-digits_of [] = None
-digits_of (b ∷ bytes) = digits_after 0 (b ∷ bytes)
 
 abbrev pub at_least_one : Option ℕ → Option ℕ
 at_least_one None = None
@@ -31,7 +25,7 @@ at_least_one (Some n) = if n == 0 then None else Some n
 -- a number from 1 to the most: an optional `+` and digits
 abbrev pub count_in : List ℕ → Option ℕ
 count_in [] = None
-count_in (b ∷ bytes) = at_least_one (if b == 43 then digits_of bytes else digits_of (b ∷ bytes))
+count_in (b ∷ bytes) = at_least_one (number_up_to MAX_COUNT (if b == 43 then bytes else b ∷ bytes))
 
 -- ---- what is asked for
 
@@ -40,7 +34,7 @@ is_audience w = nat_le 1 (length w) && nat_le (length w) MAX_WORD_LEN
 
 -- `fetch jwt AUDIENCE..`
 abbrev pub jwt_of : List (List ℕ) → Option Request
-jwt_of ws = if nat_le 1 (length ws) && (nat_le (length ws) MAX_AUDIENCES && list_all is_audience ws) then Some (FetchJwt token.Lines ws) else None
+jwt_of ws = if nat_le 1 (length ws) && (nat_le (length ws) MAX_AUDIENCES && list_all is_audience ws) then Some (FetchJwt (record { audiences = ws; id = None; form = token.Lines; is_decoded = false })) else None
 
 abbrev pub x509_of : List (List ℕ) → Option Request
 x509_of [] = Some (FetchX509 form.Lines)
@@ -88,44 +82,66 @@ request_by w ws =
     else if bytes_eq w (codes "health-watch") then count_of HealthWatch ws
     else None
 
--- what these words ask for, which name no format, where they fit something
+-- what these words ask for, among which are no options, where they fit something
 unfoldable pub command_of : List (List ℕ) → Option Request
 command_of [] = None
 command_of (w ∷ ws) = option_and_then (request_by w) (operands ws)
 
--- ---- the format
+-- ---- the options
 
--- certificates may be PEM; what is fetched may be JSON
-abbrev pub in_format : Format → Request → Option Request
-in_format Pem (FetchX509 f) = Some (FetchX509 form.Pem)
-in_format Json (FetchX509 f) = Some (FetchX509 form.Json)
-in_format Pem (FetchBundles f) = Some (FetchBundles form.Pem)
-in_format Json (FetchBundles f) = Some (FetchBundles form.Json)
-in_format Pem (FetchJwt f audiences) = None
-in_format Json (FetchJwt f audiences) = Some (FetchJwt token.Json audiences)
-in_format Pem (FetchJwtBundles f) = None
-in_format Json (FetchJwtBundles f) = Some (FetchJwtBundles token.Json)
-in_format f (Watch count) = None
-in_format f (Keep count) = None
-in_format f (Health service) = None
-in_format f (HealthWatch count) = None
+-- certificates may be PEM
+abbrev pub in_pem : Request → Option Request
+in_pem (FetchX509 form.Lines) = Some (FetchX509 form.Pem)
+in_pem (FetchBundles form.Lines) = Some (FetchBundles form.Pem)
+in_pem _ = None
 
--- at most one is named
-abbrev pub in_formats : List Format → Request → Option Request
-in_formats [] q = Some q
-in_formats (f ∷ []) q = in_format f q
-in_formats (f ∷ g ∷ formats) q = None
+-- what is fetched may be JSON
+abbrev pub as_json : TokenForm → Option TokenForm
+as_json token.Lines = Some token.Json
+as_json token.Json = None
+
+abbrev pub in_json : Request → Option Request
+in_json (FetchX509 form.Lines) = Some (FetchX509 form.Json)
+in_json (FetchBundles form.Lines) = Some (FetchBundles form.Json)
+in_json (FetchJwt a) = option_map (λ f. FetchJwt (record a { form = f })) (as_json a.form)
+in_json (FetchJwtBundles f) = option_map FetchJwtBundles (as_json f)
+in_json _ = None
+
+-- tokens may be decoded
+abbrev pub decoded : Request → Option Request
+decoded (FetchJwt a) = if a.is_decoded then None else Some (FetchJwt (record a { is_decoded = true }))
+decoded _ = None
+
+-- a SPIFFE ID (SPIFFE-ID, section 2; of at most 2,048 bytes)
+abbrev pub is_id : List ℕ → Bool
+is_id w = not (is_some (id_fault w))
+
+-- tokens may be asked for one id
+abbrev pub of_id : List ℕ → Request → Option Request
+of_id w (FetchJwt a) = if not (is_some a.id) && is_id w then Some (FetchJwt (record a { id = Some w })) else None
+of_id w _ = None
+
+abbrev pub with_choice : Choice → Request → Option Request
+with_choice Pem q = in_pem q
+with_choice Json q = in_json q
+with_choice Decode q = decoded q
+with_choice (Id w) q = of_id w q
+
+-- each of them is chosen once at most, and at most one of PEM and JSON
+abbrev pub with_choices : List Choice → Request → Option Request
+with_choices [] q = Some q
+with_choices (c ∷ choices) q = option_and_then (with_choices choices) (with_choice c q)
 
 -- what these words ask for, where they fit something
 unfoldable pub request_of : List (List ℕ) → Option Request
-request_of ws = option_and_then (in_formats (formats_from false ws)) (command_of (others_from false ws))
+request_of ws = option_and_then (with_choices (choices_from Front ws)) (command_of (others_from Front ws))
 
 -- a request whose words are as short as they may be
 abbrev pub IsFit : Request → Type 0
 IsFit (FetchX509 f) = Unit {0}
 IsFit (FetchBundles f) = Unit {0}
 IsFit (FetchJwtBundles f) = Unit {0}
-IsFit (FetchJwt f audiences) = (length audiences ≤ MAX_AUDIENCES) × (list_all is_audience audiences ≡ true)
+IsFit (FetchJwt a) = (length a.audiences ≤ MAX_AUDIENCES) × (list_all is_audience a.audiences ≡ true) × IfSome a.id (λ id. length id ≤ MAX_ID_LEN)
 IsFit (Watch count) = Unit {0}
 IsFit (Keep count) = Unit {0}
 IsFit (Health service) = length service ≤ MAX_WORD_LEN

@@ -23,6 +23,8 @@ pub enum Kind {
     Bundles(Form),
     /// A `JWTSVIDResponse`.
     Jwt(TokenForm),
+    /// A `JWTSVIDResponse` with what its tokens say.
+    DecodedJwt(TokenForm),
     /// A `JWTBundlesResponse`.
     JwtBundles(TokenForm),
     /// A `HealthCheckResponse`.

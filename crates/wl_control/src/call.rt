@@ -5,10 +5,10 @@ ghost use Rattle.std.specs.List.{flat_map};
 ghost use Rattle.pb_wire.specs.Spelling.{field};
 ghost use Rattle.workload_proto.specs.declared.field_number.TheConstants.{JWT_REQUEST_AUDIENCE};
 ghost use Rattle.wl_control.specs.Words.{IsFit};
-ghost use Rattle.wl_control.specs.Calls.{method_of, message_of, stream_of, answer_of, asked_of};
+ghost use Rattle.wl_control.specs.Calls.{method_of, message_of, token_message, id_field, stream_of, answer_of, jwt_kind, asked_of};
 
 use crate::asked::{Asked, Kind};
-use crate::request::{Form, Request};
+use crate::request::{Form, Request, TokenAsk, TokenForm};
 use grpc_wire::Method;
 use pb_wire::put_bytes;
 use std::alloc::Global;
@@ -26,7 +26,7 @@ pub(crate) fn method_of(request: &Request) -> Method
     match request {
         Request::FetchX509(_) | Request::Watch(_) | Request::Keep(_) => Method::X509Svid,
         Request::FetchBundles(_) => Method::X509Bundles,
-        Request::FetchJwt(_, _) => Method::JwtSvid,
+        Request::FetchJwt(_) => Method::JwtSvid,
         Request::FetchJwtBundles(_) => Method::JwtBundles,
         Request::Health(_) => Method::HealthCheck,
         Request::HealthWatch(_) => Method::HealthWatch,
@@ -55,6 +55,16 @@ fn answer_of(kind: Kind) -> Asked
     }
 }
 
+fn jwt_kind(is_decoded: bool, form: TokenForm) -> Kind
+    ensures { result ≡ jwt_kind is_decoded form }
+{
+    if is_decoded {
+        Kind::DecodedJwt(form)
+    } else {
+        Kind::Jwt(form)
+    }
+}
+
 /// What is asked for.
 pub(crate) fn asked_of(request: &Request) -> Asked
     ensures { result ≡ asked_of request.now }
@@ -62,7 +72,7 @@ pub(crate) fn asked_of(request: &Request) -> Asked
     match request {
         Request::FetchX509(form) => stream_of(Kind::X509(*form), 1),
         Request::FetchBundles(form) => stream_of(Kind::Bundles(*form), 1),
-        Request::FetchJwt(form, _) => answer_of(Kind::Jwt(*form)),
+        Request::FetchJwt(ask) => answer_of(jwt_kind(ask.is_decoded, ask.form)),
         Request::FetchJwtBundles(form) => stream_of(Kind::JwtBundles(*form), 1),
         Request::Watch(count) => stream_of(Kind::X509(Form::Lines), *count),
         Request::Keep(count) => stream_of(Kind::X509Frame, *count),
@@ -71,7 +81,7 @@ pub(crate) fn asked_of(request: &Request) -> Asked
     }
 }
 
-/// A `JWTSVIDRequest` for these audiences, which names no id.
+/// The audiences of a `JWTSVIDRequest`.
 fn put_audiences(out: &mut Vec<u8>, audiences: &[Octets]) -> Result<(), Memory>
     ensures { OnOk result (out.new.items ≡ out.old.items ++ flat_map (field JWT_REQUEST_AUDIENCE) audiences.now) }
 {
@@ -79,6 +89,25 @@ fn put_audiences(out: &mut Vec<u8>, audiences: &[Octets]) -> Result<(), Memory>
         put_bytes(out, field_number::JWT_REQUEST_AUDIENCE, audience.as_slice())?;
     }
     Ok(())
+}
+
+/// The id of a `JWTSVIDRequest`, if it names one.
+fn put_id(out: &mut Vec<u8>, id: &Option<Octets>) -> Result<(), Memory>
+    ensures { OnOk result (out.new.items ≡ out.old.items ++ id_field id.now) }
+{
+    if let Some(id) = id {
+        put_bytes(out, field_number::JWT_REQUEST_SPIFFE_ID, id.as_slice())?;
+    }
+    Ok(())
+}
+
+/// A `JWTSVIDRequest`.
+#[tactic(auto, unfolding(crate::specs::Calls::token_message))]
+fn put_token_ask(out: &mut Vec<u8>, ask: &TokenAsk) -> Result<(), Memory>
+    ensures { OnOk result (out.new.items ≡ out.old.items ++ token_message ask.now) }
+{
+    put_audiences(out, ask.audiences.as_slice())?;
+    put_id(out, &ask.id)
 }
 
 /// The message with which the method is called.
@@ -90,7 +119,7 @@ pub(crate) fn message_of(alloc: Global, request: &Request) -> Result<Vec<u8>, Me
 {
     let mut message = Vec::new(alloc);
     match request {
-        Request::FetchJwt(_, audiences) => put_audiences(&mut message, audiences.as_slice())?,
+        Request::FetchJwt(ask) => put_token_ask(&mut message, ask)?,
         Request::Health(service) => {
             if service.len() > 0 {
                 put_bytes(&mut message, HEALTH_REQUEST_SERVICE, service.as_slice())?;

@@ -6,11 +6,13 @@
 
 mod asked;
 mod call;
+mod choices;
+mod decoded;
 mod escapes;
-mod formats;
 mod laws;
 mod limits;
 mod lines;
+mod options;
 mod program;
 mod request;
 mod sending;

@@ -8,10 +8,11 @@ ghost use Rattle.workload_proto.specs.declared.field_number.TheConstants.{X509_S
 ghost use Rattle.grpc_wire.specs.Messages.{framed};
 ghost use Rattle.svid_forms.specs.Json.{x509_json, bundles_json, jwt_json, jwt_bundles_json};
 ghost use Rattle.wl_control.specs.Escapes.{hex};
-ghost use Rattle.wl_control.specs.Lines.{line_end, svid_line, svid_lines, bundle_line, bundle_lines, jwt_line, jwt_lines, jwt_bundle_lines, state_line, status_line, fault_line, svids_are_whole, svids_pem, bundles_are_whole, bundles_pem, may_be_kept, lines_of, lines_by, whole_by};
+ghost use Rattle.wl_control.specs.Lines.{line_end, svid_line, svid_lines, bundle_line, bundle_lines, jwt_start, jwt_line, jwt_lines, jwt_bundle_lines, state_line, status_line, fault_line, svids_are_whole, svids_pem, bundles_are_whole, bundles_pem, may_be_kept, lines_of, lines_by, whole_by};
 ghost use Rattle.wl_control.specs.Takings.{Writes};
 
 use crate::asked::Kind;
+use crate::decoded::{put_decoded_lines, put_decoded_object};
 use crate::escapes::{put_escaped, put_hex};
 use crate::request::{Form, TokenForm};
 use grpc_wire::put_message;
@@ -93,15 +94,23 @@ fn put_bundles(out: &mut Vec<u8>, bundles: &[MapItem]) -> Result<(), Memory>
     Ok(())
 }
 
-#[tactic(auto, unfolding(crate::specs::Lines::jwt_line))]
-fn put_jwt(out: &mut Vec<u8>, svid: &JwtItem) -> Result<(), Memory>
-    ensures { OnOk result (out.new.items ≡ out.old.items ++ jwt_line svid.now) }
+#[tactic(auto, unfolding(crate::specs::Lines::jwt_start))]
+pub(crate) fn put_jwt_start(out: &mut Vec<u8>, svid: &JwtItem) -> Result<(), Memory>
+    ensures { OnOk result (out.new.items ≡ out.old.items ++ jwt_start svid.now) }
 {
     out.extend_from_slice(b"jwt ")?;
     put_escaped(out, svid.spiffe_id.as_slice())?;
     out.extend_from_slice(b" ")?;
     put_escaped(out, svid.svid.as_slice())?;
     put_part(out, b" hint=", svid.hint.as_slice())?;
+    Ok(())
+}
+
+#[tactic(auto, unfolding(crate::specs::Lines::jwt_line))]
+fn put_jwt(out: &mut Vec<u8>, svid: &JwtItem) -> Result<(), Memory>
+    ensures { OnOk result (out.new.items ≡ out.old.items ++ jwt_line svid.now) }
+{
+    put_jwt_start(out, svid)?;
     out.push(b'\n')?;
     Ok(())
 }
@@ -306,6 +315,8 @@ pub(crate) fn put_lines(
         Kind::Bundles(Form::Json) => put_bundles_object(alloc, out, message),
         Kind::Jwt(TokenForm::Lines) => put_jwt_lines(alloc, out, message),
         Kind::Jwt(TokenForm::Json) => put_jwt_object(alloc, out, message),
+        Kind::DecodedJwt(TokenForm::Lines) => put_decoded_lines(alloc, out, message),
+        Kind::DecodedJwt(TokenForm::Json) => put_decoded_object(alloc, out, message),
         Kind::JwtBundles(TokenForm::Lines) => put_jwt_bundles_lines(alloc, out, message),
         Kind::JwtBundles(TokenForm::Json) => put_jwt_bundles_object(alloc, out, message),
         Kind::State => put_health(out, message),

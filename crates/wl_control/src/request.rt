@@ -22,13 +22,29 @@ pub enum TokenForm {
     Json,
 }
 
-/// A format that words may name.
-#[derive(Clone, Copy, Debug, Drop, PartialEq, Eq)]
-pub enum Format {
+/// What an option chooses.
+#[derive(Drop)]
+pub enum Choice {
     /// `--pem`.
     Pem,
     /// `--json`.
     Json,
+    /// `--decode`.
+    Decode,
+    /// `--id ID`, `--id=ID`.
+    Id(Octets),
+}
+
+/// What is asked of FetchJWTSVID, and how the tokens are written.
+#[derive(Drop)]
+pub struct TokenAsk {
+    /// For whom the tokens are.
+    pub audiences: Row<Octets>,
+    /// The SPIFFE ID of which a token is wanted, where it is only one.
+    pub id: Option<Octets>,
+    pub form: TokenForm,
+    /// Whether what a token says is written too.
+    pub is_decoded: bool,
 }
 
 /// What is asked for.
@@ -38,8 +54,8 @@ pub enum Request {
     FetchX509(Form),
     /// One message of FetchX509Bundles.
     FetchBundles(Form),
-    /// The message of FetchJWTSVID for these audiences.
-    FetchJwt(TokenForm, Row<Octets>),
+    /// The message of FetchJWTSVID.
+    FetchJwt(TokenAsk),
     /// One message of FetchJWTBundles.
     FetchJwtBundles(TokenForm),
     /// So many messages of FetchX509SVID.

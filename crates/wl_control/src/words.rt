@@ -5,13 +5,15 @@ ghost use Rattle.std.specs.List.{list_all};
 ghost use Rattle.clap.specs.Words.{kind_of};
 ghost use Rattle.clap.specs.declared.error.ErrorKind.TheVariants.{OutOfMemory};
 ghost use Rattle.wl_control.specs.declared.request.Request.TheVariants.{Watch, HealthWatch};
-ghost use Rattle.wl_control.specs.Words.{digits_after, digits_of, count_in, is_audience, jwt_of, fetch_of, count_of, watch_of, health_of, request_by, command_of, in_format, in_formats, request_of, IsFit};
+ghost use Rattle.wl_control.specs.Words.{count_in, is_audience, jwt_of, fetch_of, count_of, watch_of, health_of, request_by, command_of, request_of, IsFit};
 
-use crate::formats::read_formats;
-use crate::request::{Form, Format, Request, TokenForm};
+use crate::choices::read_choices;
+use crate::options::with_choices;
+use crate::request::{Form, Request, TokenAsk, TokenForm};
 use clap::Error;
 use clap::error::ErrorKind;
 use control_words::read;
+use decimal_text::number_up_to;
 use std::alloc::Global;
 use std::string::String;
 use wl_octets::{Memory, Octets, Row};
@@ -28,50 +30,17 @@ const MAX_AUDIENCES: usize = 64;
 /// How many bytes an audience or a service may have.
 const MAX_WORD_LEN: usize = 200;
 
-/// The number after one digit more, where it is at most 1,000.
-fn more(number: u32, byte: u8) -> Option<u32>
-    ensures { result ≡ digits_after number (byte ∷ []) }
-{
-    if !byte.is_ascii_digit() {
-        return None;
-    }
-    let number = number.checked_mul(10)?.checked_add(u32::from(byte - b'0'))?;
-    if number > MAX_COUNT {
-        return None;
-    }
-    Some(number)
-}
-
-/// The number that these digits write.
-fn digits(word: &[u8]) -> Option<u32>
-    ensures { result ≡ digits_of word.now }
-{
-    if word.is_empty() {
-        return None;
-    }
-    let mut number: u32 = 0;
-    let mut rest = word;
-    'digits: while let Some((byte, after)) = rest.split_first() {
-        match more(number, *byte) {
-            Some(next) => number = next,
-            None => return None,
-        }
-        rest = after;
-    }
-    Some(number)
-}
-
 /// A count of messages, from 1 to 1,000: an optional `+` and digits.
 fn count_in(word: &[u8]) -> Option<u32>
     ensures { result ≡ count_in word.now }
 {
     let digits = match word {
-        [b'+', after @ ..] => digits(after),
-        _ => digits(word),
+        [b'+', after @ ..] => after,
+        _ => word,
     };
-    match digits {
+    match number_up_to(u64::from(MAX_COUNT), digits) {
         Some(0) | None => None,
-        Some(count) => Some(count),
+        Some(count) => Some(count as u32),
     }
 }
 
@@ -93,7 +62,12 @@ fn jwt_of(words: Row<Octets>) -> Option<Request>
     ensures fit { IfSome result IsFit }
 {
     if words.len() >= 1 && words.len() <= MAX_AUDIENCES && are_audiences(words.as_slice()) {
-        Some(Request::FetchJwt(TokenForm::Lines, words))
+        Some(Request::FetchJwt(TokenAsk {
+            audiences: words,
+            id: None,
+            form: TokenForm::Lines,
+            is_decoded: false,
+        }))
     } else {
         None
     }
@@ -231,7 +205,7 @@ fn no_request(error: Error) -> NoRequest
     }
 }
 
-/// What these words ask for, which name no format, where they fit something.
+/// What these words ask for, among which are no options, where they fit something.
 fn read_command(alloc: Global, words: &[String]) -> Result<Request, NoRequest>
     ensures value { IfOk result (λ q. command_of (map string_bytes words.now) ≡ Some q) }
     ensures fit { IfOk result IsFit }
@@ -251,73 +225,64 @@ fn read_command(alloc: Global, words: &[String]) -> Result<Request, NoRequest>
     }
 }
 
-/// The same in a format, where there is that.
-fn in_format(format: Format, request: Request) -> Option<Request>
-    requires { IsFit request }
-    ensures value { result ≡ in_format format request }
-    ensures fit { IfSome result IsFit }
-{
-    match (format, request) {
-        (Format::Pem, Request::FetchX509(_)) => Some(Request::FetchX509(Form::Pem)),
-        (Format::Json, Request::FetchX509(_)) => Some(Request::FetchX509(Form::Json)),
-        (Format::Pem, Request::FetchBundles(_)) => Some(Request::FetchBundles(Form::Pem)),
-        (Format::Json, Request::FetchBundles(_)) => Some(Request::FetchBundles(Form::Json)),
-        (Format::Json, Request::FetchJwt(_, audiences)) => Some(Request::FetchJwt(
-            TokenForm::Json,
-            audiences,
-        )),
-        (Format::Json, Request::FetchJwtBundles(_)) => Some(Request::FetchJwtBundles(
-            TokenForm::Json,
-        )),
-        _ => None,
-    }
-}
-
-/// The same in the one format that is named, if one is.
-fn in_formats(formats: &[Format], request: Request) -> Option<Request>
-    requires { IsFit request }
-    ensures value { result ≡ in_formats formats.now request }
-    ensures fit { IfSome result IsFit }
-{
-    match formats {
-        [] => Some(request),
-        [format] => in_format(*format, request),
-        _ => None,
-    }
-}
-
 /// What these words ask for, where they fit something.
 pub(crate) fn read_request(alloc: Global, words: &[String]) -> Result<Request, NoRequest>
     ensures value { IfOk result (λ q. request_of (map string_bytes words.now) ≡ Some q) }
     ensures fit { IfOk result IsFit }
     ensures unfit { IfErr result (λ e. (e ≡ NoRequest.Memory) ⊎ (request_of (map string_bytes words.now) ≡ None)) }
 {
-    let named = match read_formats(alloc, words) {
-        Ok(named) => named,
+    let chosen = match read_choices(alloc, words) {
+        Ok(chosen) => chosen,
         Err(Memory) => return Err(NoRequest::Memory),
     };
-    let command = match read_command(alloc, named.others.as_slice()) {
+    let command = match read_command(alloc, chosen.others.as_slice()) {
         Ok(command) => command,
         Err(refused) => return Err(refused),
     };
-    match in_formats(named.formats.as_slice(), command) {
-        Some(request) => Ok(request),
-        None => Err(NoRequest::Unfit(None)),
+    match with_choices(alloc, chosen.choices.as_slice(), command) {
+        Ok(Some(request)) => Ok(request),
+        Ok(None) => Err(NoRequest::Unfit(None)),
+        Err(Memory) => Err(NoRequest::Memory),
     }
 }
 
-/// What is wrong with operands that are as many as their command has.
+/// What is wrong with words whose command and number of operands fit.
 const OPERAND_FAULT: &str =
     "error: fetch is for x509, for bundles, for jwt-bundles, or for jwt and 1 to 64 audiences of at most 200 bytes; \
 --pem is for x509 and bundles, --json for all of fetch, and only one of them; \
+--decode and --id SPIFFE-ID are for jwt, each once; \
 COUNT is 1 to 1000; SERVICE has at most 200 bytes\n";
+
+/// The options, which clap's help doesn't list.
+const OPTIONS: &str = "
+Options of fetch, anywhere before the first --:
+  --pem            certificates and keys as PEM (x509, bundles)
+  --json           the message as one JSON object on one line
+  --id SPIFFE-ID   the token of this id alone (jwt)
+  --decode         what each token says, its signature not verified (jwt)
+
+Files:
+  fetch x509 --write FOLDER   the files of one message, all at once
+  keep FOLDER                 the files of each message, until wlctl is stopped
+  --envoy, after either       sds.yaml besides, for Envoy; FOLDER then begins with /
+
+The socket comes first: its path, --socket PATH or ADDRESS, or else SPIFFE_ENDPOINT_SOCKET.
+";
+
+/// What clap says of the words. Its help is followed by the options.
+fn told(alloc: Global, error: &Error) -> Result<String, Memory> {
+    if error.kind() == ErrorKind::DisplayHelp {
+        return Ok(format!(in alloc; "{error}{OPTIONS}")?);
+    }
+    Ok(format!(in alloc; "{error}")?)
+}
 
 /// Why these words fit nothing, for a person: which word is wrong, the help or the version; nothing where they fit.
 pub fn refusal(alloc: Global, words: &[String]) -> Result<String, Memory> {
     match read_request(alloc, words) {
         Ok(_) => Ok(String::new(alloc)),
         Err(NoRequest::Memory) => Err(Memory),
-        Err(NoRequest::Unfit(Some(error))) => Ok(format!(in alloc; "{error}")?),
+        Err(NoRequest::Unfit(Some(error))) => told(alloc, &error),
         Err(NoRequest::Unfit(None)) => Ok(String::from_str(alloc, OPERAND_FAULT)?),
     }
 }

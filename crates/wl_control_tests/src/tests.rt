@@ -1,5 +1,7 @@
 mod forms;
+mod large;
 mod repeating;
+mod tokens;
 
 use self::repeating::RepeatingLink;
 use std::alloc::Global;
@@ -41,6 +43,24 @@ pub(crate) const FINE: &[u8] = b"\x00\x00\x0f\x01\x05\x00\x00\x00\x01\x00\x0bgrp
 /// A refusal as the whole answer.
 const REFUSED: &[u8] = b"\x00\x00\x44\x01\x05\x00\x00\x00\x01\x88\x0f\x10\x10application/grpc\
     \x00\x0bgrpc-status\x017\x00\x0cgrpc-message\x12no identity issued";
+
+/// How many bytes the payload of a frame has at most.
+const FRAME_LEN: usize = 16_384;
+
+/// DATA of a message, in frames that are as long as they may be.
+pub(crate) fn data_of(alloc: Global, message: &[u8]) -> Result<Octets, Memory> {
+    let mut framed = Octets::from_slice(alloc, b"\x00")?;
+    let len = u32::try_from(message.len()).unwrap_or(u32::MAX);
+    framed.push_slice(&len.to_be_bytes())?;
+    framed.push_slice(message)?;
+    let mut data = Octets::empty(alloc);
+    for part in framed.as_slice().chunks(FRAME_LEN) {
+        let size = (part.len() as u32).to_be_bytes();
+        data.push_slice(&[size[1], size[2], size[3], 0, 0, 0, 0, 0, 1])?;
+        data.push_slice(part)?;
+    }
+    Ok(data)
+}
 
 /// A link that is idle so many times, then gives this in one piece, and then its end.
 fn slow_link(alloc: Global, idles: usize, parts: &[&[u8]]) -> Result<MemoryLink, Memory> {
@@ -93,7 +113,7 @@ fn chatty_link(alloc: Global, more: u8) -> Result<RepeatingLink, Memory> {
     })
 }
 
-fn words_of(alloc: Global, text: &str) -> Result<Vec<String>, Memory> {
+pub(crate) fn words_of(alloc: Global, text: &str) -> Result<Vec<String>, Memory> {
     let mut words = Vec::new(alloc);
     for word in text.split(' ') {
         words.push(String::from_str(alloc, word)?)?;

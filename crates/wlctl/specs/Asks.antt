@@ -1,17 +1,32 @@
 -- The words that ask for files (own rule): `keep FOLDER` and `fetch x509 --write FOLDER`, where FOLDER isn't empty and doesn't
--- begin with `-`.
-use Rattle.std.specs.Prelude.{ℕ, ◌==◌, ◌&&◌, not, if◌then◌else◌, Bool, false, List, [], ◌∷◌, codes, Option, Some, None}
+-- begin with `-`. With `--envoy` after them Envoy's file is due too, in which the folder's path stands: it begins with `/`.
+use Rattle.std.specs.Prelude.{ℕ, ◌==◌, ◌&&◌, not, if◌then◌else◌, Bool, true, false, List, [], ◌∷◌, codes, Option, Some, None}
 use Rattle.std.specs.Str.{bytes_eq}
 
 abbrev pub is_place : List ℕ → Bool
 is_place [] = false
 is_place (b ∷ bytes) = not (b == 45)
 
-abbrev pub kept_in : List (List ℕ) → Option (List ℕ)
-kept_in (command ∷ folder ∷ []) = if bytes_eq command (codes "keep") && is_place folder then Some folder else None
+abbrev pub is_absolute : List ℕ → Bool
+is_absolute [] = false
+is_absolute (b ∷ bytes) = b == 47
+
+abbrev pub is_keep : List ℕ → Bool
+is_keep command = bytes_eq command (codes "keep")
+
+abbrev pub is_envoy : List ℕ → Bool
+is_envoy option = bytes_eq option (codes "--envoy")
+
+abbrev pub is_write : List ℕ → List ℕ → List ℕ → Bool
+is_write command what option = bytes_eq command (codes "fetch") && (bytes_eq what (codes "x509") && bytes_eq option (codes "--write"))
+
+-- the folder, and whether Envoy's file is due
+abbrev pub kept_in : List (List ℕ) → Option (List ℕ × Bool)
+kept_in (command ∷ folder ∷ []) = if is_keep command && is_place folder then Some (folder, false) else None
+kept_in (command ∷ folder ∷ envoy ∷ []) = if is_keep command && (is_envoy envoy && is_absolute folder) then Some (folder, true) else None
 kept_in _ = None
 
-abbrev pub written_to : List (List ℕ) → Option (List ℕ)
-written_to (command ∷ what ∷ option ∷ folder ∷ []) =
-    if bytes_eq command (codes "fetch") && (bytes_eq what (codes "x509") && (bytes_eq option (codes "--write") && is_place folder)) then Some folder else None
+abbrev pub written_to : List (List ℕ) → Option (List ℕ × Bool)
+written_to (command ∷ what ∷ option ∷ folder ∷ []) = if is_write command what option && is_place folder then Some (folder, false) else None
+written_to (command ∷ what ∷ option ∷ folder ∷ envoy ∷ []) = if is_write command what option && (is_envoy envoy && is_absolute folder) then Some (folder, true) else None
 written_to _ = None

@@ -1,7 +1,7 @@
 //! What words ask of files.
 
 ghost use Rattle.std.specs.Prelude.{◌≡◌, map, option_map, string_bytes};
-ghost use Rattle.wlctl.specs.Asks.{is_place, kept_in, written_to};
+ghost use Rattle.wlctl.specs.Asks.{is_place, is_absolute, is_keep, is_envoy, is_write, kept_in, written_to};
 
 use std::string::String;
 
@@ -15,28 +15,61 @@ fn is_place(word: &str) -> bool
     }
 }
 
-/// The folder of `keep FOLDER`.
-pub fn kept_in(words: &[String]) -> Option<&str>
-    ensures { option_map (λ s. s.now) result ≡ kept_in (map string_bytes words.now) }
+fn is_absolute(word: &str) -> bool
+    ensures { result ≡ is_absolute word.now }
+{
+    match word.as_bytes() {
+        [first, ..] => *first == b'/',
+        [] => false,
+    }
+}
+
+fn is_keep(command: &str) -> bool
+    ensures { result ≡ is_keep command.now }
+{
+    command == "keep"
+}
+
+fn is_envoy(option: &str) -> bool
+    ensures { result ≡ is_envoy option.now }
+{
+    option == "--envoy"
+}
+
+fn is_write(command: &str, what: &str, option: &str) -> bool
+    ensures { result ≡ is_write command.now what.now option.now }
+{
+    command == "fetch" && what == "x509" && option == "--write"
+}
+
+/// The folder of `keep FOLDER`, and whether Envoy's file is due.
+pub fn kept_in(words: &[String]) -> Option<(&str, bool)>
+    ensures { option_map (λ p. (p.0.now, p.1)) result ≡ kept_in (map string_bytes words.now) }
 {
     match words {
-        [command, folder] if command.as_str() == "keep" && is_place(folder.as_str()) => Some(
-            folder.as_str(),
-        ),
+        [command, folder] if is_keep(command.as_str()) && is_place(folder.as_str()) => {
+            Some((folder.as_str(), false))
+        }
+        [command, folder, envoy]
+            if is_keep(command.as_str())
+                && is_envoy(envoy.as_str())
+                && is_absolute(folder.as_str()) => { Some((folder.as_str(), true)) }
         _ => None,
     }
 }
 
-/// The folder of `fetch x509 --write FOLDER`.
-pub fn written_to(words: &[String]) -> Option<&str>
-    ensures { option_map (λ s. s.now) result ≡ written_to (map string_bytes words.now) }
+/// The folder of `fetch x509 --write FOLDER`, and whether Envoy's file is due.
+pub fn written_to(words: &[String]) -> Option<(&str, bool)>
+    ensures { option_map (λ p. (p.0.now, p.1)) result ≡ written_to (map string_bytes words.now) }
 {
     match words {
         [command, what, option, folder]
-            if command.as_str() == "fetch"
-                && what.as_str() == "x509"
-                && option.as_str() == "--write"
-                && is_place(folder.as_str()) => Some(folder.as_str()),
+            if is_write(command.as_str(), what.as_str(), option.as_str())
+                && is_place(folder.as_str()) => { Some((folder.as_str(), false)) }
+        [command, what, option, folder, envoy]
+            if is_write(command.as_str(), what.as_str(), option.as_str())
+                && is_envoy(envoy.as_str())
+                && is_absolute(folder.as_str()) => { Some((folder.as_str(), true)) }
         _ => None,
     }
 }

@@ -2,6 +2,7 @@
 
 ghost use Rattle.std.specs.Prelude.{None, ◌<◌, ◌≤◌, length, IfOk, IfSome};
 
+use crate::leaf_text::leaf_text;
 use file_sets::{Folder, RealShelf};
 use std::alloc::Global;
 use std::io::Write;
@@ -9,9 +10,32 @@ use std::string::String;
 use std::{fs, io};
 use svid_files::{files_in, publish_message};
 use wl_edge::{Sent, Sink};
+use wl_octets::{Memory, Octets};
 
 /// How long the head of a frame is: a byte 0 and the length in four bytes.
 const HEAD_LEN: usize = 5;
+
+/// Which files are wanted, and where.
+#[derive(Drop)]
+pub struct Wanted {
+    /// The folder's path.
+    pub path: String,
+    /// The same path where Envoy's file is due too.
+    pub envoy: Option<Octets>,
+}
+
+impl Wanted {
+    /// Files in the folder of this path.
+    pub fn start(alloc: Global, path: &str, for_envoy: bool) -> Result<Wanted, Memory> {
+        let envoy = if for_envoy {
+            Some(Octets::from_slice(alloc, path.as_bytes())?)
+        } else {
+            None
+        };
+        let path = String::from_str(alloc, path)?;
+        Ok(Wanted { path, envoy })
+    }
+}
 
 /// Writes files into a folder.
 #[derive(Drop)]
@@ -19,6 +43,7 @@ struct FolderWriter {
     rt: HostRuntime,
     alloc: Global,
     path: String,
+    envoy: Option<Octets>,
     is_kept: bool,
     written: u64,
     is_refused: bool,
@@ -50,12 +75,13 @@ fn frame_len(bytes: &[u8]) -> Option<usize>
 }
 
 impl FolderSink {
-    /// A sink for this folder.
-    pub fn start(rt: HostRuntime, alloc: Global, path: String, is_kept: bool) -> FolderSink {
+    /// A sink for the folder that is wanted.
+    pub fn start(rt: HostRuntime, alloc: Global, wanted: Wanted, is_kept: bool) -> FolderSink {
         let writer = FolderWriter {
             rt,
             alloc,
-            path,
+            path: wanted.path,
+            envoy: wanted.envoy,
             is_kept,
             written: 0,
             is_refused: false,
@@ -92,9 +118,19 @@ impl FolderWriter {
         Ok(())
     }
 
+    /// Says that the files of a message were written.
+    fn say_written(&self, number: u64, count: usize, message: &[u8]) {
+        if !self.is_kept {
+            return;
+        }
+        if let Ok(leaf) = leaf_text(self.alloc, message) {
+            let _ = eprintln!(self.rt; "event=written {leaf} folder=..data-{number} files={count}");
+        }
+    }
+
     /// Writes the files of a message.
     fn publish(&mut self, message: &[u8]) -> io::Result<()> {
-        let Ok(Some(files)) = files_in(self.alloc, message) else {
+        let Ok(Some(files)) = files_in(self.alloc, &self.envoy, message) else {
             return Err(io::ErrorKind::InvalidData.into());
         };
         let folder = Folder {
@@ -108,17 +144,14 @@ impl FolderWriter {
             return Err(io::ErrorKind::AlreadyExists.into());
         }
         let mut shelf = RealShelf::start(self.rt.clone()?, self.alloc, self.path.clone()?);
-        if publish_message(self.alloc, &mut shelf, number, message).is_err() {
+        if publish_message(self.alloc, &mut shelf, number, &self.envoy, message).is_err() {
             self.remove_unseen(number)?;
             return Err(io::ErrorKind::Other.into());
         }
         folder.link_names(files.as_slice())?;
         folder.remove_old(number)?;
         self.written = self.written.saturating_add(1);
-        let count = files.len();
-        if self.is_kept {
-            let _ = eprintln!(self.rt; "event=written folder=..data-{number} files={count}");
-        }
+        self.say_written(number, files.len(), message);
         Ok(())
     }
 

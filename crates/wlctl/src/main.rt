@@ -9,17 +9,18 @@
 mod asks;
 mod endpoint;
 mod folder_sink;
+mod leaf_text;
 
 use asks::{kept_in, written_to};
 use endpoint::{Socket, take_socket};
-use folder_sink::FolderSink;
+use folder_sink::{FolderSink, Wanted};
 use std::alloc::{AllocGlobal, Global};
 use std::process::ExitCode;
 use std::string::String;
 use std::sync::Wait;
 use std::thread::sleep;
 use std::time::Duration;
-use wl_control::status::{OUT_OF_MEMORY, USAGE, WRITE_FAILED};
+use wl_control::status::{CLIENT_FAULT, DENIED, OUT_OF_MEMORY, READ_FAILED, USAGE, WRITE_FAILED};
 use wl_control::{control, keep, refusal};
 use wl_edge_real::{Address, DialedLink, RealOutput, words};
 use wl_octets::Memory;
@@ -31,6 +32,11 @@ const UNNAMED: &str =
 /// What is said where an address can't be used.
 const UNUSABLE: &str =
     "error: the address is not of the form unix:///path, unix:/path or tcp://127.0.0.1:PORT\n";
+
+/// What is said of words that ask for files and don't fit.
+const FILES_FAULT: &str =
+    "error: files are asked for by fetch x509 --write FOLDER or keep FOLDER, and --envoy after that; \
+FOLDER isn't empty and doesn't begin with -, and with --envoy it begins with /\n";
 
 /// How many seconds are waited at most between two connections.
 const MAX_WAIT_SECONDS: u64 = 30;
@@ -46,25 +52,32 @@ fn explain(rt: &HostRuntime, alloc: Global, words: &[String], otherwise: &str) {
     }
 }
 
+/// Whether words that don't fit were to ask for files.
+fn asks_for_files(words: &[String]) -> bool {
+    words.iter().any(|word| matches!(word.as_str(), "keep" | "--write" | "--envoy"))
+}
+
 /// Makes the call that the words ask for over this socket.
 fn call(rt: HostRuntime, address: Address, words: &[String]) -> u8 {
     let alloc = rt.alloc();
     let mut link = DialedLink::start_at(rt, address);
     let mut sink = RealOutput::start(rt.stdout());
     let status = control(&rt, alloc, words, &mut link, &mut sink);
-    if status == USAGE {
+    if status == USAGE && asks_for_files(words) {
+        let _ = eprint!(rt; "{FILES_FAULT}");
+    } else if status == USAGE {
         explain(&rt, alloc, words, "");
     }
     status
 }
 
-/// Writes the files of one message into this folder.
-fn write(rt: HostRuntime, alloc: Global, address: Address, folder: String) -> u8 {
+/// Writes the files of one message.
+fn write(rt: HostRuntime, alloc: Global, address: Address, wanted: Wanted) -> u8 {
     let Ok(own) = rt.clone() else {
         return OUT_OF_MEMORY;
     };
     let mut link = DialedLink::start_at(rt, address);
-    let mut sink = FolderSink::start(own, alloc, folder, false);
+    let mut sink = FolderSink::start(own, alloc, wanted, false);
     keep(alloc, 1, &mut link, &mut sink)
 }
 
@@ -85,13 +98,25 @@ fn next_wait(seconds: u64) -> u64 {
     seconds.saturating_add(seconds).min(MAX_WAIT_SECONDS)
 }
 
+/// Why a call of `keep` ended, in words.
+fn reason_of(status: u8) -> &'static str {
+    match status {
+        READ_FAILED => "the connection broke",
+        WRITE_FAILED => "the agent can't be reached, or the files can't be written",
+        OUT_OF_MEMORY => "out of memory",
+        DENIED => "the agent refused",
+        CLIENT_FAULT => "the agent's answer has a fault, or its connection ended",
+        _ => "the call ended",
+    }
+}
+
 /// Writes the files of each message that comes, and connects again where that ends, for ever: it ends only where a file that
 /// isn't its own stands in the way.
-fn stay(waits: &impl Wait, rt: HostRuntime, alloc: Global, address: Address, folder: String) -> u8 {
+fn stay(waits: &impl Wait, rt: HostRuntime, alloc: Global, address: Address, wanted: Wanted) -> u8 {
     let Ok(own) = rt.clone() else {
         return OUT_OF_MEMORY;
     };
-    let mut sink = FolderSink::start(own, alloc, folder, true);
+    let mut sink = FolderSink::start(own, alloc, wanted, true);
     let mut seconds: u64 = 1;
     'calls: for _ in waits.forever() {
         let before = sink.written();
@@ -102,7 +127,8 @@ fn stay(waits: &impl Wait, rt: HostRuntime, alloc: Global, address: Address, fol
         if sink.written() > before {
             seconds = 1;
         }
-        let _ = eprintln!(rt; "event=ended status={status} wait={seconds}");
+        let why = reason_of(status);
+        let _ = eprintln!(rt; "event=ended status={status} wait={seconds} reason=\"{why}\"");
         sleep(&rt, Duration::from_secs(seconds));
         seconds = next_wait(seconds);
     }
@@ -117,13 +143,13 @@ fn serve(
     words: &[String],
 ) -> Result<u8, Memory> {
     let alloc = rt.alloc();
-    if let Some(folder) = kept_in(words) {
-        let folder = String::from_str(alloc, folder)?;
-        return Ok(stay(waits, rt, alloc, address, folder));
+    if let Some((folder, for_envoy)) = kept_in(words) {
+        let wanted = Wanted::start(alloc, folder, for_envoy)?;
+        return Ok(stay(waits, rt, alloc, address, wanted));
     }
-    if let Some(folder) = written_to(words) {
-        let folder = String::from_str(alloc, folder)?;
-        return Ok(write(rt, alloc, address, folder));
+    if let Some((folder, for_envoy)) = written_to(words) {
+        let wanted = Wanted::start(alloc, folder, for_envoy)?;
+        return Ok(write(rt, alloc, address, wanted));
     }
     Ok(call(rt, address, words))
 }
