@@ -1,27 +1,35 @@
 //! agentd: the node agent of SPIFFE.
 //!
 //! It hands its words, its input, standard output and the operating system to `wl_agent::run`, and ends with its status.
-//! The input is standard input, and for `serve CONFIG` that file. Why words fit no command is written to standard error.
+//! The input is standard input, and for `serve CONFIG` that file. Standard error has the log of `serve`, and of each other
+//! command why it ended with a status but 0.
 #![tactic(auto)]
 
 mod documents;
+mod ending;
 mod host;
 mod lazy_file;
 mod running;
+mod settings;
 mod signers;
 
+use crate::ending::{explain_end, say_end};
 use crate::host::RealHost;
 use crate::lazy_file::LazyFile;
 use crate::running::serve_here;
+use crate::settings::DEFAULT_LEVEL;
+use log_output::Log;
 use std::alloc::{AllocGlobal, Global};
 use std::process::ExitCode;
 use std::string::String;
-use std::sync::Wait;
+use std::sync::{Arc, Wait};
 use std::thread::Threads;
 use wl_agent::status::{OUT_OF_MEMORY, USAGE};
 use wl_agent::{Host, config_path, refusal, run};
 use wl_edge::RealSource;
 use wl_edge_real::{RealOutput, words};
+use wl_octets::Memory;
+use wl_saying::KeepingSink;
 
 /// Writes why the words fit no command to standard error. Where that fails nobody reads it.
 fn explain(rt: &HostRuntime, alloc: Global, words: &[String]) {
@@ -30,7 +38,26 @@ fn explain(rt: &HostRuntime, alloc: Global, words: &[String]) {
     }
 }
 
-/// Serves by the configuration in this file.
+/// The status of a process that found no memory to begin, and its sentence.
+fn without_memory(rt: &HostRuntime, alloc: Global) -> u8 {
+    explain_end(rt, alloc, OUT_OF_MEMORY, &[]);
+    OUT_OF_MEMORY
+}
+
+/// The log of this process.
+fn start_log(rt: &HostRuntime, alloc: Global) -> Result<Arc<Log>, Memory> {
+    let own = rt.clone().map_err(|_| Memory)?;
+    Arc::new(alloc, Log::start(own, DEFAULT_LEVEL)).map_err(|_| Memory)
+}
+
+/// The real host, which has this log.
+fn start_host(rt: &HostRuntime, log: &Arc<Log>) -> Result<RealHost<HostRuntime>, Memory> {
+    let own = rt.clone().map_err(|_| Memory)?;
+    let log = Arc::try_clone(log).map_err(|_| Memory)?;
+    Ok(RealHost::start(own, log))
+}
+
+/// Serves by the configuration in this file. The log says why it ended.
 fn serve_file(
     rt: &HostRuntime,
     threads: &(impl Threads + Wait + Sync),
@@ -38,41 +65,52 @@ fn serve_file(
     path: &str,
     words: &[String],
 ) -> u8 {
-    let Ok(own) = rt.clone() else {
-        return OUT_OF_MEMORY;
+    let Ok(log) = start_log(rt, alloc) else {
+        return without_memory(rt, alloc);
+    };
+    let Ok(binder) = start_host(rt, &log) else {
+        return without_memory(rt, alloc);
     };
     let mut host = Host {
         input: RealSource::start(LazyFile::start(rt, path)),
-        output: RealOutput::start(rt.stdout()),
-        binder: RealHost::start(own),
+        output: KeepingSink::start(alloc, RealOutput::start(rt.stdout())),
+        binder,
         parts: None,
     };
-    serve_here(threads, alloc, words, &mut host)
+    let status = serve_here(threads, alloc, words, &mut host);
+    let is_prepared = host.parts.is_some();
+    say_end(&log, alloc, status, host.output.first_line(), is_prepared);
+    status
 }
 
-/// Runs a command on standard input.
+/// Runs a command on standard input, and writes why it ended.
 fn run_on_input(
     rt: &HostRuntime,
     threads: &(impl Threads + Wait + Sync),
     alloc: Global,
     words: &[String],
 ) -> u8 {
-    let Ok(own) = rt.clone() else {
-        return OUT_OF_MEMORY;
+    let Ok(log) = start_log(rt, alloc) else {
+        return without_memory(rt, alloc);
+    };
+    let Ok(binder) = start_host(rt, &log) else {
+        return without_memory(rt, alloc);
     };
     let mut host = Host {
         input: RealSource::start(rt.stdin()),
-        output: RealOutput::start(rt.stdout()),
-        binder: RealHost::start(own),
+        output: KeepingSink::start(alloc, RealOutput::start(rt.stdout())),
+        binder,
         parts: None,
     };
-    run(threads, alloc, words, &mut host)
+    let status = run(threads, alloc, words, &mut host);
+    explain_end(rt, alloc, status, host.output.first_line());
+    status
 }
 
 fn main(rt: HostRuntime) -> ExitCode {
     let alloc = rt.alloc();
     let Ok(words) = words(&rt, alloc) else {
-        return ExitCode::from(OUT_OF_MEMORY);
+        return ExitCode::from(without_memory(&rt, alloc));
     };
     let status = match config_path(words.as_slice()) {
         Some(path) => serve_file(&rt, &rt, alloc, path, words.as_slice()),

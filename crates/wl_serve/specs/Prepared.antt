@@ -24,7 +24,7 @@ pub record IsUnused (v : SeatView) : Type 0 where
 -- the seat of the socket of this number
 pub record IsSeat (tells : Type 0) (number : ℕ) (fact : SocketFact) (v : SeatView) : Type 0 where
   pub socket : v.socket ≡ number
-  pub room : v.room ≡ fact.workers
+  pub room : v.room ≡ fact.connections
   pub pass : v.pass ≡ None
   pub end : v.end ≡ None
   pub unused : IsUnused v

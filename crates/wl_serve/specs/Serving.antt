@@ -133,7 +133,7 @@ module _ (vouched : Ask → List (List ℕ) → JwtToken → Type 0) (links tell
     pub end : SeatEnd
     pub ended : v.end ≡ Some end
     pub socket : v.socket ≡ number
-    pub room : v.room ≡ fact.workers
+    pub room : v.room ≡ fact.connections
     pub first : SawFirst from v.pass
     pub listened : tells → IsSomeAnd v.listener (FinishesAll end unheard)
     pub tended : HasTended from v end

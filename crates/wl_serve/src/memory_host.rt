@@ -96,7 +96,7 @@ impl SeatMaker for SeatsLeft {
             pass: None,
             end: None,
             ready: CountedReady::start(alloc, failing),
-            room: fact.workers,
+            room: fact.connections,
         };
         Ok((seat, MemoryBell::start()))
     }

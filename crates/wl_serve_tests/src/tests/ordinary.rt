@@ -1,5 +1,5 @@
 //! An ordinary node: fifty entries behind three sockets, each with a client that keeps the three streaming calls open
-//! while every identity is signed anew. Its bytes are of `bench/ordinary_node.py`.
+//! while every identity is signed anew. Its bytes are of `tests/vectors/ordinary_node.py`.
 
 mod answers;
 mod bytes;

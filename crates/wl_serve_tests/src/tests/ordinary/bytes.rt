@@ -1,4 +1,4 @@
-//! What clients send, and the parts of documents, certificates and messages (`bench/ordinary_node.py`).
+//! What clients send, and the parts of documents, certificates and messages (`tests/vectors/ordinary_node.py`).
 
 /// How many entries there are, from number 0 on.
 pub const ENTRIES: u8 = 50;
