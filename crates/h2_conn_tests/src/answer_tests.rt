@@ -24,7 +24,7 @@ const RESPONSE: &[u8] = b"\0\0\x14\x01\x04\0\0\0\x01\x88\x0f\x10\x10application/
 const DENIED: &[u8] =
     b"\0\0\x30\x01\x05\0\0\0\x01\0\x0bgrpc-status\x017\0\x0cgrpc-message\x12no identity issued";
 
-/// What python3-h2 sends behind the preface in two calls, printed by `bench/h2_client.py`.
+/// What python3-h2 sends after the preface in two calls, printed by `tests/vectors/h2_client.py`.
 const FIRST_CALL: &[u8] = b"\0\0*\x04\0\0\0\0\0\0\x01\0\0\x10\0\0\x02\0\0\0\x01\0\x04\0\0\xff\xff\
 \0\x05\0\0@\0\0\x08\0\0\0\0\0\x03\0\0\0d\0\x06\0\x01\0\0\
 \0\0\x04\x08\0\0\0\0\0\0\x0fB@\

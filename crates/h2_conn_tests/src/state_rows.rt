@@ -1,4 +1,4 @@
-//! The states of a stream and the frames of a client there, after RFC 9113. `bench/h2_states.py` writes this file: it
+//! The states of a stream and the frames of a client there, after RFC 9113. `tests/vectors/h2_states.py` writes this file: it
 //! has the standard's rules with their sections, and what is taken where they leave a choice.
 
 use crate::state_tests::{Act, Start, StateRow};

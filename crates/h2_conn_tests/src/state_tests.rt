@@ -1,5 +1,5 @@
 //! Each state of a stream with each kind of frame, after RFC 9113. The table is written from the
-//! standard's own rules (`bench/h2_states.py`), and not from the connection table.
+//! standard's own rules (`tests/vectors/h2_states.py`), and not from the connection table.
 
 use crate::state_rows::{ROWS, STARTS};
 use crate::testing::{frames, goes_on, take};

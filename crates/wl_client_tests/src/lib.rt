@@ -4,6 +4,8 @@
 #[cfg(test)]
 mod decode_tests;
 #[cfg(test)]
+mod large_tests;
+#[cfg(test)]
 mod recorded_tests;
 #[cfg(test)]
 mod tests;

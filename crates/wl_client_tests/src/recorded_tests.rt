@@ -1,4 +1,4 @@
-//! Answers of other servers, recorded once (bench/peers): python3-grpcio's and grpc-go's. They send SETTINGS and PING of
+//! Answers of other servers, recorded once (tests/vectors/peers): python3-grpcio's and grpc-go's. They send SETTINGS and PING of
 //! their own and use Huffman texts and the dynamic table. What is heard is what these servers were told to answer.
 
 use crate::tests::{hear, text_of};

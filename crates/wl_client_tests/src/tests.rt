@@ -39,7 +39,7 @@ fn join(alloc: Global, front: &[u8], rest: &[u8]) -> Result<Octets, Memory> {
     Ok(whole)
 }
 
-/// What was told, in one text.
+/// What was heard, in one text.
 pub(crate) fn text_of(alloc: Global, told: &[Heard]) -> Result<Octets, Memory> {
     let mut text = Octets::empty(alloc);
     for heard in told {
@@ -151,7 +151,7 @@ fn heads_and_statuses_are_heard(rt: HostRuntime) -> Result<(), Fail> {
 
 #[test]
 fn messages_are_heard(rt: HostRuntime) -> Result<(), Fail> {
-    // Behind the head: one message, two in one DATA frame, one in two frames with an empty frame between them, and an empty one with padding.
+    // After the head: one message, two in one DATA frame, one in two frames with an empty frame between them, and an empty one with padding.
     let table: [(&[u8], &[u8], &[u8]); 4] = [
         (
             b"\x00\x00\x08\x00\x00\x00\x00\x00\x01\x00\x00\x00\x00\x03abc",
@@ -295,7 +295,7 @@ fn order_is_kept(rt: HostRuntime) -> Result<(), Fail> {
 
 #[test]
 fn nothing_comes_behind_the_end(rt: HostRuntime) -> Result<(), Fail> {
-    // HEADERS, DATA and CONTINUATION behind the end; RST_STREAM there.
+    // HEADERS, DATA and CONTINUATION after the end; RST_STREAM there.
     let table: [(&[u8], &[u8], &[u8], ClientFault); 4] = [
         (ANSWER, ABC, b"head;status 0 ;", ClientFault::Order(1)),
         (ANSWER, DONE, b"head;status 0 ;", ClientFault::Order(1)),
