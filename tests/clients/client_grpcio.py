@@ -9,6 +9,7 @@ import time
 
 import grpc
 
+sys.path.insert(0, str(pathlib.Path(__file__).resolve().parent.parent.parent / "tools"))
 from messages import API, HEALTH, NOT_SERVING, SECURITY, SERVING, STREAMS, field, health_request, jwt_request, pairs, svids, tokens
 from verified import certificates, check_token, check_x509, expect
 

@@ -5,9 +5,11 @@ import pathlib
 import socket
 import sys
 
+sys.path.insert(0, str(pathlib.Path(__file__).resolve().parent.parent.parent / "tools"))
 import bare
 from bare import CONTINUATION, DATA, END_HEADERS, END_STREAM, GOAWAY, GREETING, HEADERS, MOST, PING, PREFACE, RST_STREAM, SETTINGS, \
     WINDOW_UPDATE, frame, frames
+from cases import tell
 from messages import API
 
 FOLDER = pathlib.Path(sys.argv[1])
@@ -101,16 +103,5 @@ CASES = {
 }
 
 
-def main():
-    for name, case in CASES.items():
-        if sys.argv[2:] and name not in sys.argv[2:]:
-            continue
-        try:
-            said = "ok" if case() else "FAILED another answer"
-        except Exception as error:
-            said = f"FAILED {type(error).__name__} {str(error)[:200]!r}"
-        print(f"{name} {said}", flush=True)
-
-
 if __name__ == "__main__":
-    main()
+    tell(CASES)

@@ -8,6 +8,8 @@ import sys
 import tempfile
 import time
 
+sys.path.insert(0, str(pathlib.Path(__file__).resolve().parent.parent.parent / "tools"))
+from cases import tell
 from messages import API, HEALTH, SECURITY, jwt_request
 
 FOLDER = pathlib.Path(sys.argv[1])
@@ -58,14 +60,7 @@ def main():
              for name, port in PORTS.items()]
     time.sleep(0.5)
     try:
-        for name, case in CASES.items():
-            if sys.argv[2:] and name not in sys.argv[2:]:
-                continue
-            try:
-                said = "ok" if case() else "FAILED another answer"
-            except Exception as error:
-                said = f"FAILED {type(error).__name__} {str(error)[:200]!r}"
-            print(f"{name} {said}", flush=True)
+        tell(CASES)
     finally:
         for it in hands:
             it.terminate()
