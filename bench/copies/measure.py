@@ -12,7 +12,7 @@ import tempfile
 
 HERE = pathlib.Path(__file__).resolve().parent
 TOP = HERE.parent.parent
-sys.path.insert(0, str(TOP / "tests" / "clients"))
+sys.path.insert(0, str(TOP / "tools"))
 import agent
 
 WLCTL = os.environ.get("WLCTL", str(TOP / "crates" / "wlctl" / "out" / "wlctl"))

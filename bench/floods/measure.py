@@ -13,7 +13,7 @@ import threading
 
 HERE = pathlib.Path(__file__).resolve().parent
 TOP = HERE.parent.parent
-sys.path.insert(0, str(TOP / "tests" / "clients"))
+sys.path[:0] = [str(TOP / "tools"), str(TOP / "tests" / "clients")]
 FRAMES, CALLS = [int(it) for it in sys.argv[1:] + ["1000000", "20000"][len(sys.argv) - 1:]]
 FOLDER = tempfile.mkdtemp(prefix="floods-")
 # the clients take the folder of the sockets from the words

@@ -4,7 +4,7 @@
     bench/replay/script.py calls|pings|documents [BYTES]
 
 `calls`: 32 callers of 100 entries make call after call of FetchX509SVID, each cancelled before the next, with a turn
-behind each. `pings`: the callers make one call each, and then send PING after PING, with a turn behind each.
+after each. `pings`: the callers make one call each, and then send PING after PING, with a turn after each.
 `documents`: a document of 1,000 entries is taken in again and again, in which the DNS name of one entry comes and goes.
 """
 import json

@@ -6,7 +6,7 @@
 //	load SOCKET burst ROUNDS STREAMS       first responses on so many streams of one connection at once, in each round
 //	load SOCKET hold CONNECTIONS STREAMS   opens streams, and holds them until its input ends
 //
-// A line of seconds and, but for the spread, of responses a second.
+// A line of seconds and, except for the spread, of responses a second.
 package main
 
 import (

@@ -14,7 +14,7 @@ import time
 
 HERE = pathlib.Path(__file__).resolve().parent
 TOP = HERE.parent.parent
-sys.path.insert(0, str(TOP / "tests" / "clients"))
+sys.path.insert(0, str(TOP / "tools"))
 import agent
 from messages import API, SECURITY
 

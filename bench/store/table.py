@@ -5,22 +5,13 @@ the memory of each.
 
     bench/store/table.py PROGRAM
 """
-import os
-import subprocess
+import pathlib
 import sys
 
+sys.path.insert(0, str(pathlib.Path(__file__).resolve().parent.parent))
+from figures import figures
+
 COUNTS = [1_000, 3_000, 10_000]
-
-
-def figures(program, *words):
-    """The nanoseconds that the program prints by name, and the peak of its memory in bytes."""
-    child = subprocess.Popen([program, *words], stdout=subprocess.PIPE, text=True)
-    lines = child.stdout.read().splitlines()
-    _, status, usage = os.wait4(child.pid, 0)
-    if status != 0:
-        sys.exit("\n".join(lines))
-    named = dict(line.rsplit(": ", 1) for line in lines)
-    return {name: int(nanoseconds) for name, nanoseconds in named.items()}, usage.ru_maxrss * 1024
 
 
 def cell(nanoseconds):
