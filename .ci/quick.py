@@ -31,9 +31,9 @@ def tracked():
     return [TOP / name for name in out.splitlines() if (TOP / name).is_file()]
 
 
-def uses():
+def uses(page="crates.txt"):
     """The names that each crate uses, by crates.txt."""
-    lines = [line.split("#")[0].partition(":") for line in (TOP / "crates.txt").read_text().splitlines()]
+    lines = [line.split("#")[0].partition(":") for line in (TOP / page).read_text().splitlines()]
     return {head.split()[0]: names.split() for head, _, names in lines if head.strip()}
 
 
@@ -213,12 +213,29 @@ def check_version():
 
 def check_states():
     """The table of the tests of h2_conn is the one that its maker writes."""
-    made = subprocess.run([sys.executable, "bench/h2_states.py"], cwd=TOP, capture_output=True, text=True)
+    made = subprocess.run([sys.executable, "tests/vectors/h2_states.py"], cwd=TOP, capture_output=True, text=True)
     kept = (TOP / "crates/h2_conn_tests/src/state_rows.rt").read_text()
     # rt fmt breaks lines, and ends the last item of each by a comma
     plain = [re.sub(r"[\s,]", "", text) for text in (made.stdout, kept)]
     if made.returncode != 0 or plain[0] != plain[1]:
-        fault(f"crates/h2_conn_tests/src/state_rows.rt: not what bench/h2_states.py writes {made.stderr.strip()}")
+        fault(f"crates/h2_conn_tests/src/state_rows.rt: not what tests/vectors/h2_states.py writes {made.stderr.strip()}")
+
+
+def check_measurements():
+    """bench/uses.txt has a line for each measurement in Rattle, and the crates there are those that its sources name. Whether they
+    still compile, `bench/with_crates --compile NAME` tries: that is too dear for these checks."""
+    used, kit = uses("bench/uses.txt"), {it for names in uses().values() for it in names}
+    sources = {}
+    for path in sorted((TOP / "bench").glob("*/*.rt.txt")):
+        sources.setdefault(path.parent.name, []).append(path)
+    for name in sorted(sources.keys() | used.keys()):
+        own = {path.name.removesuffix(".rt.txt") for path in sources.get(name, [])} | {"std", "crate", "self", "super"}
+        texts = "\n".join(path.read_text() for path in sources.get(name, []))
+        named = set(re.findall(r"^\s*(?:pub )?use ([a-z]\w*)", texts, flags=re.M)) - own
+        for it in sorted(named - set(used.get(name, []))):
+            fault(f"bench/{name}: it names {it}, and bench/uses.txt does not")
+        for it in sorted(set(used.get(name, [])) - uses().keys() - kit):
+            fault(f"bench/uses.txt: {name}: there is no crate {it}")
 
 
 def main():
@@ -232,6 +249,7 @@ def main():
     check_trust()
     check_version()
     check_states()
+    check_measurements()
     for text in faults:
         print(text)
     return 1 if faults else 0
