@@ -13,8 +13,6 @@ mod line;
 mod names;
 mod path_text;
 mod repeats;
-#[cfg(test)]
-mod tests;
 mod texts;
 mod time_text;
 

@@ -10,8 +10,6 @@ mod names;
 mod numbers;
 mod places;
 mod sentences;
-#[cfg(test)]
-mod tests;
 mod texts;
 
 pub use explain::explain_text;

@@ -15,8 +15,6 @@ mod prefix;
 mod reading;
 mod refusal;
 pub mod status;
-#[cfg(test)]
-mod tests;
 
 pub use answers::{refusal_fields, response_head, trailers};
 pub use fault::MessageFault;

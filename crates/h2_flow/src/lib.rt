@@ -15,8 +15,6 @@ mod pull;
 mod room;
 mod stream;
 mod streams;
-#[cfg(test)]
-mod tests;
 
 pub use laws::{
     messages_differ, offers_once, pulls_keep_streams, pulls_once, pulls_stay_within_windows,

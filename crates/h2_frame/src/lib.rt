@@ -15,8 +15,6 @@ mod payload;
 mod pending;
 mod reading;
 mod stage;
-#[cfg(test)]
-mod tests;
 mod writing;
 
 pub use fault::FrameFault;

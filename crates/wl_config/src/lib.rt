@@ -7,8 +7,6 @@
 mod attestor;
 mod config;
 mod fault;
-#[cfg(test)]
-mod fault_tests;
 mod files;
 mod guards;
 mod limits;
@@ -17,8 +15,6 @@ mod places;
 mod read;
 mod selectors;
 mod sockets;
-#[cfg(test)]
-mod tests;
 mod uids;
 
 pub use attestor::SocketAttestor;

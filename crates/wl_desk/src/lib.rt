@@ -7,8 +7,6 @@
 mod desk;
 mod editions;
 mod settle;
-#[cfg(test)]
-mod tests;
 mod tokens;
 
 pub use desk::Desk;

@@ -11,19 +11,13 @@ mod clock;
 mod command_line;
 mod dialed;
 mod file;
-#[cfg(test)]
-mod file_tests;
 mod gate;
 mod hidden;
 mod link;
 mod listener;
 mod output;
 mod ready;
-#[cfg(test)]
-mod slow_tests;
 mod telling;
-#[cfg(test)]
-mod tests;
 mod told_stream;
 mod upstream;
 

@@ -12,8 +12,6 @@ mod keys;
 mod laws;
 pub mod limits;
 mod signing;
-#[cfg(test)]
-mod tests;
 mod tokens;
 mod unfit;
 mod vouchers;

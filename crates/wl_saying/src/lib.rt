@@ -9,8 +9,6 @@ mod memory;
 mod repeats;
 mod signer;
 mod sink;
-#[cfg(test)]
-mod tests;
 mod upstream;
 
 pub use binding::say_unbound;

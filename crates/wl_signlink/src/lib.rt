@@ -11,10 +11,6 @@ mod limits;
 mod link;
 mod replies;
 mod requests;
-#[cfg(test)]
-mod socket_tests;
-#[cfg(test)]
-mod tests;
 mod texts;
 mod vouching;
 

@@ -27,6 +27,3 @@ pub use size::{
     jwt_item_size, map_item_size, size_bundles, size_jwt, size_jwt_bundles, size_x509,
     x509_item_size,
 };
-
-#[cfg(test)]
-mod tests;

@@ -1,0 +1,9 @@
+//! Tests of `wl_edge_real`. They stand in a crate of their own, since a crate is proved once more with the tests that it has.
+#![tactic(auto)]
+
+#[cfg(test)]
+mod file_tests;
+#[cfg(test)]
+mod slow_tests;
+#[cfg(test)]
+mod tests;

@@ -1,0 +1,7 @@
+//! Tests of `wl_signlink`. They stand in a crate of their own, since a crate is proved once more with the tests that it has.
+#![tactic(auto)]
+
+#[cfg(test)]
+mod socket_tests;
+#[cfg(test)]
+mod tests;
