@@ -1,4 +1,4 @@
-//! Outside bytes, read and written. Those of `vectors` were printed by `bench/frame_vectors.py`.
+//! Outside bytes, read and written. Those of `vectors` were printed by `tests/vectors/frame_vectors.py`.
 
 use h2_frame::{Body, Frame, FrameFault, Parser, Setting, put_frame};
 use std::alloc::{AllocGlobal, Global};

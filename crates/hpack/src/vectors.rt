@@ -403,7 +403,7 @@ a: xyz
 ! Index
 "##;
 
-/// Blocks of Debian's python3-hpack 4.0.0, made by bench/hpack/vectors.py.
+/// Blocks of Debian's python3-hpack 4.0.0, made by tests/vectors/header_blocks.py.
 pub const OTHERS: &str = r##"new
 > 838644996375669652f23d9d6838e4875e463095249ff1b03fbb8e4bff4186a0e41d139d095f8b1d75d0620d263d4c4d65647a8a9acac8b4c7602bb825c34082497f864d833505b11f408df07b3ad071c8ba2b34b295731f834d9697408e9acac8b0c842d6958b510f21aa9b839bd9ab
 :method: POST

@@ -2,7 +2,7 @@ use super::*;
 use pb_wire::WireFault;
 use std::test::*;
 
-// The bytes of the messages are those of `protoc` (bench/protobuf/vectors.sh).
+// The bytes of the messages are those of `protoc` (tests/vectors/protobuf/vectors.sh).
 
 #[test]
 fn states_are_written(rt: HostRuntime) -> Result<(), Fail> {

@@ -94,7 +94,7 @@ fn bundle_messages(rt: HostRuntime) -> Result<(), Fail> {
     Ok(())
 }
 
-// The bytes below are those of `protoc` (bench/protobuf/vectors.sh).
+// The bytes below are those of `protoc` (tests/vectors/protobuf/vectors.sh).
 
 #[test]
 fn x509_as_protoc_writes_it(rt: HostRuntime) -> Result<(), Fail> {

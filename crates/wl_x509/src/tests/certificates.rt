@@ -1,4 +1,4 @@
-//! Certificates that openssl made, by `bench/x509/certificates.sh`, and one made by hand.
+//! Certificates that openssl made, by `tests/vectors/certificates.sh`, and one made by hand.
 
 /// The smallest certificate of the URI `spiffe://a.b/w`, from 100 to 200.
 pub const LEAF: &[u8] = &[
