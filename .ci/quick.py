@@ -17,8 +17,8 @@ LONG_FUNCTIONS = {"h2_frame body", "hpack static_name", "wl_core step", "wl_serv
 PROGRAMS = ["agentd", "wlctl", "wlexplain"]
 # words of pages that an English reader stumbles over; "behind" may be said of sockets alone
 STRUCK = r"\b(?:is told|are told|want of memory|lives through|as fit|but for|of which it is known|behind(?! (?:a|three) (?:Unix )?sockets?| a signer))\b"
-# pages that list what was said and decided in their time
-OLD_PAGES = {"CHANGELOG.md", "docs/DECISIONS.md"}
+# pages that list what was said in their time
+OLD_PAGES = {"CHANGELOG.md"}
 faults = []
 
 
