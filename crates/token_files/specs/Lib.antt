@@ -1,0 +1,4 @@
+pub mod Names
+pub mod Tokens
+pub mod Sets
+pub mod Ends
