@@ -1,6 +1,6 @@
 -- The words that ask for files (own rule): `keep FOLDER` and `fetch x509 --write FOLDER`, where FOLDER isn't empty and doesn't
 -- begin with `-`. With `--envoy` after them Envoy's file is due too, in which the folder's path stands: it begins with `/`.
-use Rattle.std.specs.Prelude.{ℕ, ◌==◌, ◌&&◌, not, if◌then◌else◌, Bool, true, false, List, [], ◌∷◌, codes, Option, Some, None}
+use Rattle.std.specs.Prelude.{ℕ, ◌==◌, ◌&&◌, not, if◌then◌else◌, Bool, true, false, List, [], ◌∷◌, ◌++◌, codes, Option, Some, None}
 use Rattle.std.specs.Str.{bytes_eq}
 
 abbrev pub is_place : List ℕ → Bool
@@ -30,3 +30,15 @@ abbrev pub written_to : List (List ℕ) → Option (List ℕ × Bool)
 written_to (command ∷ what ∷ option ∷ folder ∷ []) = if is_write command what option && is_place folder then Some (folder, false) else None
 written_to (command ∷ what ∷ option ∷ folder ∷ envoy ∷ []) = if is_write command what option && (is_envoy envoy && is_absolute folder) then Some (folder, true) else None
 written_to _ = None
+
+-- ---- tokens beside the files: `--jwt AUDIENCE`, up to eight times, behind all other words
+
+abbrev pub is_jwt : List ℕ → Bool
+is_jwt option = bytes_eq option (codes "--jwt")
+
+-- the audiences of words of which the first has to be `--jwt` (true), or is an audience, behind those that were found
+abbrev pub audiences_from : List (List ℕ) → Bool → List (List ℕ) → Option (List (List ℕ))
+audiences_from found true [] = Some found
+audiences_from found false [] = None
+audiences_from found true (w ∷ ws) = if is_jwt w then audiences_from found false ws else None
+audiences_from found false (w ∷ ws) = audiences_from (found ++ w ∷ []) true ws

@@ -1,6 +1,6 @@
 -- The address of a Workload Endpoint (SPIFFE Workload Endpoint, section 4): a `unix` URI has no authority and an absolute path,
 -- `unix:///path` or `unix:/path`; a `tcp` URI has an IP address and a port.
-use Rattle.std.specs.Prelude.{ℕ, ◌&&◌, not, if◌then◌else◌, List, codes, take, drop, Option, Some, None}
+use Rattle.std.specs.Prelude.{ℕ, if◌then◌else◌, List, codes, take, drop, Option, Some, None}
 use Rattle.std.specs.Str.{bytes_eq}
 
 unfoldable pub path_in : List ℕ → Option (List ℕ)

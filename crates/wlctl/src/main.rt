@@ -6,22 +6,29 @@
 //! standard error.
 #![tactic(auto)]
 
+mod ask;
 mod asks;
+mod audiences;
 mod endpoint;
+mod files;
 mod folder_sink;
+mod folder_writer;
+mod keeper;
 mod leaf_text;
+mod ticking_link;
+mod token_asks;
 
 use asks::{kept_in, written_to};
+use audiences::{audiences_in, cut};
 use endpoint::{Socket, take_socket};
-use folder_sink::{FolderSink, Wanted};
+use files::{Job, stay, write};
+use folder_writer::Wanted;
 use std::alloc::{AllocGlobal, Global};
 use std::process::ExitCode;
 use std::string::String;
 use std::sync::Wait;
-use std::thread::sleep;
-use std::time::Duration;
-use wl_control::status::{CLIENT_FAULT, DENIED, OUT_OF_MEMORY, READ_FAILED, USAGE, WRITE_FAILED};
-use wl_control::{control, keep, refusal};
+use wl_control::status::{OUT_OF_MEMORY, USAGE};
+use wl_control::{control, refusal};
 use wl_edge_real::{Address, DialedLink, RealOutput, words};
 use wl_octets::Memory;
 
@@ -38,14 +45,29 @@ const FILES_FAULT: &str =
     "error: files are asked for by fetch x509 --write FOLDER or keep FOLDER, and --envoy after that; \
 FOLDER isn't empty and doesn't begin with -, and with --envoy it begins with /\n";
 
-/// How many seconds are waited at most between two connections.
-const MAX_WAIT_SECONDS: u64 = 30;
+/// What is said of audiences that can't be asked for.
+const AUDIENCES_FAULT: &str =
+    "error: tokens are asked for by --jwt AUDIENCE at the end of fetch x509 --write FOLDER or keep FOLDER, 1 to 8 times; \
+no audience is empty or given twice, and percent-encoded each has at most 234 bytes\n";
+
+/// What the help says of tokens, behind the options of `wl_control`.
+const TOKENS_HELP: &str = "
+Tokens beside these files, at the end of the words, 1 to 8 times:
+  --jwt AUDIENCE              jwt.AUDIENCE-1.token, and jwks.json; keep asks again before a token ends
+";
+
+/// Whether a text is the help: it has the usage, and no error before it.
+fn is_help(text: &str) -> bool {
+    text.contains("Usage:") && !text.starts_with("error:")
+}
 
 /// Writes why the words fit nothing to standard error, or else this. Where that fails nobody reads it.
 fn explain(rt: &HostRuntime, alloc: Global, words: &[String], otherwise: &str) {
     if let Ok(text) = refusal(alloc, words) {
         if text.is_empty() {
             let _ = eprint!(rt; "{otherwise}");
+        } else if is_help(text.as_str()) {
+            let _ = eprint!(rt; "{text}{TOKENS_HELP}");
         } else {
             let _ = eprint!(rt; "{text}");
         }
@@ -71,68 +93,13 @@ fn call(rt: HostRuntime, address: Address, words: &[String]) -> u8 {
     status
 }
 
-/// Writes the files of one message.
-fn write(rt: HostRuntime, alloc: Global, address: Address, wanted: Wanted) -> u8 {
-    let Ok(own) = rt.clone() else {
-        return OUT_OF_MEMORY;
-    };
-    let mut link = DialedLink::start_at(rt, address);
-    let mut sink = FolderSink::start(own, alloc, wanted, false);
-    keep(alloc, 1, &mut link, &mut sink)
-}
-
-/// Connects once, and writes the files of each message that comes.
-fn keep_once(
-    rt: &HostRuntime,
-    alloc: Global,
-    address: &Address,
-    sink: &mut FolderSink,
-) -> Result<u8, Memory> {
-    let own = rt.clone()?;
-    let mut link = DialedLink::start_at(own, address.copy()?);
-    Ok(keep(alloc, u32::MAX, &mut link, sink))
-}
-
-/// How many seconds are waited after so many, where nothing was written meanwhile.
-fn next_wait(seconds: u64) -> u64 {
-    seconds.saturating_add(seconds).min(MAX_WAIT_SECONDS)
-}
-
-/// Why a call of `keep` ended, in words.
-fn reason_of(status: u8) -> &'static str {
-    match status {
-        READ_FAILED => "the connection broke",
-        WRITE_FAILED => "the agent can't be reached, or the files can't be written",
-        OUT_OF_MEMORY => "out of memory",
-        DENIED => "the agent refused",
-        CLIENT_FAULT => "the agent's answer has a fault, or its connection ended",
-        _ => "the call ended",
+/// What is asked of files by words, and whether it is kept: the folder, and whether Envoy's file is due.
+fn folder_in(words: &[String]) -> Option<(&str, bool, bool)> {
+    if let Some((folder, for_envoy)) = kept_in(words) {
+        return Some((folder, for_envoy, true));
     }
-}
-
-/// Writes the files of each message that comes, and connects again where that ends, for ever: it ends only where a file that
-/// isn't its own stands in the way.
-fn stay(waits: &impl Wait, rt: HostRuntime, alloc: Global, address: Address, wanted: Wanted) -> u8 {
-    let Ok(own) = rt.clone() else {
-        return OUT_OF_MEMORY;
-    };
-    let mut sink = FolderSink::start(own, alloc, wanted, true);
-    let mut seconds: u64 = 1;
-    'calls: for _ in waits.forever() {
-        let before = sink.written();
-        let status = keep_once(&rt, alloc, &address, &mut sink).unwrap_or(OUT_OF_MEMORY);
-        if sink.is_refused() {
-            break 'calls;
-        }
-        if sink.written() > before {
-            seconds = 1;
-        }
-        let why = reason_of(status);
-        let _ = eprintln!(rt; "event=ended status={status} wait={seconds} reason=\"{why}\"");
-        sleep(&rt, Duration::from_secs(seconds));
-        seconds = next_wait(seconds);
-    }
-    WRITE_FAILED
+    let (folder, for_envoy) = written_to(words)?;
+    Some((folder, for_envoy, false))
 }
 
 /// Makes the call that the words ask for over this socket, or writes the files.
@@ -143,15 +110,25 @@ fn serve(
     words: &[String],
 ) -> Result<u8, Memory> {
     let alloc = rt.alloc();
-    if let Some((folder, for_envoy)) = kept_in(words) {
-        let wanted = Wanted::start(alloc, folder, for_envoy)?;
-        return Ok(stay(waits, rt, alloc, address, wanted));
+    let (front, pairs) = cut(words);
+    let Some((folder, for_envoy, is_kept)) = folder_in(front) else {
+        return Ok(call(rt, address, words));
+    };
+    let Some(audiences) = audiences_in(alloc, pairs)? else {
+        let _ = eprint!(rt; "{AUDIENCES_FAULT}");
+        return Ok(USAGE);
+    };
+    let wanted = Wanted::start(alloc, folder, for_envoy)?;
+    let job = Job {
+        address,
+        wanted,
+        audiences,
+    };
+    if is_kept {
+        stay(waits, &rt, job)
+    } else {
+        write(&rt, job)
     }
-    if let Some((folder, for_envoy)) = written_to(words) {
-        let wanted = Wanted::start(alloc, folder, for_envoy)?;
-        return Ok(write(rt, alloc, address, wanted));
-    }
-    Ok(call(rt, address, words))
 }
 
 /// Makes the call of a command line.
