@@ -151,7 +151,7 @@ takes_preview (a ∷ ops) = go (nat_le (suc (length ops)) 256) refl
     go true e = rw (from_one (length ops), e) (fault true e, ap (operands_in (codes "preview")) rows)
     go false e = rw (from_one (length ops), e) (subst Faulty (sym (fault false e)) tt)
 
--- ---- the words behind a command
+-- ---- the words after a command
 
 pub reads_check : (ws : List Text) → AllTexts ws → Reads (sub check) (Finds (codes "check")) ws (option_and_then none_of (operands ws))
 reads_check = reads (sub check) (Finds (codes "check")) none_of check_flags takes_check

@@ -11,9 +11,6 @@ ghost use Rattle.at_once.specs.Works.{Worked};
 use std::thread;
 use std::thread::{Threads, join_mut};
 
-#[cfg(test)]
-mod tests;
-
 /// Calls `work` at each element of `each`, with its place, in as many threads as there are elements, and
 /// `beside` in this thread, all at once. Where no thread can be made, the calls run one after another.
 pub fn for_each_beside<R: Threads + Sync, T: Send, F: Fn(usize, &mut T) + Sync, G: FnMut()>(

@@ -1,4 +1,4 @@
--- What a command makes of its operands: of the words behind its name, by what it makes of them behind a `--`.
+-- What a command makes of its operands: of the words after its name, by what it makes of them after a `--`.
 use Rattle.std.proofs.Common.{◌≡◌, ◌∙◌, Bool, true, false, refl, sym, ap, ap₂, subst, List, [], Option, Some, None}
 use Rattle.std.specs.Prelude.{option_and_then, if◌then◌else◌}
 use Rattle.std.specs.Option.{option_map_or}
@@ -17,7 +17,7 @@ level_of s fault end = or_else fault (or_else [] (or_else (settle_fault s.rules 
 is_level : (s : Shape) (ws : List Text) → level_fault s [] nothing_held ws false [] ≡ level_of s (walk_fault s [] (at false nothing_held idle 1) ws) (walked_all s (at false nothing_held idle 1) ws).held
 is_level s ws = refl
 
--- behind a `--`
+-- after a `--`
 abbrev pub behind : Shape → List Text → Kinds
 behind s ops = level_of s (walk_fault s [] (at true nothing_held idle 1) ops) (walked_all s (at true nothing_held idle 1) ops).held
 
@@ -42,7 +42,7 @@ pub one_trails : (a : Rule) → a.trailing_var_arg ≡ false → (t : Bool) → 
 one_trails a e true = e
 one_trails a e false = refl
 
--- ---- the words behind a command
+-- ---- the words after a command
 
 module _ (s : Shape) (R : List Text → List Row → Type 0) (fits : List Text → Option (List Text)) (flags : HasAskingFlags s.rules)
     (takes : (ops : List Text) → Takes s R ops (fits ops)) where

@@ -1,4 +1,4 @@
--- What a walk makes of the words behind a command: options are refused, and the first `--` is dropped.
+-- What a walk makes of the words after a command: options are refused, and the first `--` is dropped.
 use Rattle.std.proofs.Common.{◌≡◌, ◌∙◌, ℕ, Bool, true, false, refl, sym, ap, ap₂, subst, arith, List, [], ◌∷◌, fold, Option, Some, None, option_map, true≢false}
 use Rattle.std.specs.Prelude.{◌||◌, ◌&&◌, slice_get, if◌then◌else◌, ⊤}
 use Rattle.std.specs.Option.{option_map_or}
@@ -206,7 +206,7 @@ AllTexts (w ∷ ws) = IsUtf8 w × AllTexts ws
 abbrev pub walked_all : Shape → Walk → List Text → Walk
 walked_all s w ws = fold (walked s.rules []) w ws
 
--- The words behind a command come to what their operands come to behind a `--`, or to a fault where they have none.
+-- The words after a command come to what their operands come to after a `--`, or to a fault where they have none.
 abbrev pub Past : Shape → Held → Waiting → ℕ → List Text → Option (List Text) → Type 0
 Past s h waiting position ws None = Faulty (walk_fault s [] (at false h waiting position) ws)
 Past s h waiting position ws (Some ops) =

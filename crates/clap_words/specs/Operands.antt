@@ -8,7 +8,7 @@ is_option [] = false
 is_option (b ∷ []) = false
 is_option (b ∷ c ∷ bytes) = b == 45
 
--- The operands among the words behind the command: all but the first `--`, before which no word is an option.
+-- The operands among the words after the command: all but the first `--`, before which no word is an option.
 abbrev pub operands : List (List ℕ) → Option (List (List ℕ))
 operands [] = Some []
 operands (w ∷ ws) = if bytes_eq w (codes "--") then Some ws else (if is_option w then None else option_map (λ ops. w ∷ ops) (operands ws))

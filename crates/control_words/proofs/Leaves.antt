@@ -131,7 +131,7 @@ takes_fetch (a ∷ ops) = go (nat_le (suc (length ops)) 65) refl
     go true e = rw (from_one (length ops), e) (fault true e, ap (operands_in (codes "fetch")) rows)
     go false e = rw (from_one (length ops), e) (subst Faulty (sym (fault false e)) tt)
 
--- ---- the words behind a command
+-- ---- the words after a command
 
 pub reads_fetch : (ws : List Text) → AllTexts ws → Reads (sub fetch) (Finds (codes "fetch")) ws (option_and_then some_of (operands ws))
 reads_fetch = reads (sub fetch) (Finds (codes "fetch")) some_of fetch_flags takes_fetch

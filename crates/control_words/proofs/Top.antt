@@ -31,7 +31,7 @@ top_of fault w = or_else fault (or_else (entered_fault (built wlctl) w.stopped) 
 is_top : (words : List Text) → fault_of wlctl words ≡ top_of (walk_fault top names (walk_from nothing_held) words) (walk top.rules names nothing_held words)
 is_top words = refl
 
--- ---- behind a command's name
+-- ---- after a command's name
 
 abbrev stopped_at : Text → List Text → Walk
 stopped_at name done = record { held = nothing_held; waiting = idle; position = 1; is_trailing = false; stopped = Some (name, done) }

@@ -1,11 +1,11 @@
--- One digit, and those behind it.
+-- One digit, and those after it.
 use Rattle.std.proofs.Common.{◌≡◌, ℕ, ◌+◌, ◌*◌, ◌-◌, ◌≤◌, ◌&&◌, List, [], ◌∷◌, Bool, true, false, nat_le, if◌then◌else◌, Option, Some, None, refl, sym, ◌∙◌, ap, arith}
 use Rattle.std.specs.List.{list_all}
 use Rattle.std.proofs.lemmas.Bool.Decides.{nat_tests}
 use Rattle.std.proofs.lemmas.Option.{none-some}
 use Rattle.decimal_text.specs.Decimals.{is_digit, said_after, digits_up_to}
 
--- digits behind others say no less
+-- digits after others say no less
 said_grows : (n : ℕ) (bytes : List ℕ) → n ≤ said_after n bytes
 said_grows n [] = omega arith
 said_grows n (b ∷ bytes) = omega (arith, said_grows (10 * n + (b - 48)) bytes)

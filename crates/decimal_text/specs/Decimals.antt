@@ -6,7 +6,7 @@ use Rattle.std.specs.List.{list_all}
 abbrev pub is_digit : ℕ → Bool
 is_digit b = nat_le 48 b && nat_le b 57
 
--- the number that digits say behind those that say n
+-- the number that digits say after those that say n
 abbrev pub said_after : ℕ → List ℕ → ℕ
 said_after n [] = n
 said_after n (b ∷ bytes) = said_after (10 * n + (b - 48)) bytes

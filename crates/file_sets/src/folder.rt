@@ -5,6 +5,9 @@ use std::alloc::Global;
 use std::os::unix::fs::symlink;
 use std::{fs, io, str};
 
+/// How the link to the set is called that is seen.
+const SEEN: &str = "..data";
+
 /// How a set's folder is called, before its number.
 const SET_PREFIX: &str = "..data-";
 
@@ -28,6 +31,14 @@ fn first_part(name: &[u8]) -> &[u8] {
 /// The number of a set, by the name of its folder.
 fn number_in(name: &str) -> Option<u64> {
     name.strip_prefix(SET_PREFIX)?.parse::<u64>().ok()
+}
+
+/// Whether this is the name of a set's folder.
+fn is_set(name: Option<&str>) -> bool {
+    match name {
+        Some(name) => number_in(name).is_some(),
+        None => false,
+    }
 }
 
 impl Folder<'_> {
@@ -72,8 +83,22 @@ impl Folder<'_> {
         }
     }
 
-    /// Whether one of these files' names is taken by a file that isn't a link through `..data`.
+    /// Whether the name `..data` is taken by a file that isn't a link to a set.
+    fn is_seen_foreign(&self) -> io::Result<bool> {
+        match fs::read_link(self.rt, self.place(SEEN)?.as_str()) {
+            Ok(target) => Ok(!is_set(target.as_path().to_str())),
+            Err(error) if error.kind() == io::ErrorKind::NotFound => Ok(false),
+            Err(error) if error.kind() == io::ErrorKind::InvalidInput => Ok(true),
+            Err(error) => Err(error),
+        }
+    }
+
+    /// Whether one of these files' names is taken by a file that isn't a link through `..data`, or `..data` by one that isn't a
+    /// link to a set.
     pub fn has_foreign(&self, files: &[File]) -> io::Result<bool> {
+        if self.is_seen_foreign()? {
+            return Ok(true);
+        }
         for file in files {
             let Ok(name) = str::from_utf8(first_part(file.name.as_slice())) else {
                 return Ok(true);
@@ -113,7 +138,7 @@ impl Folder<'_> {
             }
             return Ok(());
         }
-        if !name.starts_with("..data") && self.is_own_link(name)? {
+        if self.is_own_link(name)? {
             if !fs::exists(self.rt, place.as_str())? {
                 return fs::remove_file(self.rt, place.as_str());
             }

@@ -10,8 +10,6 @@ mod publishing;
 mod real;
 mod set;
 mod shelf;
-#[cfg(test)]
-mod tests;
 
 pub use folder::Folder;
 pub use memory::{Deed, MemoryShelf};

@@ -17,6 +17,7 @@ pub struct RealShelf {
     rt: HostRuntime,
     alloc: Global,
     path: String,
+    fault: Option<io::Error>,
 }
 
 /// The mode of a file: what is secret is for its owner alone.
@@ -29,7 +30,28 @@ fn mode_of(is_secret: bool) -> u32
 impl RealShelf {
     /// The folder at this path. Nothing is opened yet.
     pub fn start(rt: HostRuntime, alloc: Global, path: String) -> RealShelf {
-        RealShelf { rt, alloc, path }
+        RealShelf {
+            rt,
+            alloc,
+            path,
+            fault: None,
+        }
+    }
+
+    /// Why the last call that failed did; none where none has since this was taken.
+    pub fn take_fault(&mut self) -> Option<io::Error> {
+        self.fault.take()
+    }
+
+    /// Notes why a call failed.
+    fn note(&mut self, done: io::Result<()>) -> Result<(), ShelfFault> {
+        match done {
+            Ok(()) => Ok(()),
+            Err(error) => {
+                self.fault = Some(error);
+                Err(ShelfFault)
+            }
+        }
     }
 
     fn folder(&self, number: u64) -> io::Result<String> {
@@ -109,18 +131,22 @@ impl Shelf for RealShelf {
     ghost turns = { λ s. 0 };
 
     fn make(&mut self, number: u64) -> Result<(), ShelfFault> {
-        self.make_folder(number).map_err(|_| ShelfFault)
+        let made = self.make_folder(number);
+        self.note(made)
     }
 
     fn put(&mut self, number: u64, file: &File) -> Result<(), ShelfFault> {
-        self.put_file(number, file).map_err(|_| ShelfFault)
+        let put = self.put_file(number, file);
+        self.note(put)
     }
 
     fn sync(&mut self, number: u64) -> Result<(), ShelfFault> {
-        self.sync_both(number).map_err(|_| ShelfFault)
+        let synced = self.sync_both(number);
+        self.note(synced)
     }
 
     fn point(&mut self, number: u64) -> Result<(), ShelfFault> {
-        self.exchange_link(number).map_err(|_| ShelfFault)
+        let exchanged = self.exchange_link(number);
+        self.note(exchanged)
     }
 }

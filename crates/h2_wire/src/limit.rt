@@ -14,6 +14,6 @@ pub const INITIAL_WINDOW_SIZE: u32 = 65_535;
 pub const INITIAL_HEADER_TABLE_SIZE: u32 = 4_096;
 /// How many streams of a peer may be live at once (own rule).
 pub const MAX_LIVE_STREAMS: usize = 16;
-/// How many bytes a header block that this side writes may have: it fits one frame behind the
+/// How many bytes a header block that this side writes may have: it fits one frame after the
 /// byte of a size update (own rule).
 pub const MAX_BLOCK_LEN: usize = 16_383;

@@ -4,8 +4,6 @@
 #![tactic(auto)]
 
 mod members;
-#[cfg(test)]
-mod tests;
 mod texts;
 
 pub use members::{array_at, number_at, object_at, required, text_at};

@@ -4,8 +4,6 @@
 mod laws;
 mod parts;
 mod said;
-#[cfg(test)]
-mod tests;
 
 pub use laws::what_is_said_has_no_newline;
 pub use said::{Said, said_in};

@@ -6,4 +6,4 @@ pub mod Gains
 pub mod Keys
 pub mod Order
 pub mod Results
-pub mod Rising
+pub mod AscendingKeys

@@ -16,6 +16,3 @@ pub use field::{Field, MAX_FIELD_NUMBER, Value};
 pub use reading::read_field;
 pub use varint::{put_varint, size_of_varint};
 pub use writing::{put_bytes, put_head, size_of_bytes};
-
-#[cfg(test)]
-mod tests;

@@ -1,3 +1,3 @@
-pub mod Parting
-pub mod Standing
-pub mod Rising
+pub mod Partitions
+pub mod BlockOfKey
+pub mod OneMoreItem

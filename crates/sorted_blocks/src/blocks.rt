@@ -69,7 +69,7 @@ impl<T: Drop> SortedBlocks<T> {
     }
 
     /// The items without blocks, shared one by one.
-    #[tactic(auto, using(crate::proofs::Standing::join_more))]
+    #[tactic(auto, using(crate::proofs::BlockOfKey::join_more))]
     pub fn to_row(&self, alloc: Global) -> Result<Row<Shared<T>>, Memory>
         ensures { IfOk result (λ r. r ≡ self.now) }
     {

@@ -7,7 +7,5 @@
 mod blocks;
 mod making;
 mod placing;
-#[cfg(test)]
-mod tests;
 
 pub use blocks::SortedBlocks;

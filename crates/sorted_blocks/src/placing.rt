@@ -29,7 +29,7 @@ fn count_up_to<T: Keyed>(blocks: &[Shared<Row<Shared<T>>>], key: &[u8]) -> usize
 }
 
 /// The place of the block in which a key stands, where one has it: keys in the blocks before are below it, and in those
-/// behind above it.
+/// after it above it.
 pub(crate) fn place_of<T: Keyed>(blocks: &[Shared<Row<Shared<T>>>], key: &[u8]) -> usize
     requires filled { AreFilled blocks.now }
     requires rises { Rises (map T.key (join blocks.now)) }
@@ -39,7 +39,7 @@ pub(crate) fn place_of<T: Keyed>(blocks: &[Shared<Row<Shared<T>>>], key: &[u8]) 
     count_up_to(blocks, key).saturating_sub(1)
 }
 
-/// The blocks before a place, the items of the block there, or none, and the blocks behind.
+/// The blocks before a place, the items of the block there, or none, and the blocks after.
 #[derive(Clone, Copy)]
 pub(crate) struct Parts<'a, T> {
     pub front: &'a [Shared<Row<Shared<T>>>],
@@ -50,7 +50,7 @@ pub(crate) struct Parts<'a, T> {
 /// The parts of the blocks at this place.
 pub(crate) fn parts_at<T>(blocks: &[Shared<Row<Shared<T>>>], place: usize) -> Parts<'_, T>
     requires { place ≤ length blocks.now }
-    ensures front { result.front.now ≡ take place blocks.now }
+    ensures prefix { result.front.now ≡ take place blocks.now }
     ensures block { result.block.now ≡ block_in place blocks.now }
     ensures back { result.back.now ≡ drop (suc place) blocks.now }
 {

@@ -1,5 +1,5 @@
 pub mod Chosen
 pub mod Found
-pub mod Halving
+pub mod Halves
 pub mod Places
 pub mod Marks

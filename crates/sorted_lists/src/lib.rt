@@ -6,8 +6,6 @@
 
 mod finding;
 mod keyed;
-#[cfg(test)]
-mod tests;
 
 pub use finding::{find_by_key, mark_key, place_by_key};
 pub use keyed::Keyed;

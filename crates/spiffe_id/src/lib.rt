@@ -9,8 +9,6 @@ mod faults;
 mod finding;
 mod ids;
 mod names;
-#[cfg(test)]
-mod tests;
 
 pub use faults::IdFault;
 pub use finding::{MAX_DOMAIN_LEN, MAX_ID_LEN};

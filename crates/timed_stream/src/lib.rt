@@ -7,8 +7,6 @@
 mod connecting;
 mod deadlines;
 mod stream;
-#[cfg(test)]
-mod tests;
 
 pub use connecting::connect;
 pub use deadlines::{deadline_after, time_left};

@@ -11,8 +11,6 @@ mod memory;
 mod octets;
 mod row;
 mod shared;
-#[cfg(test)]
-mod tests;
 
 pub use copies::{TryClone, clone_all, share_all};
 pub use header::Header;

@@ -8,8 +8,6 @@
 mod faults;
 mod selector;
 mod sets;
-#[cfg(test)]
-mod tests;
 
 pub use faults::{SelectorFault, SelectorsFault};
 pub use selector::Selector;

@@ -52,7 +52,7 @@ impl Selectors {
         limit: u32,
     ) -> Result<Selectors, SelectorsFault>
         ensures ok { IfOk result (λ s. s ≡ sorted_texts items.items) }
-        ensures few { IfOk result (λ _. length items.items ≤ limit) }
+        ensures at_most { IfOk result (λ _. length items.items ≤ limit) }
         ensures short { IfOk result (λ s. length s ≤ length items.items) }
         ensures ascending { IfOk result IsAscending }
         ensures members { IfOk result (λ s. (text : List ℕ) → has_text s text ≡ has_text items.items text) }

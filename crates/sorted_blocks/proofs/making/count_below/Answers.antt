@@ -1,7 +1,7 @@
 use Rattle.std.proofs.Common.{rules}
 use Rattle.std.proofs.lemmas.List.Sorted.{IsPartitionPoint-from_clause}
 use Rattle.sorted_blocks.specs.Blocks.{is_below}
-use Rattle.sorted_blocks.proofs.Parting.{parted_below, take_chosen}
+use Rattle.sorted_blocks.proofs.Partitions.{parted_below, take_chosen}
 use Rattle.sorted_blocks.proofs.making.count_below.Goals as goal
 
 pub returns-clause-below : goal.returns-clause-below

@@ -2,7 +2,7 @@ use Rattle.std.specs.Prelude.{not}
 use Rattle.std.proofs.Common.{rules}
 use Rattle.std.proofs.lemmas.List.Sorted.{IsPartitionPoint-from_clause}
 use Rattle.sorted_blocks.specs.Blocks.{is_above}
-use Rattle.sorted_blocks.proofs.Parting.{parted_up_to, above_dropped}
+use Rattle.sorted_blocks.proofs.Partitions.{parted_up_to, above_dropped}
 use Rattle.sorted_blocks.proofs.making.count_up_to.Goals as goal
 
 pub returns-clause-above : goal.returns-clause-above

@@ -1,7 +1,7 @@
 use Rattle.std.specs.Prelude.{not}
 use Rattle.std.proofs.Common.{◌≡◌, rules, sym, ◌∙◌, ap}
 use Rattle.sorted_blocks.specs.Blocks.{is_above}
-use Rattle.sorted_blocks.proofs.Standing.{begins_first, begins_none}
+use Rattle.sorted_blocks.proofs.BlockOfKey.{begins_first, begins_none}
 use Rattle.sorted_blocks.proofs.placing.begins_up_to.Goals as goal
 
 pub returns-in-Some : goal.returns-in-Some

@@ -1,7 +1,7 @@
 use Rattle.std.proofs.Common.{rules}
 use Rattle.std.proofs.lemmas.List.Sorted.{IsPartitionPoint-from_clause}
 use Rattle.sorted_blocks.specs.Places.{begins_up_to}
-use Rattle.sorted_blocks.proofs.Standing.{parted_blocks, placed}
+use Rattle.sorted_blocks.proofs.BlockOfKey.{parted_blocks, placed}
 use Rattle.sorted_blocks.proofs.placing.count_up_to.Goals as goal
 
 pub returns-clause-place : goal.returns-clause-place

@@ -1,5 +1,5 @@
 use Rattle.std.proofs.Common.{◌≡◌, ◌∷◌, drop, rules, sym, ◌∙◌}
-use Rattle.sorted_blocks.proofs.Standing.{at_split, at_end, none_left}
+use Rattle.sorted_blocks.proofs.BlockOfKey.{at_split, at_end, none_left}
 use Rattle.sorted_blocks.proofs.placing.parts_at.Goals as goal
 
 pub returns-in-Some-clause-block : goal.returns-in-Some-clause-block

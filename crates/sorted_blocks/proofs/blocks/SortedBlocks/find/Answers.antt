@@ -2,7 +2,7 @@ use Rattle.std.proofs.Common.{map, sym, ◌∙◌, ap, subst}
 use Rattle.list_laws.specs.Lists.{Rises}
 use Rattle.list_laws.specs.Keys.{item_at}
 use Rattle.sorted_blocks.specs.Blocks.{join}
-use Rattle.sorted_blocks.proofs.Standing.{rises_in, found}
+use Rattle.sorted_blocks.proofs.BlockOfKey.{rises_in, found}
 use Rattle.sorted_blocks.proofs.blocks.SortedBlocks.find.Goals as goal
 
 pub find_by_key-requires : goal.find_by_key-requires
