@@ -52,7 +52,7 @@ verdicts_stay headers fed more ended told = stays_by (head_verdict headers) fed 
 verdict_stays : (headers : List Header) (fed more : List ℕ) → is_decided_event (verdict headers fed false) ≡ true → is_decided_event (verdict headers (fed ++ more) false) ≡ true
 verdict_stays headers fed more told = rw (verdicts_stay headers fed more false told) told
 
--- ---- what is told
+-- ---- what is reported
 
 news_told : (before now : CallEvent) → is_decided_event before ≡ true → news before now ≡ Nothing
 news_told Nothing now told = absurd (cc told)

@@ -1,4 +1,4 @@
-//! What a call is told.
+//! What a call learns.
 
 ghost use Rattle.std.specs.Prelude.{◌≡◌};
 ghost use Rattle.grpc_conn.specs.Verdicts.{is_decided_event};

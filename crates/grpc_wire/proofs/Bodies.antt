@@ -11,7 +11,7 @@ use Rattle.grpc_wire.specs.declared.fault.MessageFault.{MessageFault}
 use Rattle.grpc_wire.specs.Messages.{framed, length_within, prefix_of, Step, partial, whole, wrong, step_of_prefix, first_message, End, Rest, Fault, Reading, after_step, messages_of}
 use Rattle.grpc_wire.specs.Bodies.{EndsSo, IsBody}
 use Rattle.grpc_wire.proofs.Fronts.{IsShorter, first_shorter}
-use Rattle.grpc_wire.proofs.Framed.{read_again}
+use Rattle.grpc_wire.proofs.MessageFrames.{read_again}
 use Rattle.grpc_wire.proofs.Cuts.{messages_step, messages_end, messages_wrong}
 
 -- ---- a message that was cut had this form

@@ -1,7 +1,7 @@
 pub mod Prefixes
 pub mod Fronts
 pub mod Cuts
-pub mod Feeding
-pub mod Framed
+pub mod Pieces
+pub mod MessageFrames
 pub mod Escapes
 mod Bodies

@@ -34,7 +34,7 @@ status_fields status text = field (codes "grpc-status") (decimal status) ∷ mes
 unfoldable pub trailer_fields : ℕ → List ℕ → Bool → List Header
 trailer_fields status text alone = (if alone then response_fields else []) ++ status_fields status text
 
--- what a refused call is told; HTTP's refusals are the answer's only header list
+-- what a refused call is answered; HTTP's refusals are the answer's only header list
 unfoldable pub refused_fields : Refusal → Bool → List Header
 refused_fields r alone =
     if is_http_refusal r then field (codes ":status") (decimal (status_of r)) ∷ [] else trailer_fields (status_of r) (text_of r) alone

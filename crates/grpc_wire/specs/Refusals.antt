@@ -1,4 +1,4 @@
--- What a refused call is told. All statuses and texts are own rules, also where other agents answer otherwise.
+-- What a refused call is answered. All statuses and texts are own rules, also where other agents answer otherwise.
 use Rattle.std.specs.Prelude.{ℕ, Bool, ◌==◌, ◌||◌, List, [], codes}
 use Rattle.grpc_wire.specs.declared.refusal.Refusal.{Refusal}
 use Rattle.grpc_wire.specs.declared.refusal.Refusal.TheVariants.{BadMethod, BadContent, UnknownPath, Compressed, Insecure, Flag, LongRequest, Count, Undecodable, NoAudience, BadId, NoIdentity, LongResponse, Unsigned, Unattested, UnknownService}

@@ -65,7 +65,7 @@ fn add_text(alloc: Global, fields: &mut Row<Header>, text: &[u8]) -> Result<(), 
     add(alloc, fields, b"grpc-message", escape(alloc, text)?)
 }
 
-/// What a refused call is told, in the header list that ends its stream. A refusal of HTTP is `:status` alone, and is
+/// What a refused call is answered, in the header list that ends its stream. A refusal of HTTP is `:status` alone, and is
 /// the only list of its answer; `only` tells whether the others are too.
 #[tactic(auto, unfolding(crate::specs::Answers::refused_fields))]
 pub fn refusal_fields(alloc: Global, refusal: Refusal, only: bool) -> Result<Row<Header>, Memory>

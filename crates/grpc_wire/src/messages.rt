@@ -63,7 +63,7 @@ impl Messages {
     /// each later call answers that fault again; the messages before it are in `into`.
     ///
     /// A byte is copied once into its message, and once before that if its message comes in several pieces.
-    #[tactic(auto, using(crate::proofs::Feeding::stands_on))]
+    #[tactic(auto, using(crate::proofs::Pieces::stands_on))]
     pub fn feed(
         &mut self,
         alloc: Global,
@@ -73,7 +73,7 @@ impl Messages {
         ensures fed { Feeds result (reading_from self.old.limit self.old.ending piece.now)
             into.old into.new self.new.ending }
         ensures limit { self.new.limit ≡ self.old.limit }
-        ensures front { GainsFront (reading_from self.old.limit self.old.ending piece.now).messages
+        ensures prefix { GainsFront (reading_from self.old.limit self.old.ending piece.now).messages
             into.old into.new }
         ensures again { (fault : MessageFault) → self.old.ending ≡ Fault fault → result ≡ Err fault }
         ensures stands { (fed : List ℕ) → StandsFor self.old.limit self.old.ending fed
@@ -93,7 +93,7 @@ impl Messages {
         ensures fed { Feeds result (reading_from self.old.limit self.old.ending piece.now)
             into.old into.new self.new.ending }
         ensures limit { self.new.limit ≡ self.old.limit }
-        ensures front { GainsFront (reading_from self.old.limit self.old.ending piece.now).messages
+        ensures prefix { GainsFront (reading_from self.old.limit self.old.ending piece.now).messages
             into.old into.new }
         ensures again { (fault : MessageFault) → self.old.ending ≡ Fault fault → result ≡ Err fault }
     {
@@ -114,7 +114,7 @@ impl Messages {
         ensures fed { Feeds result (reading_from self.old.limit self.old.ending piece.now)
             into.old into.new self.new.ending }
         ensures limit { self.new.limit ≡ self.old.limit }
-        ensures front { GainsFront (reading_from self.old.limit self.old.ending piece.now).messages
+        ensures prefix { GainsFront (reading_from self.old.limit self.old.ending piece.now).messages
             into.old into.new }
         ensures again { (fault : MessageFault) → self.old.ending ≡ Fault fault → result ≡ Err fault }
     {
@@ -140,7 +140,7 @@ impl Messages {
         ensures fed { Feeds result (reading_from self.old.limit self.old.ending piece.now)
             into.old into.new self.new.ending }
         ensures limit { self.new.limit ≡ self.old.limit }
-        ensures front { GainsFront (reading_from self.old.limit self.old.ending piece.now).messages
+        ensures prefix { GainsFront (reading_from self.old.limit self.old.ending piece.now).messages
             into.old into.new }
         ensures again { (fault : MessageFault) → self.old.ending ≡ Fault fault → result ≡ Err fault }
     {
@@ -186,7 +186,7 @@ fn cut(
     ensures fed { Feeds result (reading_from limit (Rest pending.old.items) piece.now) into.old into.new
         (ending_of fault.new pending.new.items) }
     ensures cut { IsCut limit fault.new pending.new.items }
-    ensures front { GainsFront (reading_from limit (Rest pending.old.items) piece.now).messages
+    ensures prefix { GainsFront (reading_from limit (Rest pending.old.items) piece.now).messages
         into.old into.new }
 {
     match take_in(alloc, limit, pending, piece, into) {
@@ -212,7 +212,7 @@ fn take_in(
     ensures fault { IfErr result (λ fault. Refuses fault ((into.new ≡ into.old
         ++ (messages_of limit (pending.old.items ++ piece.now)).messages)
         × ((messages_of limit (pending.old.items ++ piece.now)).ending ≡ Fault fault))) }
-    ensures front { GainsFront
+    ensures prefix { GainsFront
         (messages_of limit (pending.old.items ++ piece.now)).messages into.old into.new }
 {
     if pending.is_empty() {
@@ -240,11 +240,11 @@ fn keep(pending: &mut Vec<u8>, bytes: &[u8]) -> Result<(), MessageFault>
 }
 
 /// Writes a message after what `out` holds: a flag of 0, its length in four bytes, the highest first, and its bytes.
-#[tactic(auto, using(crate::proofs::Framed::read_again), unfolding(crate::specs::Messages::framed))]
+#[tactic(auto, using(crate::proofs::MessageFrames::read_again), unfolding(crate::specs::Messages::framed))]
 pub fn put_message(out: &mut Octets, message: &[u8]) -> Result<(), Memory>
     requires { length message.now < 2 ^ 32 }
     ensures ok { OnOk result (out.new ≡ out.old ++ framed message.now) }
-    ensures front { GainsFront (framed message.now) out.old out.new }
+    ensures prefix { GainsFront (framed message.now) out.old out.new }
     ensures read_again { (limit : ℕ) (rest : List ℕ) → length message.now ≤ limit
         → first_message limit (framed message.now ++ rest) ≡ whole message.now rest }
 {

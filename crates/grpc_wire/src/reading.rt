@@ -41,7 +41,7 @@ pub(crate) fn messages(
     ensures all { OnOk result (into.new ≡ into.old ++ (messages_of limit bytes.now).messages) }
     ensures fault { IfErr result (λ fault. Refuses fault ((into.new ≡ into.old
         ++ (messages_of limit bytes.now).messages) × ((messages_of limit bytes.now).ending ≡ Fault fault))) }
-    ensures front { GainsFront (messages_of limit bytes.now).messages into.old into.new }
+    ensures prefix { GainsFront (messages_of limit bytes.now).messages into.old into.new }
 {
     let mut at = 0;
     'each: loop {

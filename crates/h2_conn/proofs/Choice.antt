@@ -1,4 +1,4 @@
--- The table is the rows of each kind, behind those of all kinds.
+-- The table is the rows of each kind, after those of all kinds.
 use Rattle.std.proofs.Common.{◌≡◌, ℕ, ◌∙◌, true, false, List, Option, Some, None, Result, Ok, Err, refl, ap}
 use Rattle.wl_octets.specs.declared.header.Header.{Header}
 use Rattle.hpack.specs.declared.fault.HpackFault.{HpackFault}

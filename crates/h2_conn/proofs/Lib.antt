@@ -2,9 +2,9 @@ pub mod Choice
 pub mod Queues
 pub mod Sounds
 pub mod Results
-pub mod Fitting
+pub mod FrameDemands
 pub mod Sums
 pub mod Carries
 pub mod WindowSums
 pub mod Tellings
-pub mod Holding
+pub mod OfferedMessages

@@ -112,7 +112,7 @@ abbrev pub told_list : Option Happening → List Happening
 told_list None = []
 told_list (Some h) = h ∷ []
 
--- where the connection stands behind a frame, what that told, and the connection's failure
+-- where the connection stands after a frame, what that told, and the connection's failure
 pub record FrameResult : Type 0 where
   pub after : Phase
   pub told : List Happening
@@ -192,7 +192,7 @@ ends_reset_count q p = not (p.left.flow.begun == q.outbox.flow.begun) || not (le
 unfoldable pub after_pull : State → PullResult → State
 after_pull q p = answers_end p.ended (record q { outbox = p.left; rapid_reset_count = if ends_reset_count q p then 0 else q.rapid_reset_count })
 
--- bytes, and where the connection stands behind them
+-- bytes, and where the connection stands after them
 pub record FlushResult : Type 0 where
   pub bytes : List ℕ
   pub after : Phase

@@ -360,7 +360,7 @@ with_decoder d q = record q { decoder = d }
 abbrev pub new_head_row : State → OpenBlock → List Header → Option Outcome
 new_head_row q u headers = when (nat_lt q.last_stream_id u.stream) (with_new_stream q u headers)
 
--- Own rule: a late block on a closed stream is ignored, but for the decoder's table. This departs from RFC 9113, section
+-- Own rule: a late block on a closed stream is ignored, except the decoder's table. This departs from RFC 9113, section
 -- 5.1.1, which asks for a connection error PROTOCOL_ERROR for HEADERS on a lower odd number that was skipped.
 abbrev pub closed_stream_row : State → OpenBlock → List Header → Option Outcome
 closed_stream_row q u headers = when (not (is_live u.stream q.streams)) (nothing q)

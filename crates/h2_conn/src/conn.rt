@@ -325,7 +325,7 @@ impl Conn {
     pub fn flush(&mut self, out: &mut Octets) -> Result<(), Memory>
         ensures after { OnOk result (self.new ≡ (flush_of self.old).after) }
         ensures bytes { OnOk result (out.new ≡ out.old ++ (flush_of self.old).bytes) }
-        ensures front { GainsFront (flush_of self.old).bytes out.old out.new }
+        ensures prefix { GainsFront (flush_of self.old).bytes out.old out.new }
         ensures err { OnErr result (self.new ≡ out_of_memory self.old) }
         ensures again { self.old ≡ out_of_memory self.old → IsErr result }
     {

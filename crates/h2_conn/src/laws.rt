@@ -53,7 +53,7 @@ pub fn faults_end_all()
 {}
 
 /// The frames that are read from bytes have what `Conn::frame` asks of them.
-#[tactic(auto, using(crate::proofs::Fitting::frames_fit))]
+#[tactic(auto, using(crate::proofs::FrameDemands::frames_fit))]
 pub fn frames_fit()
     ensures { (ending : End) (bytes : List ℕ) → AllByRecursion Fits (reading_from ending bytes).frames }
 {}
@@ -85,7 +85,7 @@ pub fn frames_tell_streams()
 
 /// A live stream holds the message that was offered to it last: it waits, or began last and none
 /// waits. Frames and flushes leave it so.
-#[tactic(auto, using(crate::proofs::Holding::offered_here, crate::proofs::Holding::flushed_held))]
+#[tactic(auto, using(crate::proofs::OfferedMessages::offered_here, crate::proofs::OfferedMessages::flushed_held))]
 pub fn streams_hold_messages()
     ensures offered { (stream : ℕ) (message : List ℕ) (phase : Phase) → SoundPhase phase
         → ClaimOn stream (IsHeld message) (on_open (with_message_on stream message) phase) }

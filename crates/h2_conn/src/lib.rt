@@ -1,7 +1,7 @@
 //! What a peer's frames mean on a connection of HTTP/2 (RFC 9113), in this agent's profile.
 //!
 //! One table decides: the first of its rows that applies to a frame says what changes, what is
-//! answered and what is told, or why the connection fails. `specs/Peer.antt` is that table. All
+//! answered and what is reported, or why the connection fails. `specs/Peer.antt` is that table. All
 //! that a server writes on the connection goes through it too, so that a fault is its end.
 #![tactic(auto)]
 

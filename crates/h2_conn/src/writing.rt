@@ -57,7 +57,7 @@ pub fn pull(state: &mut State, alloc: Global, out: &mut Octets) -> Result<(), Me
     ensures sound { OnOk result (Sound state.new) }
     ensures ok { OnOk result (state.new ≡ after_pull state.old (pull_of state.old.outbox)) }
     ensures bytes { OnOk result (out.new ≡ out.old ++ (pull_of state.old.outbox).bytes) }
-    ensures front { GainsFront (pull_of state.old.outbox).bytes out.old out.new }
+    ensures prefix { GainsFront (pull_of state.old.outbox).bytes out.old out.new }
 {
     let begun = state.outbox.begun();
     let mut ended = Row::empty(alloc);

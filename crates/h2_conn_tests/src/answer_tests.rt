@@ -499,7 +499,7 @@ fn rules_on_trailers(rt: HostRuntime) -> Result<(), Fail> {
     Ok(())
 }
 
-/// Asserts that these bytes behind SETTINGS are a fault with ENHANCE_YOUR_CALM.
+/// Asserts that these bytes after SETTINGS are a fault with ENHANCE_YOUR_CALM.
 fn is_too_much(rt: &impl Abort, alloc: Global, bytes: &[u8], cause: ConnCause) -> Result<(), Fail> {
     let fault = ConnFault {
         code: 11,

@@ -60,7 +60,7 @@ pub const fn well(
     }
 }
 
-/// A case that fails before anything is told.
+/// A case that fails before anything is reported.
 pub const fn wrong(
     name: &'static str,
     frames: &'static [&'static [u8]],

@@ -32,7 +32,7 @@ pub struct Start {
 ///
 /// Seen is the code of GOAWAY (`P` PROTOCOL_ERROR, `F` FLOW_CONTROL_ERROR, `S` STREAM_CLOSED, `L`
 /// FRAME_SIZE_ERROR, `C` COMPRESSION_ERROR) or of RST_STREAM, in small letters; else `a` for an
-/// acknowledgement, `h`, `b`, `e` and `g` for what is told (a head, a body, the end, the stream is
+/// acknowledgement, `h`, `b`, `e` and `g` for what is reported (a head, a body, the end, the stream is
 /// gone), and `.` for nothing. After it the stream is idle or a block is unfinished (`i`), open
 /// (`o`), half-closed (`r` remote, `l` local) or closed (`x`), or the connection has failed (`-`).
 #[derive(Clone, Copy)]

@@ -35,7 +35,7 @@ rises_filter n p (s ∷ ss) h =
       | inr goes ↦ rw goes (rises_filter n p ss (rises_from n s.number (map number_of ss) (omega arith) h.1))
     ]
 
--- numbers that are the same behind a vector that was lent as a slice
+-- numbers that are the same after a vector that was lent as a slice
 pub rises_lent : (n m : ℕ) (items old new : List Stream) → length old ≡ m → old ≡ items → map number_of new ≡ map number_of old → RisesFrom n (map number_of items) → RisesFrom n (map number_of (take m (new ++ drop (length new) items)))
 rises_lent n m items old new len value same h =
     let many : length new ≡ m = sym (length-map new number_of) ∙ ap length same ∙ length-map old number_of ∙ len in

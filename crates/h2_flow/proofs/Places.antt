@@ -8,7 +8,7 @@ use Rattle.h2_flow.specs.declared.stream.Stream.{Stream}
 use Rattle.h2_flow.specs.Outboxes.{is_number, update_stream, credit_of, first_over}
 use Rattle.h2_flow.specs.Windows.{window_of}
 
--- a place that isn't behind the stream
+-- a place that isn't after the stream
 pub record IsBefore (n : ℕ) (xs : List Stream) (at : ℕ) : Type 0 where
   pub there : list_any (is_number n) (drop at xs) ≡ true
   pub changes : (f : Stream → Stream) → update_stream n f xs ≡ take at xs ++ update_stream n f (drop at xs)

@@ -129,7 +129,7 @@ Within initial sent [] ts = Unit {0}
 Within initial sent (s ∷ ss) [] = Unit {0}
 Within initial sent (s ∷ ss) (t ∷ ts) = (sum_by (data_on s.number) sent + room_of (window_of initial t.credit) ≡ room_of (window_of initial s.credit)) × Within initial sent ss ts
 
--- frames on other streams alone before, or behind
+-- frames on other streams alone before, or after
 spent_before : (n : ℕ) (first sent : List Sent) → ((m : ℕ) → (m == n) ≡ false → sum_by (data_on m) first ≡ 0) → (ss ts : List Stream) → RisesFrom n (map number_of ss) → Spent sent ss ts → Spent (first ++ sent) ss ts
 spent_before n first sent off [] [] rises h = tt
 spent_before n first sent off [] (t ∷ ts) rises h = h

@@ -9,7 +9,7 @@ use Rattle.h2_flow.specs.Outboxes.{Out, new_outbox, IsAbove, with_stream, withou
 
 -- ---- histories
 
--- a call that changed an outbox; a pull with the frames that it wrote behind the control frames
+-- a call that changed an outbox; a pull with the frames that it wrote after the control frames
 pub data Step : Type 0 where
   Add : ℕ → Step
   Remove : ℕ → Step

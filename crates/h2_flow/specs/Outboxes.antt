@@ -147,7 +147,7 @@ IsLowestOver value n streams =
 
 -- ---- a pull
 
--- the frames behind the control frames, as bytes with them, the streams that they end, and what is left
+-- the frames after the control frames, as bytes with them, the streams that they end, and what is left
 pub record PullResult : Type 0 where
   pub sent : List Sent
   pub bytes : List ℕ

@@ -56,7 +56,7 @@ bytes_of sent = flat_map sent_bytes sent
 abbrev pub ended_of : List Sent → List ℕ
 ended_of sent = flat_map ended_by sent
 
--- all that is due was put behind what was there, or a prefix of it before memory ran out
+-- all that is due was put after what was there, or a prefix of it before memory ran out
 abbrev pub Puts : {A : Type 0} → Result (Unit {0}) Memory → List A → List A → List A → Type 0
 Puts (Ok x) due old new = new ≡ old ++ due
 Puts (Err e) due old new = GainsFront due old new

@@ -6,7 +6,7 @@ ghost use Rattle.h2_wire.specs.declared.limit.TheConstants.{MAX_BLOCK_LEN};
 use std::marker::Model;
 use wl_octets::Octets;
 
-/// A header block of at most 16,383 bytes, so that it fits one frame behind the byte of a
+/// A header block of at most 16,383 bytes, so that it fits one frame after the byte of a
 /// size update.
 #[derive(Drop)]
 pub struct Block {

@@ -278,7 +278,7 @@ impl Outbox {
         self.flow.begun
     }
 
-    /// Writes all that may be written behind what `out` holds: the control frames, and then
+    /// Writes all that may be written after what `out` holds: the control frames, and then
     /// rounds of the streams until one writes nothing. Tells in `ended` the streams whose
     /// END_STREAM it wrote. Where memory runs out the windows, the counts and the control
     /// frames stay as they were, and no later call writes anything.
@@ -287,7 +287,7 @@ impl Outbox {
         ensures left { OnOk result (self.new ≡ (pull_of self.old).left) }
         ensures bytes { OnOk result (out.new ≡ out.old ++ (pull_of self.old).bytes) }
         ensures ended { OnOk result (ended.new ≡ ended.old ++ (pull_of self.old).ended) }
-        ensures front { GainsFront (pull_of self.old).bytes out.old out.new }
+        ensures prefix { GainsFront (pull_of self.old).bytes out.old out.new }
         ensures ended_front { GainsFront (pull_of self.old).ended ended.old ended.new }
         ensures fails { OnErr result (self.new.failed ≡ true) }
         ensures again { self.old.failed ≡ true → IsErr result }

@@ -187,7 +187,7 @@ fn put_next(
     put_data(flow, stream, out)
 }
 
-/// Writes what a stream may write behind its head block.
+/// Writes what a stream may write after its head block.
 #[tactic(auto, unfolding(crate::specs::Streams::body_turn))]
 fn put_body(
     flow: &mut Flow,

@@ -21,7 +21,7 @@ pub struct Stream {
     pub last: Message,
     /// How many of its bytes were written.
     pub sent: usize,
-    /// The message behind it.
+    /// The message after it.
     pub waiting: Option<Message>,
     /// The block that ends the stream, where that is due.
     pub trailers: Option<Block>,

@@ -17,7 +17,7 @@ const CHANGED: &[u8] =
 /// A call of an outbox, and what it answers or writes.
 #[derive(Clone, Copy)]
 enum Step {
-    /// Control frames, which are queued behind nothing.
+    /// Control frames, which are queued after nothing.
     Control(&'static [u8]),
     /// The first shrinking.
     Shrink,
@@ -38,7 +38,7 @@ enum Step {
     Written(u32, bool),
 }
 
-/// Whether these bytes are the parts, one behind the other.
+/// Whether these bytes are the parts, one after the other.
 fn are_parts(bytes: &[u8], parts: &[&[u8]]) -> bool {
     let mut rest = bytes;
     for part in parts {
@@ -54,7 +54,7 @@ fn are_parts(bytes: &[u8], parts: &[&[u8]]) -> bool {
     rest.is_empty()
 }
 
-/// Whether these frames are behind the byte that was there, and these streams have ended.
+/// Whether these frames are after the byte that was there, and these streams have ended.
 fn is_pulled(out: &Octets, ended: &Row<u32>, frames: &[&[u8]], ends: &[u32]) -> bool {
     match out.as_slice().split_first() {
         Some((b'-', written)) => are_parts(written, frames) && ended.as_slice() == ends,

@@ -28,7 +28,7 @@ enough zero m (x ∷ b) p q = absurd (omega arith)
 enough (suc n) zero (x ∷ b) p q = absurd (omega arith)
 enough (suc n) (suc m) (x ∷ b) p q = after_same (length (x ∷ b)) (first_frame (x ∷ b)) (x ∷ b) (frames_in n) (frames_in m) (first_shorter (x ∷ b)) (λ rest lt. enough n m rest (omega arith) (omega arith))
 
--- the frames are the first one and those behind it
+-- the frames are the first one and those after it
 pub frames_step : (b : List ℕ) → frames_of b ≡ after_step (first_frame b) b frames_of
 unfolding frames_of frames_in first_frame
 frames_step [] = refl

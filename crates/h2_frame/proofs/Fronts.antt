@@ -1,4 +1,4 @@
--- One frame at the front, and the bytes behind it.
+-- One frame at the front, and the bytes after it.
 use Rattle.std.proofs.Common.{◌≡◌, ◌⊎◌, inl, inr, ℕ, ◌+◌, ◌<◌, ◌≤◌, false, List, ◌++◌, length, take, drop, Result, Ok, Err, refl, arith, nat_lt, ltb-false, le-ltb, length-drop, length-append, get_or}
 use Rattle.std.proofs.lemmas.Bool.{cases_Bool}
 use Rattle.std.proofs.lemmas.List.{drop-drop, take-append-le, drop-append-le, get_or_append_left}
@@ -11,7 +11,7 @@ use Rattle.h2_frame.specs.Reading.{Step, partial, whole, wrong, step_of_body, st
 
 -- ---- a frame takes bytes
 
--- what is left behind a frame is shorter than this
+-- what is left after a frame is shorter than this
 abbrev pub IsShorter : ℕ → Step → Type 0
 IsShorter n partial = Unit {0}
 IsShorter n (whole frame rest) = length rest < n
@@ -45,9 +45,9 @@ first_shorter b =
           rw few (judged_shorter (length b) (head_of b) (drop 9 b) (simp length-drop (omega arith)))
     ]
 
--- ---- more bytes behind it
+-- ---- more bytes after it
 
--- the same with more bytes behind
+-- the same with more bytes after
 abbrev pub with_more : Step → List ℕ → Step
 with_more partial more = partial
 with_more (whole frame rest) more = whole frame (rest ++ more)

@@ -2,6 +2,6 @@ pub mod Fronts
 pub mod Cuts
 pub mod Settings
 pub mod Openings
-pub mod Spelled
-pub mod Feeding
+pub mod FrameRoundTrip
+pub mod FedPieces
 pub mod Pieces

@@ -11,7 +11,7 @@ use Rattle.h2_frame.specs.declared.frame.Setting.{Setting}
 use Rattle.h2_frame.specs.declared.head.Head.{Head}
 use Rattle.h2_frame.specs.Heads.{has_flag, front_of}
 
--- sections 6.1 and 6.2: the content of DATA and HEADERS, without what stands before it and the padding behind it
+-- sections 6.1 and 6.2: the content of DATA and HEADERS, without what stands before it and the padding after it
 unfoldable pub content_of : Head → List ℕ → Result (List ℕ) FrameFault
 content_of h payload =
     let pad = (if has_flag h.flags flag.PADDED then slice_index payload 0 else 0) in

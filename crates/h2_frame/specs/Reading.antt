@@ -21,7 +21,7 @@ abbrev pub step_of_body : Head → Result Body FrameFault → List ℕ → Step
 step_of_body h (Ok body) rest = whole (record { stream = h.stream; body = body }) rest
 step_of_body h (Err fault) rest = wrong fault
 
--- behind the head: its faults come as soon as it is whole (RFC 9113, section 4.2), those of the payload once that is whole
+-- after the head: its faults come as soon as it is whole (RFC 9113, section 4.2), those of the payload once that is whole
 unfoldable pub step_after_head : Head → List ℕ → Step
 step_after_head h after =
     if nat_lt MAX_FRAME_SIZE h.length then wrong (faults.TooLarge h.length)
@@ -40,7 +40,7 @@ pub data End : Type 0 where
   Rest : List ℕ → End
   Fault : FrameFault → End
 
--- the frames of a stream, and how it ends behind them
+-- the frames of a stream, and how it ends after them
 pub record Reading : Type 0 where
   pub frames : List Frame
   pub ending : End

@@ -32,7 +32,7 @@ impl Head {
     /// How many bytes of a payload of DATA or HEADERS stand before its content.
     #[tactic(auto, unfolding(crate::specs::Heads::front_of))]
     pub fn front(self) -> u32
-        ensures front { result ≡ front_of self }
+        ensures prefix { result ≡ front_of self }
         ensures small { result ≤ 6 }
     {
         let padding = if self.flags & flag::PADDED != 0 { 1 } else { 0 };

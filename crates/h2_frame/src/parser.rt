@@ -66,13 +66,13 @@ impl Parser {
         }
     }
 
-    /// Reads on with more bytes of the stream, and puts each frame that is whole behind what
+    /// Reads on with more bytes of the stream, and puts each frame that is whole after what
     /// `into` holds. After a fault, each later call answers that fault again; the frames
     /// before it are in `into`.
     ///
     /// A byte is copied once into its frame, and once before that where its frame comes in
     /// several pieces and is not DATA without padding.
-    #[tactic(auto, using(crate::proofs::Feeding::stands_on))]
+    #[tactic(auto, using(crate::proofs::FedPieces::stands_on))]
     pub fn feed(
         &mut self,
         alloc: Global,
@@ -80,7 +80,7 @@ impl Parser {
         into: &mut Row<Frame>,
     ) -> Result<(), FrameFault>
         ensures fed { Feeds result (reading_from self.old piece.now) into.old into.new self.new }
-        ensures front { GainsFront (reading_from self.old piece.now).frames into.old into.new }
+        ensures prefix { GainsFront (reading_from self.old piece.now).frames into.old into.new }
         ensures again { (fault : FrameFault) → self.old ≡ Fault fault → result ≡ Err fault }
         ensures stands { (first : End) (fed : List ℕ) → StandsFor first self.old fed
             → StandsFor first self.new (fed ++ piece.now) }
@@ -88,7 +88,7 @@ impl Parser {
         self.feed_parts(alloc, piece, into)
     }
 
-    /// What completes a frame that was begun goes behind its other bytes; all else is read
+    /// What completes a frame that was begun goes after its other bytes; all else is read
     /// where it lies.
     fn feed_parts(
         &mut self,
@@ -97,7 +97,7 @@ impl Parser {
         into: &mut Row<Frame>,
     ) -> Result<(), FrameFault>
         ensures fed { Feeds result (reading_from self.old piece.now) into.old into.new self.new }
-        ensures front { GainsFront (reading_from self.old piece.now).frames into.old into.new }
+        ensures prefix { GainsFront (reading_from self.old piece.now).frames into.old into.new }
         ensures again { (fault : FrameFault) → self.old ≡ Fault fault → result ≡ Err fault }
     {
         let (head, rest) = piece.split_at(self.lacking().min(piece.len()));
@@ -115,7 +115,7 @@ impl Parser {
         into: &mut Row<Frame>,
     ) -> Result<(), FrameFault>
         ensures fed { Feeds result (reading_from self.old piece.now) into.old into.new self.new }
-        ensures front { GainsFront (reading_from self.old piece.now).frames into.old into.new }
+        ensures prefix { GainsFront (reading_from self.old piece.now).frames into.old into.new }
         ensures again { (fault : FrameFault) → self.old ≡ Fault fault → result ≡ Err fault }
     {
         let (payload, rest) = piece.split_at(self.lacking().min(piece.len()));
@@ -142,7 +142,7 @@ impl Parser {
         into: &mut Row<Frame>,
     ) -> Result<(), FrameFault>
         ensures fed { Feeds result (reading_from self.old piece.now) into.old into.new self.new }
-        ensures front { GainsFront (reading_from self.old piece.now).frames into.old into.new }
+        ensures prefix { GainsFront (reading_from self.old piece.now).frames into.old into.new }
         ensures again { (fault : FrameFault) → self.old ≡ Fault fault → result ≡ Err fault }
     {
         match self.stage {
@@ -181,7 +181,7 @@ fn read(
     ensures fed { Feeds result (reading_from (Rest pending.old) piece.now) into.old into.new
         (ending_of stage.new pending.new) }
     ensures within { IsWithin stage.new }
-    ensures front { GainsFront (reading_from (Rest pending.old) piece.now).frames into.old into.new }
+    ensures prefix { GainsFront (reading_from (Rest pending.old) piece.now).frames into.old into.new }
 {
     match take_in(alloc, pending, piece, into) {
         Ok(()) => Ok(()),
@@ -192,7 +192,7 @@ fn read(
     }
 }
 
-/// Reads frames from the bytes that were kept and a piece behind them, and keeps the rest.
+/// Reads frames from the bytes that were kept and a piece after them, and keeps the rest.
 fn take_in(
     alloc: Global,
     pending: &mut Pending,
@@ -206,7 +206,7 @@ fn take_in(
         (λ fault. Refuses fault
         ((into.new ≡ into.old ++ (frames_of (pending.old ++ piece.now)).frames)
         × ((frames_of (pending.old ++ piece.now)).ending ≡ Fault fault))) }
-    ensures front { GainsFront (frames_of (pending.old ++ piece.now)).frames into.old into.new }
+    ensures prefix { GainsFront (frames_of (pending.old ++ piece.now)).frames into.old into.new }
 {
     if pending.len() == 0 {
         let used = frames(alloc, piece, into)?;

@@ -23,7 +23,7 @@ use wl_octets::{Octets, Row};
 pub struct Pending {
     /// The head of DATA without padding, or all bytes of another frame.
     front: Vec<u8>,
-    /// What has come behind the head of DATA without padding.
+    /// What has come after the head of DATA without padding.
     payload: Vec<u8>,
 }
 
@@ -71,7 +71,7 @@ impl Pending {
         }
     }
 
-    /// Keeps these bytes behind the others, each copied once.
+    /// Keeps these bytes after the others, each copied once.
     pub fn keep(&mut self, bytes: &[u8]) -> Result<(), FrameFault>
         ensures ok { OnOk result (self.new ≡ self.old ++ bytes.now) }
         ensures err { IfErr result (λ fault. fault ≡ FrameFault.Memory) }
@@ -108,7 +108,7 @@ impl Pending {
             (λ fault. Refuses fault
             ((into.new ≡ into.old ++ (frames_of self.old).frames)
             × ((frames_of self.old).ending ≡ Fault fault))) }
-        ensures front { GainsFront (frames_of self.old).frames into.old into.new }
+        ensures prefix { GainsFront (frames_of self.old).frames into.old into.new }
     {
         if let Some(head) = data_head(self.front.as_slice()) {
             if self.payload.len() < head.length as usize {
@@ -132,7 +132,7 @@ impl Pending {
             (λ fault. Refuses fault
             ((into.new ≡ into.old ++ (frames_of self.old).frames)
             × ((frames_of self.old).ending ≡ Fault fault))) }
-        ensures front { GainsFront (frames_of self.old).frames into.old into.new }
+        ensures prefix { GainsFront (frames_of self.old).frames into.old into.new }
     {
         keep(&mut self.front, self.payload.as_slice())?;
         self.payload.clear();
@@ -149,7 +149,7 @@ fn read_front(alloc: Global, front: &mut Vec<u8>, into: &mut Row<Frame>) -> Resu
         (λ fault. Refuses fault
         ((into.new ≡ into.old ++ (frames_of front.old.items).frames)
         × ((frames_of front.old.items).ending ≡ Fault fault))) }
-    ensures front { GainsFront (frames_of front.old.items).frames into.old into.new }
+    ensures prefix { GainsFront (frames_of front.old.items).frames into.old into.new }
 {
     let used = frames(alloc, front.as_slice(), into)?;
     if used > 0 {

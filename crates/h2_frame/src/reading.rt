@@ -55,7 +55,7 @@ pub(crate) fn frames(
         (λ fault. Refuses fault
         ((into.new ≡ into.old ++ (frames_of bytes.now).frames)
         × ((frames_of bytes.now).ending ≡ Fault fault))) }
-    ensures front { GainsFront (frames_of bytes.now).frames into.old into.new }
+    ensures prefix { GainsFront (frames_of bytes.now).frames into.old into.new }
 {
     let mut at = 0;
     'each: loop {

@@ -11,15 +11,15 @@ use h2_wire::limit::MAX_FRAME_SIZE;
 use h2_wire::{flag, frame_type, head_of_frame};
 use wl_octets::{Memory, Octets};
 
-/// Writes one frame behind what `out` holds, without padding and priority fields. A frame
+/// Writes one frame after what `out` holds, without padding and priority fields. A frame
 /// of PUSH_PROMISE or of an unknown type gets an empty payload, and PRIORITY five zeros.
 ///
 /// Its payload has at most 16,384 bytes, which any peer takes (RFC 9113, section 4.2).
-#[tactic(auto, using(crate::proofs::Spelled::read_again), unfolding(crate::specs::Writing::frame_encoding, h2_wire::specs::Encoding::frame_bytes))]
+#[tactic(auto, using(crate::proofs::FrameRoundTrip::read_again), unfolding(crate::specs::Writing::frame_encoding, h2_wire::specs::Encoding::frame_bytes))]
 pub fn put_frame(out: &mut Octets, frame: &Frame) -> Result<(), Memory>
     requires { length (payload_of frame.now.body) ≤ MAX_FRAME_SIZE }
     ensures ok { OnOk result (out.new ≡ out.old ++ frame_encoding frame.now) }
-    ensures front { GainsFront (frame_encoding frame.now) out.old out.new }
+    ensures prefix { GainsFront (frame_encoding frame.now) out.old out.new }
     ensures read_again { IsWritable frame.now.body → frame.now.stream < 2 ^ 31 → (rest : List ℕ)
         → first_frame (frame_encoding frame.now ++ rest) ≡ whole frame.now rest }
 {
@@ -104,7 +104,7 @@ fn payload_len(body: &Body) -> u32
 
 fn put_payload(out: &mut Octets, body: &Body) -> Result<(), Memory>
     ensures ok { OnOk result (out.new ≡ out.old ++ payload_of body.now) }
-    ensures front { GainsFront (payload_of body.now) out.old out.new }
+    ensures prefix { GainsFront (payload_of body.now) out.old out.new }
 {
     match body {
         Body::Bytes { bytes, .. } => out.push_slice(bytes.as_slice()),
@@ -126,7 +126,7 @@ fn put_payload(out: &mut Octets, body: &Body) -> Result<(), Memory>
 /// Two bytes and four for each pair.
 fn put_settings(out: &mut Octets, pairs: &[Setting]) -> Result<(), Memory>
     ensures ok { OnOk result (out.new ≡ out.old ++ flat_map setting_bytes pairs.now) }
-    ensures front { GainsFront (flat_map setting_bytes pairs.now) out.old out.new }
+    ensures prefix { GainsFront (flat_map setting_bytes pairs.now) out.old out.new }
 {
     for pair in pairs {
         let [high, low] = pair.id.to_be_bytes();

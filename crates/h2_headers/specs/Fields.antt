@@ -15,7 +15,7 @@ is_name_byte b = nat_lt 32 b && nat_lt b 127 && not (nat_lt 64 b && nat_lt b 91)
 abbrev pub is_name_front : Option ℕ → Bool
 is_name_front first = option_map_or (λ b. b == 58 || is_name_byte b) first false
 
--- a name is not empty, and has no colon behind its first byte
+-- a name is not empty, and has no colon after its first byte
 unfoldable pub is_name : List ℕ → Bool
 is_name name = is_name_front (slice_get name 0) && list_all is_name_byte (drop 1 name)
 

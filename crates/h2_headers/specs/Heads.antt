@@ -21,7 +21,7 @@ is_unknown h = is_pseudo_field h && not (is_request_name h.name)
 abbrev pub regular_part : List Header → List Header
 regular_part hs = drop (prefix_len is_pseudo_field hs) hs
 
--- no pseudo-header stands behind another field (section 8.3)
+-- no pseudo-header stands after another field (section 8.3)
 abbrev pub is_in_order : List Header → Bool
 is_in_order hs = list_all (λ h. not (is_pseudo_field h)) (regular_part hs)
 

@@ -7,8 +7,6 @@
 
 mod fields;
 mod lists;
-#[cfg(test)]
-mod tests;
 mod values;
 
 pub use fields::is_named;

@@ -39,7 +39,7 @@ fn are_regular(headers: &[Header]) -> bool
     headers.iter().all(|header| !is_pseudo(header))
 }
 
-/// Whether no pseudo-header stands behind another field.
+/// Whether no pseudo-header stands after another field.
 fn is_ordered(headers: &[Header]) -> bool
     ensures { result ≡ is_in_order headers.now }
 {

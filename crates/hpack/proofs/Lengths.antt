@@ -8,7 +8,7 @@ use Rattle.wl_octets.specs.declared.header.Header.{Header}
 use Rattle.hpack.specs.Tables.{size_of, list_size, static_table, no_field}
 use Rattle.hpack.specs.Writing.{integer_bytes, plain_string, same_field, same_name, name_bytes, field_bytes_at, field_bytes, block_bytes}
 use Rattle.hpack.proofs.Eviction.{list_size-cons}
-use Rattle.hpack.proofs.Spelling.{more_short}
+use Rattle.hpack.proofs.WrittenBlocks.{more_short}
 use Rattle.hpack.proofs.StaticTable.{static_count}
 
 integer_short : (pattern full value : ℕ) → value ≤ 16384 → length (integer_bytes pattern full value) ≤ 4

@@ -11,5 +11,5 @@ pub mod Walks
 pub mod Texts
 pub mod Headers
 pub mod Standings
-pub mod Spelling
+pub mod WrittenBlocks
 pub mod Lengths

@@ -7,7 +7,7 @@ use Rattle.list_laws.proofs.Results.{ok_first, ok_second}
 use Rattle.hpack.specs.Reading.{more_at, integer_at}
 use Rattle.hpack.specs.Grammar.{Continues, groups, IsInteger}
 
--- some bytes begin with a text of this kind, and this stands behind it
+-- some bytes begin with a text of this kind, and this stands after it
 pub record Took (bytes rest : List ℕ) (R : List ℕ → Type 0) : Type 0 where
   pub text : List ℕ
   pub parts : bytes ≡ text ++ rest

@@ -27,7 +27,7 @@ no_value place from =
       | inr past ↦ ap (λ entry. entry.value) (get_or_past static_table place no_field (omega (arith, static_count)))
     ]
 
--- ---- the static table, and the dynamic one behind it
+-- ---- the static table, and the dynamic one after it
 
 slice_get-left : {A : Type 0} (xs ys : List A) (i : ℕ) (d : A) → i < length xs → slice_get (xs ++ ys) i ≡ Some (get_or xs i d)
 slice_get-left [] ys i d lt = absurd (omega arith)

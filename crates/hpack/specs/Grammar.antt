@@ -21,7 +21,7 @@ groups [] = 0
 groups (byte ∷ bytes) = byte % 128 + 128 * groups bytes
 
 -- A number in the lowest bits of a byte, or a byte in which all of these are set, and what is above that in at most five
--- bytes behind it. It has 32 bits (the two bounds are own rules).
+-- bytes after it. It has 32 bits (the two bounds are own rules).
 abbrev pub IsInteger : ℕ → List ℕ → ℕ → Type 0
 IsInteger full [] value = ⊥
 IsInteger full (byte ∷ []) value = (value ≡ byte % (full + 1)) × (value < full)

@@ -11,7 +11,7 @@ use Rattle.hpack.specs.Tables.{Table, size_of, with_item, with_maximum, entry_at
 
 -- ---- integers (section 5.1)
 
--- what one more is worth in each byte behind a full prefix; own rule: there are five bytes at most
+-- what one more is worth in each byte after a full prefix; own rule: there are five bytes at most
 abbrev pub worths : List ℕ
 worths = 1 ∷ 128 ∷ 16384 ∷ 2097152 ∷ 268435456 ∷ []
 
@@ -24,7 +24,7 @@ more_at (worth ∷ places) value (byte ∷ rest) =
     else if nat_lt byte 128 then Ok (value + byte % 128 * worth, rest)
     else more_at places (value + byte % 128 * worth) rest
 
--- an integer whose prefix takes the lowest bits of the first byte, and the bytes behind it; a full prefix has all these bits set
+-- an integer whose prefix takes the lowest bits of the first byte, and the bytes after it; a full prefix has all these bits set
 unfoldable pub integer_at : ℕ → List ℕ → Result (ℕ × List ℕ) HpackFault
 integer_at full [] = Err faults.Truncated
 integer_at full (byte ∷ rest) = if byte % (full + 1) == full then more_at worths full rest else Ok (byte % (full + 1), rest)
@@ -45,7 +45,7 @@ string_at bytes = do
 
 -- ---- representations (section 6)
 
--- a name is an entry's, or follows behind an index of 0
+-- a name is an entry's, or follows after an index of 0
 unfoldable pub name_at : List Header → ℕ → List ℕ → Result (List ℕ × List ℕ) HpackFault
 name_at items full bytes = do
   index ← integer_at full bytes
@@ -59,7 +59,7 @@ literal_at items full bytes = do
   value ← string_at name.1
   Ok (record { name = name.0; value = value.0 }, value.1)
 
--- A representation names a header or resizes the table; then come the table and the bytes behind it. A size update stands
+-- A representation names a header or resizes the table; then come the table and the bytes after it. A size update stands
 -- only where no header has begun the block (section 4.2).
 unfoldable pub representation_at : Table → Bool → ℕ → List ℕ → Result (Option Header × Table × List ℕ) HpackFault
 representation_at table begun first bytes =

@@ -115,7 +115,7 @@ abbrev pub name_of : Result Header HpackFault → Result (List ℕ) HpackFault
 name_of (Ok header) = Ok header.name
 name_of (Err fault) = Err fault
 
--- the entry at an index, which counts from 1: the static table, and the dynamic one behind it
+-- the entry at an index, which counts from 1: the static table, and the dynamic one after it
 unfoldable pub entry_at : List Header → ℕ → Result Header HpackFault
 entry_at items index = if index == 0 then Err faults.Index else entry_or_fault (slice_get (static_table ++ items) (index - 1))
 

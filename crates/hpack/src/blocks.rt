@@ -12,7 +12,7 @@ use crate::limit::{MAX_LIST_SIZE, MAX_TABLE_SIZE};
 use std::alloc::Global;
 use wl_octets::{Header, Octets, Row};
 
-/// The name that the bytes begin with, by an index of this prefix or as a string, and what stands behind it.
+/// The name that the bytes begin with, by an index of this prefix or as a string, and what stands after it.
 #[tactic(auto, unfolding(crate::specs::Reading::name_at))]
 fn name<'a>(
     alloc: Global,
@@ -30,7 +30,7 @@ fn name<'a>(
     Ok((table.name(alloc, index)?, rest))
 }
 
-/// The literal that the bytes begin with, and what stands behind it.
+/// The literal that the bytes begin with, and what stands after it.
 #[tactic(auto, unfolding(crate::specs::Reading::literal_at))]
 fn literal<'a>(
     alloc: Global,
@@ -46,7 +46,7 @@ fn literal<'a>(
     Ok((Header { name, value }, rest))
 }
 
-/// The representation that the bytes begin with: the header that it names, if any, and what stands behind it. The table
+/// The representation that the bytes begin with: the header that it names, if any, and what stands after it. The table
 /// changes with it.
 #[tactic(auto, unfolding(crate::specs::Reading::representation_at))]
 fn representation<'a>(

@@ -12,7 +12,7 @@ use wl_octets::Memory;
 pub enum HpackFault {
     /// An index is 0 in an indexed representation, or above the last item of the tables.
     Index,
-    /// An integer is above 4,294,967,295, or takes more than five bytes behind its prefix.
+    /// An integer is above 4,294,967,295, or takes more than five bytes after its prefix.
     Integer,
     /// The block ends within a representation.
     Truncated,

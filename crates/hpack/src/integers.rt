@@ -10,10 +10,10 @@ use crate::huffman::decode;
 use std::alloc::Global;
 use wl_octets::Octets;
 
-/// What one more is worth in each of the five bytes behind a full prefix.
+/// What one more is worth in each of the five bytes after a full prefix.
 static WORTHS: [u32; 5] = [1, 128, 16_384, 2_097_152, 268_435_456];
 
-/// Adds the bytes of seven bits, one for each of these worths at most, and gives what stands behind them.
+/// Adds the bytes of seven bits, one for each of these worths at most, and gives what stands after them.
 #[tactic(auto, unfolding(crate::specs::Reading::more_at))]
 fn more<'a>(worths: &[u32], value: u64, bytes: &'a [u8]) -> Result<(u32, &'a [u8]), HpackFault>
     requires { value < 2 ^ 32 }
@@ -37,7 +37,7 @@ fn more<'a>(worths: &[u32], value: u64, bytes: &'a [u8]) -> Result<(u32, &'a [u8
 }
 
 /// The integer whose prefix takes the lowest bits of the first byte, all of which are set in `full`, and what stands
-/// behind it.
+/// after it.
 #[tactic(auto, unfolding(crate::specs::Reading::integer_at))]
 pub(crate) fn integer(full: u8, bytes: &[u8]) -> Result<(u32, &[u8]), HpackFault>
     requires { full < 128 }
@@ -64,7 +64,7 @@ fn is_coded(bytes: &[u8]) -> bool
     }
 }
 
-/// The string that the bytes begin with, and what stands behind it.
+/// The string that the bytes begin with, and what stands after it.
 #[tactic(auto, unfolding(crate::specs::Reading::string_at))]
 pub(crate) fn string(alloc: Global, bytes: &[u8]) -> Result<(Octets, &[u8]), HpackFault>
     ensures { Gives (λ read. (read.0, read.1.now)) result (string_at bytes.now) }

@@ -1,4 +1,4 @@
-//! Scripts for the tests. A line `new` begins a connection, a line `> HEX` is its next block, and behind it stand the headers that it
+//! Scripts for the tests. A line `new` begins a connection, a line `> HEX` is its next block, and after it stand the headers that it
 //! names, or `! FAULT`; `size N` is the sum of their sizes. A block `be bf ..` names the items of the dynamic table, newest first.
 
 /// The examples of RFC 7541, appendix C, with the table after each of their steps. The maximum size of 256 in C.5 and C.6 is set by a

@@ -1,3 +1,3 @@
 pub mod Newest
-pub mod Keeping
-pub mod Holding
+pub mod KeptTokens
+pub mod EachKeep

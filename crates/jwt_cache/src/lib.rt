@@ -7,8 +7,6 @@
 
 mod rings;
 mod sorting;
-#[cfg(test)]
-mod tests;
 mod tokens;
 
 pub use rings::CachedToken;

@@ -14,8 +14,8 @@ use Rattle.wl_entry.specs.Keys.{ask_key}
 use Rattle.wl_entry.specs.declared.asks.Ask.{Ask}
 use Rattle.wl_entry.specs.declared.signing.Svid.{Svid}
 use Rattle.svid_cache.specs.Queue.{NotBefore, OthersNotBefore, Filed}
-use Rattle.svid_cache.proofs.Filing.{rises_drop}
-use Rattle.svid_cache.proofs.Finding.{above_is_other}
+use Rattle.svid_cache.proofs.AskBlocks.{rises_drop}
+use Rattle.svid_cache.proofs.KeyTests.{above_is_other}
 
 -- none of the asks is of the entry
 abbrev Absent : List ℕ → List Ask → Type 0

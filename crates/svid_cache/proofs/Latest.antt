@@ -6,7 +6,7 @@ use Rattle.std.proofs.lemmas.List.{take_more, take_all}
 use Rattle.list_laws.proofs.Elements.{all_append, all_such}
 use Rattle.wl_entry.specs.declared.signing.Svid.{Svid}
 use Rattle.sorted_blocks.specs.Blocks.{join}
-use Rattle.sorted_blocks.proofs.Standing.{join_more}
+use Rattle.sorted_blocks.proofs.BlockOfKey.{join_more}
 use Rattle.svid_cache.specs.Queue.{IsLatest, NoneEndsBefore, svid_end}
 
 -- what holds of all items of two lists holds of those of each

@@ -1,6 +1,6 @@
 pub mod Blocks
-pub mod Filing
-pub mod Finding
-pub mod Keeping
+pub mod AskBlocks
+pub mod KeyTests
+pub mod CacheFacts
 pub mod Latest
-pub mod Ending
+pub mod Expiries

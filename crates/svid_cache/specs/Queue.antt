@@ -24,7 +24,7 @@ NotBefore svids first a = first ≤ first_second svids a
 abbrev pub OthersNotBefore : List ℕ → List Svid → ℕ → Ask → Type 0
 OthersNotBefore id svids first a = bytes_eq a.entry_id id ≡ false → NotBefore svids first a
 
--- The asks stand in blocks of this size, but for the last, with a second for each block that fits each of its asks.
+-- The asks stand in blocks of this size, except the last, with a second for each block that fits each of its asks.
 unfoldable pub Filed : (ℕ → Ask → Type 0) → ℕ → List ℕ → List Ask → Type 0
 Filed Fits size [] asks = asks ≡ []
 Filed Fits size (first ∷ firsts) asks = AllByRecursion (Fits first) (take size asks) × Filed Fits size firsts (drop size asks)

@@ -9,7 +9,7 @@ use sorted_lists::find_by_key;
 use wl_entry::Ask;
 
 /// Whether the ask is among these, by binary search.
-#[tactic(auto, using(crate::proofs::Finding::listed_found))]
+#[tactic(auto, using(crate::proofs::KeyTests::listed_found))]
 pub(crate) fn lists(asks: &[Ask], ask: &Ask) -> bool
     requires { Rises (map ask_key asks.now) }
     ensures { result ≡ is_listed asks.now ask.now }

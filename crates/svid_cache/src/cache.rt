@@ -97,7 +97,7 @@ impl Cache {
     /// The cache with other asks. The SVIDs stay whose ask is among them.
     pub fn prepare_sync(&self, alloc: Global, asks: Row<Ask>) -> Result<Cache, Memory>
         requires rises { Rises (map ask_key asks) }
-        requires few { length asks < 2 ^ 32 }
+        requires at_most { length asks < 2 ^ 32 }
         ensures { IfOk result (λ c. c ≡ with_asks asks self.now) }
     {
         let svids = self.blocks(alloc)?;
@@ -107,7 +107,7 @@ impl Cache {
     /// Takes other asks. The SVIDs stay whose ask is among them.
     pub fn sync(&mut self, alloc: Global, asks: Row<Ask>) -> Result<(), Memory>
         requires rises { Rises (map ask_key asks) }
-        requires few { length asks < 2 ^ 32 }
+        requires at_most { length asks < 2 ^ 32 }
         ensures ok { OnOk result (self.new ≡ with_asks asks self.old) }
         ensures err { OnErr result (self.new ≡ self.old) }
     {

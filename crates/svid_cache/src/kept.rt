@@ -28,7 +28,7 @@ fn signed_for<'a>(svid: &'a Shared<Svid>, ask: &Ask) -> Option<&'a Shared<Svid>>
 }
 
 /// The SVID that is kept for an ask.
-#[tactic(auto, using(crate::proofs::Finding::kept_found))]
+#[tactic(auto, using(crate::proofs::KeyTests::kept_found))]
 pub(crate) fn find_kept<'a>(svids: &'a SortedBlocks<Svid>, ask: &Ask) -> Option<&'a Shared<Svid>>
     requires { Rises (map svid_key svids.now) }
     ensures { option_map (λ s. s.now) result ≡ kept_for svids.now ask.now }

@@ -28,7 +28,7 @@ impl Timetable {
     ) -> Result<KeptSvids, Memory>
         requires about { IsAbout self.now svids.now }
         requires rises { Rises (map ask_key asks) }
-        requires few { length asks < 2 ^ 32 }
+        requires at_most { length asks < 2 ^ 32 }
         ensures { IfOk result (λ c. c ≡ with_asks asks (cached_by self.now svids.now)) }
     {
         let all = svids.to_row(alloc)?;
@@ -128,7 +128,7 @@ impl Timetable {
     }
 
     /// What is to become of a new SVID.
-    #[tactic(auto, using(crate::proofs::Keeping::install_listed, crate::proofs::Keeping::install_within), unfolding(crate::specs::Caches::install))]
+    #[tactic(auto, using(crate::proofs::CacheFacts::install_listed, crate::proofs::CacheFacts::install_within), unfolding(crate::specs::Caches::install))]
     fn judge(&self, svids: &SortedBlocks<Svid>, svid: &Svid, now: u64) -> Installed
         requires { IsAbout self.now svids.now }
         ensures answer { result ≡ install now svid.now (cached_by self.now svids.now) }

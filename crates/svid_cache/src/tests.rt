@@ -26,7 +26,7 @@ fn ask(alloc: Global, id: &[u8]) -> Result<Ask, Fail> {
 /// The one ask as a list.
 fn alone(alloc: Global, ask: Ask) -> Result<Row<Ask>, Memory>
     ensures rises { IfOk result (λ r. Rises (map ask_key r)) }
-    ensures few { IfOk result (λ r. length r < 2 ^ 32) }
+    ensures at_most { IfOk result (λ r. length r < 2 ^ 32) }
 {
     let mut asks = Vec::new(alloc);
     asks.push(ask)?;

@@ -24,7 +24,7 @@ pub(crate) const BLOCK: usize = 64;
 /// owner's, who lends them to each call. Times are Unix seconds.
 #[derive(Drop)]
 pub struct Timetable {
-    /// None before the first are told.
+    /// None before the first are reported.
     pub(crate) asks: Option<Shared<Row<Ask>>>,
     /// A second for each block of asks, before which none of them is due.
     pub(crate) firsts: Vec<u64>,

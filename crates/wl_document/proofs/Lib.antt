@@ -3,5 +3,5 @@ mod Walks
 mod Orders
 mod Checks
 mod Withins
-mod Keeping
+mod KeptItems
 mod Plain

@@ -24,7 +24,7 @@ abbrev pub no_selector_fault : Place → List ℕ → Option SelectorFault → R
 no_selector_fault p text None = Ok text
 no_selector_fault p text (Some e) = Err (Selector p)
 
--- The fault of a member whose text has this fault. Want of memory has no place.
+-- The fault of a member whose text has this fault. Out of memory has no place.
 abbrev pub id_fault_at : Place → IdFault → DocFault
 id_fault_at p id.Memory = Memory
 id_fault_at p (id.TooLong n) = Id p (id.TooLong n)
@@ -43,7 +43,7 @@ selector_fault_at p selector.EmptyKind = Selector p
 selector_fault_at p selector.EmptyValue = Selector p
 selector_fault_at p selector.NotUtf8 = Selector p
 
--- This fault is the one that is due. Want of memory is free.
+-- This fault is the one that is due. Out of memory is free.
 abbrev pub Faults : {Y : Type 0} → DocFault → Result Y DocFault → Type 0
 Faults Memory due = Unit {0}
 Faults NotJson due = due ≡ Err NotJson

@@ -48,7 +48,7 @@ fn selectors_in(alloc: Global, place: Place, value: &Value) -> Result<Selectors,
 #[tactic(auto, unfolding(crate::specs::Entries::federated_list_of))]
 fn federated_list(index: u32, value: &Value) -> Result<&[Value], DocFault>
     ensures value { Gives (λ v. map view v.now) result (federated_list_of index (view value.now)) }
-    ensures few { IfOk result (λ v. length v.now ≤ MAX_FEDERATED) }
+    ensures at_most { IfOk result (λ v. length v.now ≤ MAX_FEDERATED) }
 {
     list_or_empty(
         MAX_FEDERATED,

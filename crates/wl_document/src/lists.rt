@@ -46,7 +46,7 @@ pub(crate) fn selectors(
 ) -> Result<Vec<Selector>, DocFault>
     requires { length values.now ≤ MAX_SELECTORS }
     ensures value { Gives (λ v. v.items) result (selector_list_of place (map view values.now)) }
-    ensures few { IfOk result (λ v. length v.items ≤ length values.now) }
+    ensures at_most { IfOk result (λ v. length v.items ≤ length values.now) }
 {
     let mut done = Vec::new(alloc);
     let mut index: u32 = 0;

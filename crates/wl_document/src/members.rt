@@ -35,7 +35,7 @@ pub(crate) fn number_of(place: Place, name: &str, value: &Value) -> Result<u64, 
 #[tactic(auto, unfolding(crate::specs::Members::list_at))]
 pub(crate) fn list_at(limit: usize, place: Place, value: &Value) -> Result<&[Value], DocFault>
     ensures value { Gives (λ v. map view v.now) result (list_at limit place (view value.now)) }
-    ensures few { IfOk result (λ v. length v.now ≤ limit) }
+    ensures at_most { IfOk result (λ v. length v.now ≤ limit) }
 {
     let items = array_at(DocFault::Kind(place), value)?;
     if items.len() > limit {
@@ -53,7 +53,7 @@ pub(crate) fn list_of<'a>(
     value: &'a Value,
 ) -> Result<&'a [Value], DocFault>
     ensures value { Gives (λ v. map view v.now) result (list_of limit place name.now (view value.now)) }
-    ensures few { IfOk result (λ v. length v.now ≤ limit) }
+    ensures at_most { IfOk result (λ v. length v.now ≤ limit) }
 {
     list_at(
         limit,
@@ -71,7 +71,7 @@ pub(crate) fn list_or_empty<'a>(
     value: &'a Value,
 ) -> Result<&'a [Value], DocFault>
     ensures value { Gives (λ v. map view v.now) result (list_or_empty limit place name.now (view value.now)) }
-    ensures few { IfOk result (λ v. length v.now ≤ limit) }
+    ensures at_most { IfOk result (λ v. length v.now ≤ limit) }
 {
     match value.get(name) {
         Some(member) => list_at(limit, place, member),

@@ -1,4 +1,4 @@
--- The state of a service, as a caller is told it (grpc.health.v1; that the Workload API serves a caller whose entries all
+-- The state of a service, as a caller sees it (grpc.health.v1; that the Workload API serves a caller whose entries all
 -- have their SVIDs is an own rule).
 use Rattle.std.specs.Prelude.{ℕ, Bool, not, ◌&&◌, if◌then◌else◌, List, [], codes}
 use Rattle.std.specs.Str.{bytes_eq}

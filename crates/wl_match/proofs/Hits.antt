@@ -15,9 +15,9 @@ use Rattle.wl_entry.specs.declared.entries.Entry.{Entry}
 use Rattle.wl_entry.specs.Entitled.{is_entitled}
 use Rattle.wl_match.specs.declared.postings.Posting.{Posting}
 use Rattle.wl_match.specs.Postings.{first_text, ids_under, ids_at, is_hit}
-use Rattle.wl_match.proofs.Rising.{at_is, passes}
-use Rattle.wl_match.proofs.Standing.{has_id}
-use Rattle.wl_match.proofs.Filing.{ids_one, ids_under-append}
+use Rattle.wl_match.proofs.AscendingNumbers.{at_is, passes}
+use Rattle.wl_match.proofs.PlacesById.{has_id}
+use Rattle.wl_match.proofs.SelectorFiles.{ids_one, ids_under-append}
 
 -- ---- tests
 

@@ -1,6 +1,6 @@
-pub mod Standing
-pub mod Filing
+pub mod PlacesById
+pub mod SelectorFiles
 pub mod Hits
-pub mod Rising
+pub mod AscendingNumbers
 pub mod ById
 pub mod Chosen

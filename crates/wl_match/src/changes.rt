@@ -95,7 +95,7 @@ pub fn changed_list(
     requires { Rises (map entry_key entries.now) }
     ensures value { IfOk result (λ v. v.items ≡ changed_entries changes.now entries.now) }
     ensures rises { IfOk result (λ v. Rises (map entry_key v.items)) }
-    ensures few { IfOk result (λ v. length v.items ≤ length entries.now + length changes.now) }
+    ensures at_most { IfOk result (λ v. length v.items ≤ length entries.now + length changes.now) }
 {
     let mut all = entries_by_id(alloc, entries)?;
     make_all(alloc, &mut all, changes)?;

@@ -46,7 +46,7 @@ fn index_with(
     old: &[Shared<Posting>],
 ) -> Result<Index, Memory>
     requires rises { Rises (map entry_key entries.items) }
-    requires few { length entries.items < 2 ^ 32 }
+    requires at_most { length entries.items < 2 ^ 32 }
     requires keys { Rises (map posting_key old.now) }
     ensures { IfOk result (λ index. index ≡ entries.items) }
 {
@@ -58,7 +58,7 @@ impl Index {
     /// The index of entries by ascending id.
     pub fn build(alloc: Global, entries: &[Shared<Entry>]) -> Result<Index, Memory>
         requires rises { Rises (map entry_key entries.now) }
-        requires few { length entries.now < 2 ^ 32 }
+        requires at_most { length entries.now < 2 ^ 32 }
         ensures { IfOk result (λ index. index ≡ entries.now) }
     {
         let index = index_with(alloc, share_all(alloc, entries)?.into_vec(), &[])?;
@@ -68,7 +68,7 @@ impl Index {
     /// The index of other entries, by ascending id. It shares the postings that did not change.
     pub fn synced(&self, alloc: Global, entries: &[Shared<Entry>]) -> Result<Index, Memory>
         requires rises { Rises (map entry_key entries.now) }
-        requires few { length entries.now < 2 ^ 32 }
+        requires at_most { length entries.now < 2 ^ 32 }
         ensures { IfOk result (λ index. index ≡ entries.now) }
     {
         let index = index_with(

@@ -9,8 +9,6 @@ mod changes;
 mod index;
 mod places;
 mod postings;
-#[cfg(test)]
-mod tests;
 
 pub use changes::Change;
 pub use index::Index;

@@ -26,7 +26,7 @@ fn gather_one(
     places: &mut BTreeSet<u32>,
 ) -> Result<(), Memory>
     requires rises { Rises (map entry_key entries.now) }
-    requires few { length entries.now < 2 ^ 32 }
+    requires at_most { length entries.now < 2 ^ 32 }
     ensures { OnOk result
         ((q : ℕ)
         → contains nat_cmp places.new q
@@ -49,7 +49,7 @@ fn gather(
     places: &mut BTreeSet<u32>,
 ) -> Result<(), Memory>
     requires rises { Rises (map entry_key entries.now) }
-    requires few { length entries.now < 2 ^ 32 }
+    requires at_most { length entries.now < 2 ^ 32 }
     ensures { OnOk result
         ((q : ℕ)
         → contains nat_cmp places.new q
@@ -70,7 +70,7 @@ fn gather_all(
     selectors: &Selectors,
 ) -> Result<BTreeSet<u32>, Memory>
     requires rises { Rises (map entry_key entries.now) }
-    requires few { length entries.now < 2 ^ 32 }
+    requires at_most { length entries.now < 2 ^ 32 }
     requires keys { Rises (map posting_key postings.now) }
     ensures { IfOk result
         (λ places. (q : ℕ)

@@ -1,5 +1,5 @@
 pub mod Choices
-pub mod Sights
+pub mod ViewModels
 pub mod Equalities
-mod Writing
-mod Marking
+mod ItemBytes
+mod Marks

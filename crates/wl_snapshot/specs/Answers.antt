@@ -17,7 +17,7 @@ use Rattle.wl_entry.specs.Keys.{bundle_key}
 use Rattle.wl_entry.specs.declared.entries.Entry.{Entry}
 use Rattle.wl_entry.specs.declared.signing.Svid.{Svid}
 use Rattle.wl_entry.specs.declared.bundles.Bundle.{Bundle}
-use Rattle.wl_snapshot.specs.Views.{Sight, is_whole}
+use Rattle.wl_snapshot.specs.Views.{ViewModel, is_whole}
 use Rattle.wl_snapshot.specs.declared.views.Held.{Held}
 use Rattle.wl_snapshot.specs.declared.answers.Answer.{Answer}
 use Rattle.wl_snapshot.specs.declared.answers.Answer.TheVariants.{Denied, Wait, TooLong, Message}
@@ -32,7 +32,7 @@ abbrev pub x509_part : Option Bundle → List ℕ
 x509_part None = []
 x509_part (Some b) = b.x509
 
-unfoldable pub x509_bundle : Sight → List ℕ → List ℕ
+unfoldable pub x509_bundle : ViewModel → List ℕ → List ℕ
 x509_bundle v domain = x509_part (item_at bundle_key v.bundles domain)
 
 -- one `X509SVID` per entry: the id, the chain, the key, the own domain's X.509 bundle and the entry's hint
@@ -58,17 +58,17 @@ x509_map_item b = map_item b.domain b.x509
 unfoldable pub jwks_map_item : Bundle → List MapItem
 jwks_map_item b = map_item b.domain b.jwks
 
-unfoldable pub x509_message : Sight → X509Response
+unfoldable pub x509_message : ViewModel → X509Response
 x509_message v = record { svids = flat_map (x509_items (x509_bundle v v.domain)) v.held; federated = flat_map (federated_item v.domain) v.bundles }
 
-unfoldable pub bundles_message : Sight → BundlesResponse
+unfoldable pub bundles_message : ViewModel → BundlesResponse
 bundles_message v = record { bundles = flat_map x509_map_item v.bundles }
 
-unfoldable pub jwt_bundles_message : Sight → JwtBundlesResponse
+unfoldable pub jwt_bundles_message : ViewModel → JwtBundlesResponse
 jwt_bundles_message v = record { bundles = flat_map jwks_map_item v.bundles }
 
 -- a method's message in its encoding
-unfoldable pub message_of : Method3 → Sight → List ℕ
+unfoldable pub message_of : Method3 → ViewModel → List ℕ
 message_of X509Svid v = spell_x509 (x509_message v)
 message_of X509Bundles v = spell_bundles (bundles_message v)
 message_of JwtBundles v = spell_jwt_bundles (jwt_bundles_message v)
@@ -76,7 +76,7 @@ message_of JwtBundles v = spell_jwt_bundles (jwt_bundles_message v)
 -- ---- the answer
 
 -- a FetchX509SVID call waits until every entry has its SVID
-abbrev pub waits : Method3 → Sight → Bool
+abbrev pub waits : Method3 → ViewModel → Bool
 waits X509Svid v = not (is_whole v)
 waits X509Bundles v = false
 waits JwtBundles v = false
@@ -86,7 +86,7 @@ abbrev pub within_limit : List ℕ → Answer
 within_limit m = if nat_lt MAX_RESPONSE_LEN (capped (length m)) then TooLong (capped (length m)) else Message m
 
 -- the first that applies: nothing is seen; it waits; its message is too long; its message
-unfoldable pub answer_of : Method3 → Sight → Answer
+unfoldable pub answer_of : Method3 → ViewModel → Answer
 answer_of method v = if length v.held == 0 then Denied else if waits method v then Wait else within_limit (message_of method v)
 
 -- a message is within its limit
@@ -121,5 +121,5 @@ abbrev pub wanted_of : Held → Wanted
 wanted_of h = record { ask = ask_of h.entry; hint = h.entry.hint }
 
 -- one ask for each entry, or for each of the id that is named, by ascending entry id, each with its entry's hint
-unfoldable pub asks_of : Option (List ℕ) → Sight → List Wanted
+unfoldable pub asks_of : Option (List ℕ) → ViewModel → List Wanted
 asks_of id v = map wanted_of (filter (is_meant id) v.held)

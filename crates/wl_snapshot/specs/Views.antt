@@ -16,7 +16,7 @@ use Rattle.wl_snapshot.specs.Snapshots.{Publication}
 use Rattle.wl_snapshot.specs.declared.views.Held.{Held}
 
 -- what a caller sees: the own domain, the entries to which it is entitled, each with its SVID, and bundles
-pub record Sight : Type 0 where
+pub record ViewModel : Type 0 where
   pub domain : List ℕ
   pub held : List Held
   pub bundles : List Bundle
@@ -34,12 +34,12 @@ unfoldable pub is_seen : List ℕ → List Entry → Bundle → Bool
 is_seen own entries b = bytes_eq b.domain own || is_federated entries b.domain
 
 -- the view of a publication that is made of these entries
-unfoldable pub sight_of : Publication → List Entry → Sight
-sight_of p entries = record { domain = p.domain; held = map (held_of p.svids) entries; bundles = filter (is_seen p.domain entries) p.bundles }
+unfoldable pub view_model_of : Publication → List Entry → ViewModel
+view_model_of p entries = record { domain = p.domain; held = map (held_of p.svids) entries; bundles = filter (is_seen p.domain entries) p.bundles }
 
 -- the view of a caller with these selectors
-unfoldable pub view_in : Publication → List (List ℕ) → Sight
-view_in p selectors = sight_of p (filter (is_entitled selectors) p.entries)
+unfoldable pub view_in : Publication → List (List ℕ) → ViewModel
+view_in p selectors = view_model_of p (filter (is_entitled selectors) p.entries)
 
 -- the entries at these places, counted from 0
 unfoldable pub entries_at : List Entry → List ℕ → List Entry
@@ -49,7 +49,7 @@ entries_at entries places = flat_map (λ place. option_to_list (slice_get entrie
 abbrev pub has_svid : Held → Bool
 has_svid h = is_some h.svid
 
-unfoldable pub is_whole : Sight → Bool
+unfoldable pub is_whole : ViewModel → Bool
 is_whole v = list_all has_svid v.held
 
 -- ---- the facts that every view has
@@ -65,7 +65,7 @@ pub record HeldWithin (h : Held) : Type 0 where
   pub entry : EntryWithin h.entry
   pub svid : IfSome h.svid (λ s. SignedWithin s.signed)
 
-pub record IsSight (v : Sight) : Type 0 where
+pub record IsViewModel (v : ViewModel) : Type 0 where
   pub held : Rises (map held_key v.held)
   pub bundles : Rises (map bundle_key v.bundles)
   pub asked : AllByRecursion IsAskedFor v.held

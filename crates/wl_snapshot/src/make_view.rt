@@ -8,7 +8,7 @@ ghost use Rattle.std.specs.Ordering.{nat_cmp};
 ghost use Rattle.list_laws.specs.Lists.{Rises};
 ghost use Rattle.wl_entry.specs.Entitled.{is_entitled};
 ghost use Rattle.wl_entry.specs.Keys.{entry_key, svid_key, bundle_key};
-ghost use Rattle.wl_snapshot.specs.Views.{view_in, sight_of, entries_at, held_of, is_federated, is_seen, ChosenFrom};
+ghost use Rattle.wl_snapshot.specs.Views.{view_in, view_model_of, entries_at, held_of, is_federated, is_seen, ChosenFrom};
 
 use crate::snapshot::Snapshot;
 use crate::views::{Held, View};
@@ -152,10 +152,10 @@ fn bundles_in(
 }
 
 /// The view that is made of these entries of the publication.
-#[tactic(auto, unfolding(crate::specs::Views::sight_of))]
+#[tactic(auto, unfolding(crate::specs::Views::view_model_of))]
 fn view_with(alloc: Global, snapshot: &Snapshot, entries: &[Shared<Entry>]) -> Result<View, Memory>
     requires { ChosenFrom snapshot.now entries.now }
-    ensures { IfOk result (λ v. v ≡ sight_of snapshot.now entries.now) }
+    ensures { IfOk result (λ v. v ≡ view_model_of snapshot.now entries.now) }
 {
     let domain = snapshot.domain.copy(alloc)?;
     let bundles = bundles_in(
@@ -223,7 +223,7 @@ fn pick_all(
 pub fn view_of(alloc: Global, snapshot: &Snapshot, places: &[u32]) -> Result<View, Memory>
     requires rising { IsStrictlySortedBy nat_cmp places.now }
     requires there { All (λ place. place < length snapshot.now.entries) places.now }
-    ensures { IfOk result (λ v. v ≡ sight_of snapshot.now (entries_at snapshot.now.entries places.now)) }
+    ensures { IfOk result (λ v. v ≡ view_model_of snapshot.now (entries_at snapshot.now.entries places.now)) }
 {
     let entries = pick_all(alloc, snapshot.entries.part().as_slice(), places)?;
     view_with(alloc, snapshot, entries.as_slice())

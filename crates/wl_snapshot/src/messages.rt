@@ -212,7 +212,7 @@ fn put_x509(alloc: Global, out: &mut Vec<u8>, view: &View) -> Result<(), Memory>
     put_federated(alloc, out, own, view.bundles.as_slice())
 }
 
-/// Writes a method's message behind what `out` holds.
+/// Writes a method's message after what `out` holds.
 #[tactic(auto, unfolding(crate::specs::Answers::message_of, crate::specs::Answers::bundles_message, crate::specs::Answers::jwt_bundles_message, workload_proto::specs::Spelling::spell_bundles, workload_proto::specs::Spelling::spell_jwt_bundles))]
 pub(crate) fn put_message(
     alloc: Global,

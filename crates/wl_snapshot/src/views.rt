@@ -28,13 +28,13 @@ pub struct View {
 }
 
 impl Model for View {
-    ghost use Rattle.wl_snapshot.specs.Views.{Sight, IsSight};
+    ghost use Rattle.wl_snapshot.specs.Views.{ViewModel, IsViewModel};
 
-    ghost Value = { Sight };
+    ghost Value = { ViewModel };
 
     ghost view = { λ v. record { domain = v.domain; held = v.held; bundles = v.bundles } };
 
-    ghost invariant = { λ v. IsSight (record { domain = v.domain; held = v.held; bundles = v.bundles }) };
+    ghost invariant = { λ v. IsViewModel (record { domain = v.domain; held = v.held; bundles = v.bundles }) };
 }
 
 impl View {

@@ -38,7 +38,7 @@ some_bytes tag said rest = omega arith
 
 -- ---- values
 
--- a value is read, and this stands behind it
+-- a value is read, and this stands after it
 pub record ValueAgain (bytes : List ℕ) (tag at end : ℕ) (said rest : List ℕ) : Type 0 where
   pub value : Span
   pub tag_is : slice_index bytes at ≡ tag
@@ -77,7 +77,7 @@ part_again : (bytes said rest : List ℕ) (tag at end : ℕ) (v : ValueAgain byt
 unfolding part_at
 part_again bytes said rest tag at end v = rw (lt-leb end at v.inside, eq-eqb (slice_index bytes at) tag v.tag_is) v.read
 
--- the place behind a part that may be left out
+-- the place after a part that may be left out
 record OptionAgain (bytes : List ℕ) (tag at end : ℕ) (rest : List ℕ) : Type 0 where
   next : ℕ
   read : option_at tag bytes at end ≡ Ok next
@@ -282,7 +282,7 @@ validity_again bytes at end before after not_before not_after bound from until t
 
 -- ---- the certificate
 
--- what is read up to a place, and this stands behind it
+-- what is read up to a place, and this stands after it
 record IssuingAgain (bytes : List ℕ) (at end : ℕ) (rest : List ℕ) : Type 0 where
   next : ℕ
   read : issuing_at bytes at end ≡ Ok next

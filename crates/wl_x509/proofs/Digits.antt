@@ -36,7 +36,7 @@ two_found text at next n place inside e =
           (omega arith, rw (first, second, place) (two_more text at inside))
     ]
 
--- `MMDDHHMMSSZ` stands behind a year
+-- `MMDDHHMMSSZ` stands after a year
 record IsClock (year : ℕ) (text : List ℕ) (seconds : ℕ) : Type 0 where
   month : ℕ
   day : ℕ

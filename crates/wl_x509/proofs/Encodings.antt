@@ -141,7 +141,7 @@ byte_of bytes said at end i is lt =
     let inside : i < end - at = omega arith in
     sym (get_or-drop at bytes i 0) ∙ sym (get_or-take (end - at) (drop at bytes) i 0 inside) ∙ ap (λ (l : List ℕ). slice_index l i) is
 
--- the bytes between two places, but for the first of them
+-- the bytes between two places, except the first of them
 pub behind_first : (bytes : List ℕ) (at end size : ℕ) → at + size ≤ end → between bytes (at + size) end ≡ drop size (between bytes at end)
 behind_first bytes at end size le =
     let left : end - at ≡ size + (end - (at + size)) = omega arith in
@@ -156,7 +156,7 @@ content_fits : (at end start size : ℕ) → start + size ≤ end → content_at
 unfolding content_at
 content_fits at end start size le = rw (le-ltb end (start + size) le) refl
 
--- a value with this front before its content, and a rest behind it
+-- a value with this front before its content, and a rest after it
 read_so : (bytes front said rest : List ℕ) (at end tag : ℕ) → encoding tag said ≡ front ++ said → between bytes at end ≡ front ++ said ++ rest
     → 0 < length front → value_at bytes at end ≡ content_at at end (at + length front) (length said) → IsRead bytes at end tag said
 read_so bytes front said rest at end tag whole parts some read =

@@ -1,6 +1,6 @@
 pub mod Encodings
 pub mod Digits
-pub mod Spelled
+pub mod CertificateEncoding
 pub mod Again
 pub mod Tallies
 pub mod Found

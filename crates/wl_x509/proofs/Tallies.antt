@@ -41,7 +41,7 @@ named true f v (Err e) = refl
 named false f v (Ok us) = refl
 named false f v (Err e) = refl
 
--- the names from a place on are the one there and those behind it
+-- the names from a place on are the one there and those after it
 pub names_step : (bytes : List ℕ) (at end k : ℕ) (f : Uris) (v : Span) → at < end → end ≤ at + k → at < v.next → value_at bytes at end ≡ Ok v → slice_index bytes at ≡ 134 →
     (j : ℕ) × (end ≤ v.next + j) × (tallied (met f v) (names_in j bytes v.next end) ≡ tallied f (names_in k bytes at end))
 names_step bytes at end zero f v lt le up is uri = absurd (omega arith)
@@ -75,7 +75,7 @@ joined f g (Err e) r h = cc
 joined f g (Ok us) (Err e) h = refl
 joined f g (Ok us) (Ok vs) h = let e : tally f us ≡ g = cc in ap Ok (tally-append f us vs ∙ ap (λ (t : Uris). tally t vs) e)
 
--- the extensions from a place on are the one there and those behind it
+-- the extensions from a place on are the one there and those after it
 pub extensions_step : (bytes : List ℕ) (at end k : ℕ) (f g : Uris) (v : Span) → at < end → end ≤ at + k → at < v.next → part_at 48 bytes at end ≡ Ok v → tallied f (extension_at bytes v.start v.next) ≡ Ok g →
     (j : ℕ) × (end ≤ v.next + j) × (tallied g (extensions_in j bytes v.next end) ≡ tallied f (extensions_in k bytes at end))
 extensions_step bytes at end zero f g v lt le up is one = absurd (omega arith)

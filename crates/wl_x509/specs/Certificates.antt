@@ -150,7 +150,7 @@ encoded_certificate c = encoding 0x30 (certificate_content c)
 
 -- ---- the leaf of a chain
 
--- The chain is a certificate and anything behind it. Its subject has one URI among its names (X509-SVID, section 2), and
+-- The chain is a certificate and anything after it. Its subject has one URI among its names (X509-SVID, section 2), and
 -- its times are these.
 pub record IsLeafOf (chain : List ℕ) (leaf : Leaf) : Type 0 where
   pub certificate : Certificate

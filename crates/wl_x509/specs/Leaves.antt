@@ -28,7 +28,7 @@ abbrev pub told_time : ℕ → ℕ → Option ℕ → Result (ℕ × ℕ) CertFa
 told_time at next (Some seconds) = Ok (seconds, next)
 told_time at next None = Err (Time at)
 
--- a time, a UTCTime (tag 17) or a GeneralizedTime (tag 18), and the place behind it
+-- a time, a UTCTime (tag 17) or a GeneralizedTime (tag 18), and the place after it
 unfoldable pub time_at : List ℕ → ℕ → ℕ → Result (ℕ × ℕ) CertFault
 time_at bytes at end =
     if nat_le end at then Err (Truncated end)
@@ -110,7 +110,7 @@ extensions_part bytes at end =
 
 -- ---- the certificate (4.1)
 
--- version, serial number, signature algorithm and issuer, and the place behind them
+-- version, serial number, signature algorithm and issuer, and the place after them
 unfoldable pub issuing_at : List ℕ → ℕ → ℕ → Result ℕ CertFault
 issuing_at bytes at end =
     option_at 0xa0 bytes at end >>= λ next.
@@ -119,7 +119,7 @@ issuing_at bytes at end =
     part_at 0x30 bytes algorithm.next end >>= λ issuer.
     Ok issuer.next
 
--- subject, public key and two identifiers that may be left out, and the place behind them
+-- subject, public key and two identifiers that may be left out, and the place after them
 unfoldable pub subject_at : List ℕ → ℕ → ℕ → Result ℕ CertFault
 subject_at bytes at end =
     part_at 0x30 bytes at end >>= λ subject.
@@ -143,7 +143,7 @@ frame_of bytes =
     part_at 0x30 bytes whole.start whole.next >>= λ body.
     body_at bytes body whole.next
 
--- behind the body: the signature algorithm, the signature and no more
+-- after the body: the signature algorithm, the signature and no more
 unfoldable pub signature_at : List ℕ → ℕ → ℕ → Result ℕ CertFault
 signature_at bytes at end =
     part_at 0x30 bytes at end >>= λ algorithm.

@@ -39,7 +39,7 @@ pub record IsMet (bytes : List ℕ) (at : ℕ) (found : Uris) : Type 0 where
 abbrev pub chosen : List ℕ → Uris → Result (List ℕ) CertFault
 chosen bytes found = if found.count == 0 then Err NoUri else if found.count == 1 then Ok (content bytes found.first) else Err (ManyUris found.count)
 
--- what is read of a certificate, but for its URI: the frame and the URIs that were met
+-- what is read of a certificate, except its URI: the frame and the URIs that were met
 unfoldable pub found_in : List ℕ → Result (Frame × Uris) CertFault
 found_in chain =
     frame_of chain >>= λ frame.

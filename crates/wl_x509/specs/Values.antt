@@ -14,7 +14,7 @@ content bytes v = take (v.next - v.start) (drop v.start bytes)
 unfoldable pub content_at : ℕ → ℕ → ℕ → ℕ → Result Span CertFault
 content_at at end start size = if nat_lt end (start + size) then Err (Truncated at) else Ok (record { start = start; next = start + size })
 
--- A length of one byte more behind the first one, and of two bytes more, in its shortest form: not below 128, and not
+-- A length of one byte more after the first one, and of two bytes more, in its shortest form: not below 128, and not
 -- below 256.
 unfoldable pub long_at : List ℕ → ℕ → ℕ → Result Span CertFault
 long_at bytes at end =
@@ -45,7 +45,7 @@ part_at tag bytes at end =
     else if slice_index bytes at == tag then value_at bytes at end
     else Err (Tag at)
 
--- A part that may be left out, of this tag: the place behind it.
+-- A part that may be left out, of this tag: the place after it.
 unfoldable pub option_at : ℕ → List ℕ → ℕ → ℕ → Result ℕ CertFault
 option_at tag bytes at end =
     if nat_le end at then Ok at

@@ -13,7 +13,7 @@ pub fn values_are_encodings()
 {}
 
 /// What is read of a chain is the leaf that it has: the chain is the DER encoding of a certificate, which names this one
-/// URI and has these times, and anything behind it. And each leaf that a chain has is read.
+/// URI and has these times, and anything after it. And each leaf that a chain has is read.
 pub fn leaves_are_certificates()
     ensures found { ReadsLeaves }
     ensures only { ReadsEachLeaf }

@@ -55,7 +55,7 @@ fn one_uri(alloc: Global, chain: &[u8], found: Uris) -> Result<Octets, CertFault
 
 /// The leaf of a chain: the URI and the times of its first certificate. What follows that certificate is not looked at.
 ///
-/// A fault is the one at the first byte where the reading goes wrong; that there is no URI, or more than one, is told
+/// A fault is the one at the first byte where the reading goes wrong; that there is no URI, or more than one, is reported
 /// where nothing else is wrong. `CertFault::Memory` says that memory ran out.
 pub fn read_leaf(alloc: Global, chain: &[u8]) -> Result<Leaf, CertFault>
     ensures ok { IfOk result (λ leaf. leaf_of chain.now ≡ Ok leaf) }

@@ -22,7 +22,7 @@ pub struct Frame {
     pub whole: usize,
 }
 
-/// A time, and the place behind it.
+/// A time, and the place after it.
 #[tactic(auto, unfolding(crate::specs::Leaves::time_at))]
 fn read_time(bytes: &[u8], at: usize, end: usize) -> Result<(u64, usize), CertFault>
     requires order { at ≤ end }
@@ -65,7 +65,7 @@ fn read_validity(bytes: &[u8], at: usize, end: usize) -> Result<(u64, u64), Cert
     Ok((before, after))
 }
 
-/// The place behind version, serial number, signature algorithm and issuer.
+/// The place after version, serial number, signature algorithm and issuer.
 #[tactic(auto, unfolding(crate::specs::Leaves::issuing_at))]
 fn read_issuing(bytes: &[u8], at: usize, end: usize) -> Result<usize, CertFault>
     requires order { at ≤ end }
@@ -80,7 +80,7 @@ fn read_issuing(bytes: &[u8], at: usize, end: usize) -> Result<usize, CertFault>
     Ok(issuer.next)
 }
 
-/// The place behind subject, public key and the two identifiers.
+/// The place after subject, public key and the two identifiers.
 #[tactic(auto, unfolding(crate::specs::Leaves::subject_at))]
 fn read_subject(bytes: &[u8], at: usize, end: usize) -> Result<usize, CertFault>
     requires order { at ≤ end }
@@ -126,7 +126,7 @@ pub fn read_frame(bytes: &[u8]) -> Result<Frame, CertFault>
     read_body(bytes, body, whole.next)
 }
 
-/// What stands behind the body.
+/// What stands after the body.
 #[tactic(auto, unfolding(crate::specs::Leaves::signature_at))]
 pub fn read_signature(bytes: &[u8], at: usize, end: usize) -> Result<usize, CertFault>
     requires order { at ≤ end }

@@ -5,7 +5,7 @@ ghost use Rattle.wl_x509.specs.Values.{content, content_at, long_at, longer_at, 
 
 use wl_entry::CertFault;
 
-/// A value that was read: where its content begins, and the place behind it.
+/// A value that was read: where its content begins, and the place after it.
 #[derive(Clone, Copy, Debug, PartialEq, Eq)]
 pub struct Span {
     pub start: usize,
@@ -113,7 +113,7 @@ pub fn read_part(tag: u8, bytes: &[u8], at: usize, end: usize) -> Result<Span, C
     read_value(bytes, at, end)
 }
 
-/// The place behind a part of this tag, which may be left out.
+/// The place after a part of this tag, which may be left out.
 #[tactic(auto, unfolding(crate::specs::Values::option_at))]
 pub fn skip_option(tag: u8, bytes: &[u8], at: usize, end: usize) -> Result<usize, CertFault>
     requires order { at ≤ end }

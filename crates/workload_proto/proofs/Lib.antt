@@ -1,3 +1,3 @@
-pub mod Asked
-pub mod Spelled
+pub mod RequestFields
+pub mod RequestBytes
 mod Prefixes

@@ -1,4 +1,4 @@
-use Rattle.h2_conn.proofs.Holding.{framed_held}
+use Rattle.h2_conn.proofs.OfferedMessages.{framed_held}
 use Rattle.h2_conn.proofs.laws.streams_hold_messages.Goals as goal
 
 pub returns-clause-frame : goal.returns-clause-frame

@@ -1,5 +1,5 @@
 use Rattle.std.proofs.lemmas.Result.{on_ok_weaker}
-use Rattle.hpack.proofs.Spelling.{more_bytes_last, put_last}
+use Rattle.hpack.proofs.WrittenBlocks.{more_bytes_last, put_last}
 use Rattle.hpack.proofs.encode.+put_more.Goals as goal
 
 pub returns-then-value-lt128 : goal.returns-then-value-lt128

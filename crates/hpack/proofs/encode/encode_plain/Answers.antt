@@ -1,7 +1,7 @@
 use Rattle.std.proofs.Common.{◌≡◌, ap, ◌∙◌, arith}
 use Rattle.std.proofs.lemmas.List.{take_all}
 use Rattle.hpack.specs.Writing.{block_bytes}
-use Rattle.hpack.proofs.Spelling.{block_spelled, block_again}
+use Rattle.hpack.proofs.WrittenBlocks.{block_spelled, block_again}
 use Rattle.hpack.proofs.Lengths.{block_small}
 use Rattle.hpack.proofs.encode.encode_plain.Goals as goal
 use Rattle.hpack.proofs.encode.encode_plain.Goals.{After-from_vec}

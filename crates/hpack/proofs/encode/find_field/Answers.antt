@@ -3,7 +3,7 @@ use Rattle.std.specs.Cmp.Derive.{both_true}
 use Rattle.hpack.specs.Tables.{static_table, no_field}
 use Rattle.hpack.specs.Writing.{same_field}
 use Rattle.hpack.proofs.StaticTable.{static_count}
-use Rattle.hpack.proofs.Spelling.{position_is, position_none}
+use Rattle.hpack.proofs.WrittenBlocks.{position_is, position_none}
 use Rattle.hpack.proofs.encode.find_field.Goals as goal
 
 pub returns-then-eq-2-clause-first : goal.returns-then-eq-2-clause-first

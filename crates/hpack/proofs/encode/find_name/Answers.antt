@@ -2,7 +2,7 @@ use Rattle.std.proofs.Common.{arith, sym}
 use Rattle.hpack.specs.Tables.{static_table, no_field}
 use Rattle.hpack.specs.Writing.{same_name}
 use Rattle.hpack.proofs.StaticTable.{static_count}
-use Rattle.hpack.proofs.Spelling.{position_is, position_none}
+use Rattle.hpack.proofs.WrittenBlocks.{position_is, position_none}
 use Rattle.hpack.proofs.encode.find_name.Goals as goal
 
 pub returns-then-eq-clause-first : goal.returns-then-eq-clause-first

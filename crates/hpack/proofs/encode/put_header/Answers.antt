@@ -1,5 +1,5 @@
 use Rattle.std.proofs.lemmas.Result.{on_ok_weaker}
-use Rattle.hpack.proofs.Spelling.{literal_written}
+use Rattle.hpack.proofs.WrittenBlocks.{literal_written}
 use Rattle.hpack.proofs.encode.put_header.Goals as goal
 
 pub returns-in_default : goal.returns-in_default

@@ -1,5 +1,5 @@
 use Rattle.std.proofs.Common.{◌∙◌, sym}
-use Rattle.jwt_cache.proofs.Keeping.{put_some, put_none}
+use Rattle.jwt_cache.proofs.KeptTokens.{put_some, put_none}
 use Rattle.jwt_cache.proofs.tokens.put.Goals as goal
 
 pub returns-in-Some-clause-ok : goal.returns-in-Some-clause-ok

@@ -3,7 +3,7 @@ use Rattle.std.proofs.Common.{◌≡◌, ◌<◌, ◌≤◌, [], length, arith, 
 use Rattle.std.proofs.lemmas.List.{get_or_default, take_all}
 use Rattle.sorted_blocks.specs.Blocks.{join}
 use Rattle.svid_cache.specs.Queue.{NoneEndsBefore, IsLatest, last_second}
-use Rattle.svid_cache.proofs.Ending.{ends_more}
+use Rattle.svid_cache.proofs.Expiries.{ends_more}
 use Rattle.svid_cache.proofs.Latest.{latest_block}
 use Rattle.svid_cache.proofs.kept.first_end_in.Goals as goal
 

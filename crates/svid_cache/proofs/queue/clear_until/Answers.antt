@@ -1,6 +1,6 @@
 use Rattle.std.proofs.Common.{◌<◌, length, arith}
 use Rattle.svid_cache.specs.Queue.{clear_second}
-use Rattle.svid_cache.proofs.Filing.{write_more}
+use Rattle.svid_cache.proofs.AskBlocks.{write_more}
 use Rattle.svid_cache.proofs.queue.clear_until.Goals as goal
 
 pub loop-first-preserved : goal.loop-first-preserved

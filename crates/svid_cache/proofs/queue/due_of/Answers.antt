@@ -3,7 +3,7 @@ use Rattle.std.specs.Prelude.{slice_index_or}
 use Rattle.std.specs.List.{AllByRecursion}
 use Rattle.svid_cache.specs.Caches.{is_due}
 use Rattle.svid_cache.specs.Queue.{Filed, NotBefore}
-use Rattle.svid_cache.proofs.Filing.{filed_next, no_rest, chosen_parts, chosen_end}
+use Rattle.svid_cache.proofs.AskBlocks.{filed_next, no_rest, chosen_parts, chosen_end}
 use Rattle.svid_cache.proofs.queue.due_of.Goals as goal
 
 pub push_block-requires-clause-fits : goal.push_block-requires-clause-fits

@@ -2,7 +2,7 @@ use Rattle.std.proofs.Common.{◌≡◌, ◌++◌, ◌∷◌, [], length, arith,
 use Rattle.std.proofs.lemmas.Bool.Decides.{nat_tests}
 use Rattle.std.specs.List.{AllByRecursion}
 use Rattle.svid_cache.specs.Queue.{NotBefore}
-use Rattle.svid_cache.proofs.Filing.{FiledUpTo, up_to_more, up_to_end, no_asks}
+use Rattle.svid_cache.proofs.AskBlocks.{FiledUpTo, up_to_more, up_to_end, no_asks}
 use Rattle.svid_cache.proofs.queue.file_all.Goals as goal
 
 pub loop-rest-preserved : goal.loop-rest-preserved

@@ -1,6 +1,6 @@
 use Rattle.std.proofs.Common.{length}
 use Rattle.svid_cache.specs.Queue.{NotBefore}
-use Rattle.svid_cache.proofs.Filing.{FiledUpTo}
+use Rattle.svid_cache.proofs.AskBlocks.{FiledUpTo}
 use Rattle.svid_cache.proofs.queue.file_all.Given as goal
 
 abbrev pub invariant-loop-rest : goal.invariant-loop-rest

@@ -1,5 +1,5 @@
 use Rattle.std.proofs.Common.{◌++◌, append-nil, sym, ◌∙◌, ap}
-use Rattle.svid_cache.proofs.Filing.{none_due}
+use Rattle.svid_cache.proofs.AskBlocks.{none_due}
 use Rattle.svid_cache.proofs.queue.push_block.Goals as goal
 
 pub returns-then-now-first : goal.returns-then-now-first

@@ -1,7 +1,7 @@
 use Rattle.wl_entry.specs.Keys.{ask_key}
 use Rattle.std.proofs.Common.{◌≡◌, ◌++◌, ◌∷◌, [], map, sym, ◌∙◌, ap, subst}
 use Rattle.list_laws.specs.Lists.{Rises}
-use Rattle.svid_cache.proofs.Keeping.{alone_rises}
+use Rattle.svid_cache.proofs.CacheFacts.{alone_rises}
 use Rattle.svid_cache.proofs.tests.alone.Goals as goal
 
 pub returns-clause-rises : goal.returns-clause-rises

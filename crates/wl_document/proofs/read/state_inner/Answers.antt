@@ -1,7 +1,7 @@
 use Rattle.std.proofs.Common.{arith}
 use Rattle.std.proofs.lemmas.List.{length-map}
 use Rattle.serde_json.specs.View.{view}
-use Rattle.wl_document.proofs.Keeping.{own_bundles_within, entries_within, svids_within}
+use Rattle.wl_document.proofs.KeptItems.{own_bundles_within, entries_within, svids_within}
 use Rattle.wl_document.proofs.read.state_inner.Goals as goal
 
 pub state_from-requires-clause-bundles : goal.state_from-requires-clause-bundles

@@ -4,7 +4,7 @@ use Rattle.pb_wire.specs.Message.{text_in, last_of}
 use Rattle.pb_wire.specs.Strings.{message_of}
 use Rattle.pb_wire.proofs.Strings.{said-more, said-wrong, said-fault, said-end}
 use Rattle.wl_health.specs.Messages.{is_service_field, asked_in, service_of}
-use Rattle.wl_health.proofs.Asked.{asked_in-more, asked_in-none}
+use Rattle.wl_health.proofs.RequestFields.{asked_in-more, asked_in-none}
 use Rattle.wl_health.proofs.decode.read_service.Goals as goal
 
 pub loop-at-init : goal.loop-at-init

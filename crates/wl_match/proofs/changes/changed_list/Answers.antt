@@ -15,8 +15,8 @@ returns-clause-rises c =
     let value : c.in_ok-list.list.items ≡ changed_entries c.args.changes.now c.args.entries.now = c.in_ok-list.ensures.value ∙ ap values_of made ∙ values_by_id (changed_entries c.args.changes.now c.args.entries.now) in
     rw (value, ← keys_by_id (changed_entries c.args.changes.now c.args.entries.now)) (rw made at c.in_ok-list.ensures.ordered)
 
-pub returns-clause-few : goal.returns-clause-few
-returns-clause-few c =
+pub returns-clause-at_most : goal.returns-clause-at_most
+returns-clause-at_most c =
     let made = c.in_ok-make_all.ensures c.args.entries.now c.in_ok-all.ensures in
     let value : c.in_ok-list.list.items ≡ changed_entries c.args.changes.now c.args.entries.now = c.in_ok-list.ensures.value ∙ ap values_of made ∙ values_by_id (changed_entries c.args.changes.now c.args.entries.now) in
     rw value (changed_few c.args.changes.now c.args.entries.now)

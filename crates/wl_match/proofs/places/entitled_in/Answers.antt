@@ -2,7 +2,7 @@ use Rattle.std.proofs.Common.{◌∙◌, ap}
 use Rattle.wl_entry.specs.Entitled.{is_entitled}
 use Rattle.wl_match.specs.Indexes.{entitled_places}
 use Rattle.wl_match.proofs.Hits.{all_due}
-use Rattle.wl_match.proofs.Rising.{among, places_are}
+use Rattle.wl_match.proofs.AscendingNumbers.{among, places_are}
 use Rattle.wl_match.proofs.places.entitled_in.Goals as goal
 
 pub returns : goal.returns

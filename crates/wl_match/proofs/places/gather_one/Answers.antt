@@ -4,7 +4,7 @@ use Rattle.std.specs.BTreeSet.{contains}
 use Rattle.std.specs.Ordering.{nat_cmp}
 use Rattle.wl_entry.specs.Entitled.{is_entitled}
 use Rattle.wl_match.proofs.Hits.{not_there, passed, put_hit}
-use Rattle.wl_match.proofs.Standing.{nowhere, only_there}
+use Rattle.wl_match.proofs.PlacesById.{nowhere, only_there}
 use Rattle.wl_match.proofs.places.gather_one.Goals as goal
 
 pub returns-in_default : goal.returns-in_default

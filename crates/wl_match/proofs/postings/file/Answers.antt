@@ -4,7 +4,7 @@ use Rattle.std.specs.BTreeMap.{is_at, get}
 use Rattle.std.specs.Ordering.{nat_cmp}
 use Rattle.std.specs.Cmp.Lexicographic.{slice_cmp}
 use Rattle.wl_match.specs.Postings.{first_text}
-use Rattle.wl_match.proofs.Filing.{file_step}
+use Rattle.wl_match.proofs.SelectorFiles.{file_step}
 use Rattle.wl_match.proofs.postings.file.Goals as goal
 
 pub returns : goal.returns

@@ -1,6 +1,6 @@
 use Rattle.std.proofs.Common.{◌∙◌, refl, sym}
 use Rattle.wl_match.specs.Postings.{ids_under}
-use Rattle.wl_match.proofs.Filing.{ids_more}
+use Rattle.wl_match.proofs.SelectorFiles.{ids_more}
 use Rattle.wl_match.proofs.postings.file_all.Goals as goal
 
 pub loop-entry-init : goal.loop-entry-init

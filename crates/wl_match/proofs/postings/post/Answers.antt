@@ -1,6 +1,6 @@
 use Rattle.std.proofs.Common.{◌∙◌, ap}
 use Rattle.wl_match.specs.Postings.{ids_at}
-use Rattle.wl_match.proofs.Filing.{rises_posted, ids_posted}
+use Rattle.wl_match.proofs.SelectorFiles.{rises_posted, ids_posted}
 use Rattle.wl_match.proofs.postings.post.Goals as goal
 
 pub returns-clause-keys : goal.returns-clause-keys

@@ -1,5 +1,5 @@
 use Rattle.std.proofs.Common.{◌∙◌, sym}
-use Rattle.wl_match.proofs.Filing.{same_posting}
+use Rattle.wl_match.proofs.SelectorFiles.{same_posting}
 use Rattle.wl_match.proofs.postings.share_posting.Goals as goal
 
 pub returns-then-eq : goal.returns-then-eq

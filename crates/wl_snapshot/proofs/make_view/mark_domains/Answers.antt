@@ -2,7 +2,7 @@ use Rattle.std.proofs.Common.{◌||◌, take, ◌∙◌}
 use Rattle.std.specs.Str.{bytes_eq}
 use Rattle.std.specs.List.{list_any}
 use Rattle.wl_entry.specs.declared.bundles.Bundle.{Bundle}
-use Rattle.wl_snapshot.proofs.Marking.{any_more_of}
+use Rattle.wl_snapshot.proofs.Marks.{any_more_of}
 use Rattle.wl_snapshot.proofs.make_view.mark_domains.Goals as goal
 
 pub loop-domain-preserved : goal.loop-domain-preserved

@@ -3,7 +3,7 @@ use Rattle.std.specs.Str.{bytes_eq}
 use Rattle.std.specs.List.{list_any}
 use Rattle.wl_entry.specs.declared.bundles.Bundle.{Bundle}
 use Rattle.wl_snapshot.specs.Views.{is_federated}
-use Rattle.wl_snapshot.proofs.Marking.{any_more}
+use Rattle.wl_snapshot.proofs.Marks.{any_more}
 use Rattle.wl_snapshot.proofs.make_view.mark_federated.Goals as goal
 
 pub loop-entry-preserved : goal.loop-entry-preserved

@@ -4,7 +4,7 @@ use Rattle.workload_proto.specs.declared.field_number.TheConstants.{JWT_BUNDLES_
 use Rattle.workload_proto.specs.Spelling.{map_field}
 use Rattle.wl_entry.specs.declared.bundles.Bundle.{Bundle}
 use Rattle.wl_snapshot.specs.Answers.{jwks_map_item}
-use Rattle.wl_snapshot.proofs.Writing.{part_among}
+use Rattle.wl_snapshot.proofs.ItemBytes.{part_among}
 use Rattle.wl_snapshot.proofs.messages.put_jwks_bundles.Goals as goal
 
 -- an item's bytes are among those of all

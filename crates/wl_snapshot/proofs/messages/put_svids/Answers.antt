@@ -3,7 +3,7 @@ use Rattle.std.specs.List.{flat_map}
 use Rattle.workload_proto.specs.Spelling.{x509_field}
 use Rattle.wl_snapshot.specs.declared.views.Held.{Held}
 use Rattle.wl_snapshot.specs.Answers.{x509_items}
-use Rattle.wl_snapshot.proofs.Writing.{part_among}
+use Rattle.wl_snapshot.proofs.ItemBytes.{part_among}
 use Rattle.wl_snapshot.proofs.messages.put_svids.Goals as goal
 
 -- an item's bytes are among those of all

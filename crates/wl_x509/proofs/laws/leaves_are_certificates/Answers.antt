@@ -1,4 +1,4 @@
-use Rattle.wl_x509.proofs.Spelled.{certificate_found}
+use Rattle.wl_x509.proofs.CertificateEncoding.{certificate_found}
 use Rattle.wl_x509.proofs.Again.{certificate_again}
 use Rattle.wl_x509.proofs.laws.leaves_are_certificates.Goals as goal
 

@@ -1,5 +1,5 @@
 use Rattle.std.proofs.Common.{arith, refl}
-use Rattle.workload_proto.proofs.Spelled.{empty_found, empty_again, empty_wire}
+use Rattle.workload_proto.proofs.RequestBytes.{empty_found, empty_again, empty_wire}
 use Rattle.workload_proto.proofs.decode.decode_empty.Goals as goal
 
 pub returns-clause-wire : goal.returns-clause-wire

@@ -6,7 +6,7 @@ use Rattle.pb_wire.proofs.Strings.{said-more, said-wrong, said-fault, said-end}
 use Rattle.workload_proto.specs.declared.message.JwtRequest.{JwtRequest}
 use Rattle.workload_proto.specs.Requests.{is_jwt_field, asked_in, jwt_request_of}
 use Rattle.workload_proto.specs.Steps.{asked_more}
-use Rattle.workload_proto.proofs.Asked.{asked_in-more, asked_in-none, step_fails}
+use Rattle.workload_proto.proofs.RequestFields.{asked_in-more, asked_in-none, step_fails}
 use Rattle.workload_proto.proofs.decode.decode_jwt_request_inner.Goals as goal
 
 pub loop-at-init : goal.loop-at-init

@@ -10,6 +10,6 @@ pub returns-then-len-head-2-clause-ok : goal.returns-then-len-head-2-clause-ok
 returns-then-len-head-2-clause-ok c =
     data_put c.put.result c.args.into.now c.put.new.into c.args.self.now c.self.inside.front.items c.self.inside.payload.items _ c.in-Some.head c.data_frame.result (rw c.as_slice.ensures.value at c.in-Some.ensures) (grind arith) (grind arith) (grind arith) (grind arith) c.put.ensures.ok
 
-pub returns-then-len-head-2-clause-front : goal.returns-then-len-head-2-clause-front
-returns-then-len-head-2-clause-front c =
+pub returns-then-len-head-2-clause-prefix : goal.returns-then-len-head-2-clause-prefix
+returns-then-len-head-2-clause-prefix c =
     data_gained c.put.result c.args.into.now c.put.new.into c.args.self.now c.self.inside.front.items c.self.inside.payload.items c.in-Some.head c.data_frame.result (rw c.as_slice.ensures.value at c.in-Some.ensures) (grind arith) (grind arith) (grind arith) c.put.ensures.ok c.put.ensures.same

@@ -1,4 +1,4 @@
-use Rattle.jwt_cache.proofs.Keeping.{kept_less, none_kept}
+use Rattle.jwt_cache.proofs.KeptTokens.{kept_less, none_kept}
 use Rattle.jwt_cache.proofs.tokens.Tokens.drop_ring.Goals as goal
 
 pub returns-clause-rings : goal.returns-clause-rings

@@ -1,6 +1,6 @@
 use Rattle.std.proofs.Common.{◌∙◌}
 use Rattle.wl_selector.specs.Selectors.{sorted_texts}
-use Rattle.jwt_cache.proofs.Keeping.{stands_found}
+use Rattle.jwt_cache.proofs.KeptTokens.{stands_found}
 use Rattle.jwt_cache.proofs.tokens.Tokens.find.Goals as goal
 
 pub returns-clause-history : goal.returns-clause-history

@@ -1,6 +1,6 @@
 use Rattle.std.proofs.Common.{None, Some, ◌∙◌, ap}
 use Rattle.wl_selector.specs.Selectors.{sorted_texts}
-use Rattle.jwt_cache.proofs.Keeping.{find_none, find_some}
+use Rattle.jwt_cache.proofs.KeptTokens.{find_none, find_some}
 use Rattle.jwt_cache.proofs.tokens.Tokens.find_kept.Goals as goal
 
 pub returns-in_default : goal.returns-in_default

@@ -1,4 +1,4 @@
-use Rattle.jwt_cache.proofs.Keeping.{stands_less}
+use Rattle.jwt_cache.proofs.KeptTokens.{stands_less}
 use Rattle.jwt_cache.proofs.tokens.Tokens.forget.Goals as goal
 
 pub returns-clause-history : goal.returns-clause-history

@@ -1,5 +1,5 @@
 use Rattle.jwt_cache.specs.History.{cached_token_of}
-use Rattle.jwt_cache.proofs.Keeping.{stands_more}
+use Rattle.jwt_cache.proofs.KeptTokens.{stands_more}
 use Rattle.jwt_cache.proofs.tokens.Tokens.keep.Goals as goal
 
 pub returns-clause-history : goal.returns-clause-history

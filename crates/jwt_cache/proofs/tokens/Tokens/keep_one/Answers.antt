@@ -1,5 +1,5 @@
 use Rattle.jwt_cache.specs.History.{cached_token_of}
-use Rattle.jwt_cache.proofs.Keeping.{kept_put}
+use Rattle.jwt_cache.proofs.KeptTokens.{kept_put}
 use Rattle.jwt_cache.proofs.tokens.Tokens.keep_one.Goals as goal
 
 pub returns-clause-ok : goal.returns-clause-ok

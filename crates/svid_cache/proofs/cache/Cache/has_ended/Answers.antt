@@ -1,6 +1,6 @@
 use Rattle.std.proofs.Common.{sym, ◌∙◌, ap}
 use Rattle.svid_cache.specs.Caches.{has_ended}
-use Rattle.svid_cache.proofs.Ending.{ended_is, all_kept}
+use Rattle.svid_cache.proofs.Expiries.{ended_is, all_kept}
 use Rattle.svid_cache.proofs.cache.Cache.has_ended.Goals as goal
 
 pub returns-then-may_have_ended-clause-ended : goal.returns-then-may_have_ended-clause-ended

@@ -2,7 +2,7 @@ use Rattle.std.proofs.Common.{◌≡◌, ◌≤◌, length, filter, arith, rules
 use Rattle.std.proofs.lemmas.Fn.{filter_same}
 use Rattle.svid_cache.specs.Caches.{lasts, without_ended}
 use Rattle.svid_cache.specs.Timetables.{IsAbout}
-use Rattle.svid_cache.proofs.Keeping.{few_svids}
+use Rattle.svid_cache.proofs.CacheFacts.{few_svids}
 use Rattle.svid_cache.proofs.cache.Cache.sweep.Goals as goal
 
 pub invariant_of-self : goal.invariant_of-self

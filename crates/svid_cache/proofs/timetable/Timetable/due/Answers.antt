@@ -3,7 +3,7 @@ use Rattle.svid_cache.specs.Caches.{is_due, due_asks}
 use Rattle.svid_cache.specs.Inside.{asks_in}
 use Rattle.svid_cache.specs.Queue.{Filed, NotBefore}
 use Rattle.svid_cache.specs.Timetables.{IsAbout, cached_by}
-use Rattle.svid_cache.proofs.Filing.{none_filed}
+use Rattle.svid_cache.proofs.AskBlocks.{none_filed}
 use Rattle.svid_cache.proofs.timetable.Timetable.due.Goals as goal
 
 pub returns-then-now-self : goal.returns-then-now-self

@@ -3,7 +3,7 @@ use Rattle.std.proofs.Common.{sym, ◌∙◌}
 use Rattle.sorted_blocks.specs.Blocks.{join}
 use Rattle.svid_cache.specs.Caches.{lasts}
 use Rattle.svid_cache.specs.Timetables.{cached_by}
-use Rattle.svid_cache.proofs.Ending.{any_join, ended_is, all_kept}
+use Rattle.svid_cache.proofs.Expiries.{any_join, ended_is, all_kept}
 use Rattle.svid_cache.proofs.timetable.Timetable.has_ended.Goals as goal
 
 pub returns-then-may_have_ended-clause-ended : goal.returns-then-may_have_ended-clause-ended

@@ -1,5 +1,5 @@
 use Rattle.std.proofs.Common.{sym, ◌∙◌}
-use Rattle.svid_cache.proofs.Keeping.{fits}
+use Rattle.svid_cache.proofs.CacheFacts.{fits}
 use Rattle.svid_cache.proofs.timetable.Timetable.judge.Goals as goal
 
 pub returns-in-None-clause-within : goal.returns-in-None-clause-within

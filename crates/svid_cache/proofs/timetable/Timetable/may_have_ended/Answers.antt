@@ -2,7 +2,7 @@ use Rattle.std.proofs.Common.{arith, sym, subst}
 use Rattle.std.proofs.lemmas.Bool.Decides.{nat_tests}
 use Rattle.svid_cache.specs.Queue.{NoneEndsBefore}
 use Rattle.svid_cache.specs.Timetables.{cached_by}
-use Rattle.svid_cache.proofs.Ending.{none_yet}
+use Rattle.svid_cache.proofs.Expiries.{none_yet}
 use Rattle.svid_cache.proofs.timetable.Timetable.may_have_ended.Goals as goal
 
 pub returns : goal.returns

@@ -1,7 +1,7 @@
 use Rattle.std.proofs.Common.{[], refl}
 use Rattle.svid_cache.specs.Queue.{NotBefore}
-use Rattle.svid_cache.proofs.Filing.{filed_none, no_seconds}
-use Rattle.svid_cache.proofs.Keeping.{empty_cached}
+use Rattle.svid_cache.proofs.AskBlocks.{filed_none, no_seconds}
+use Rattle.svid_cache.proofs.CacheFacts.{empty_cached}
 use Rattle.svid_cache.proofs.timetable.Timetable.start.Goals as goal
 
 pub returns-clause-about : goal.returns-clause-about

@@ -3,9 +3,9 @@ use Rattle.svid_cache.specs.Caches.{lasts}
 use Rattle.svid_cache.specs.Inside.{asks_in}
 use Rattle.svid_cache.specs.Queue.{Filed, NotBefore, NoneBelow, svid_end, clear_second}
 use Rattle.svid_cache.specs.Timetables.{IsAbout}
-use Rattle.svid_cache.proofs.Filing.{filed_swept, written}
+use Rattle.svid_cache.proofs.AskBlocks.{filed_swept, written}
 use Rattle.list_laws.proofs.Elements.{all_filter}
-use Rattle.svid_cache.proofs.Keeping.{swept_cached}
+use Rattle.svid_cache.proofs.CacheFacts.{swept_cached}
 use Rattle.svid_cache.proofs.timetable.Timetable.sweep.Goals as goal
 
 pub returns-clause-about : goal.returns-clause-about

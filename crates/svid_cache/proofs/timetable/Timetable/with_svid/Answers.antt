@@ -3,9 +3,9 @@ use Rattle.list_laws.specs.Lists.{Rises}
 use Rattle.wl_entry.specs.Keys.{svid_key}
 use Rattle.svid_cache.specs.Caches.{IsCached, with_svid}
 use Rattle.svid_cache.specs.Queue.{Filed, NotBefore, NoneBelow, NoneEndsBefore}
-use Rattle.svid_cache.proofs.Ending.{ends_put, put_is}
-use Rattle.svid_cache.proofs.Filing.{filed_put, others_at}
-use Rattle.svid_cache.proofs.Keeping.{put_cached}
+use Rattle.svid_cache.proofs.Expiries.{ends_put, put_is}
+use Rattle.svid_cache.proofs.AskBlocks.{filed_put, others_at}
+use Rattle.svid_cache.proofs.CacheFacts.{put_cached}
 use Rattle.svid_cache.proofs.timetable.Timetable.with_svid.Goals as goal
 
 pub refile-requires-clause-svids : goal.refile-requires-clause-svids

@@ -1,6 +1,0 @@
-use Rattle.std.specs.List.Sorted.{IsStrictlySortedBy}
-use Rattle.wl_match.proofs.tests.index_of.Goals as goal
-
-pub build-requires-clause-rises : goal.build-requires-clause-rises
-unfolding IsStrictlySortedBy
-build-requires-clause-rises c = (tt, tt)
