@@ -152,6 +152,6 @@ pub trait TokenAsks {
         ensures vouched { IfOk result (Self.V.token ask.now (sorted_texts audience.now)) }
         ensures waits { result ≡ Err NoAnswer.Waits → holds self.new connection };
 
-    /// No ask of this connection waits any more: what still comes for it is told to nobody.
+    /// No ask of this connection waits any more: what still comes for it is given to nobody.
     fn forget<R: Wait>(&self, rt: &R, connection: u64);
 }

@@ -1,3 +1,3 @@
-pub mod Reading
-pub mod Sending
-pub mod Telling
+pub mod Sources
+pub mod Sinks
+pub mod RecordedCalls

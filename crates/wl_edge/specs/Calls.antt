@@ -1,10 +1,10 @@
--- Calls of the outside that answer a value: the list of them that is told, and the count of those that failed (own rules).
+-- Calls of the outside that answer a value: the list of them that is recorded, and the count of those that failed (own rules).
 use Rattle.std.specs.Prelude.{◌≡◌, ◌≤◌, ℕ, List, [], ◌∷◌, ◌++◌, Option, Some, None, IfSome, Result, Ok, Err}
 use Rattle.wl_edge.specs.Edge.{Rose}
 use Rattle.wl_edge.specs.declared.fault.EdgeFault.{EdgeFault}
 use Rattle.wl_edge.specs.declared.fault.EdgeFault.TheVariants.{Failed, Memory}
 
--- The list that is told gains one call. A list that is not told gains nothing that a contract could name.
+-- The list that is recorded gains one call. A list that is not recorded gains nothing that a contract could name.
 abbrev pub Gains : {C : Type 0} → Option (List C) → Option (List C) → C → Type 0
 Gains {C} old new call = IfSome old (λ calls. new ≡ Some (calls ++ call ∷ []))
 

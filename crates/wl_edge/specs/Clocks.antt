@@ -1,7 +1,7 @@
 -- Clocks: the list of their answers (own rules).
 use Rattle.std.specs.Prelude.{◌≡◌, ℕ, ◌-◌, ◌^◌, nat_lt, if◌then◌else◌, List, [], ◌∷◌, ◌++◌, length, take, replicate, slice_index, Option, Some, None, IfSome, IsSomeAnd}
 
--- The list that is told grows by the answer. A clock may end its telling for good.
+-- The list that is recorded grows by the answer. A clock may end its telling for good.
 abbrev pub Ticks : Option (List ℕ) → Option (List ℕ) → ℕ → Type 0
 Ticks old new answer = IfSome new (λ after. IsSomeAnd old (λ before. after ≡ before ++ answer ∷ []))
 

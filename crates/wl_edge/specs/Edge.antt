@@ -10,7 +10,7 @@ use Rattle.wl_edge.specs.declared.sink.Sent.TheVariants.{Took, Failed as Refused
 abbrev pub Rose : ℕ → ℕ → Type 0
 Rose before now = (before < now) ⊎ (2 ^ 64 ≤ now + 1)
 
--- What a read does to the bytes that are left, where they are told: they lose from the front what it gave; the end
+-- What a read does to the bytes that are left, where they are recorded: they lose from the front what it gave; the end
 -- comes only where none are left; a failure raises the count and takes nothing.
 abbrev pub ReadGives : Option (List ℕ) → Option (List ℕ) → ℕ → ℕ → ℕ → List ℕ → Taken → Type 0
 ReadGives old new before now room bytes (Got n) = (0 < n) × (n ≤ room) × IfSome old (λ left. (new ≡ Some (drop n left)) × (take n bytes ≡ take n left) × (n ≤ length left))
@@ -22,7 +22,7 @@ pub record Reads (old new : Option (List ℕ)) (before now room : ℕ) (bytes : 
   pub gives : ReadGives old new before now room bytes answer
   pub later : before ≤ now
 
--- What a write does to the bytes that were taken, where they are told: they gain what it took.
+-- What a write does to the bytes that were taken, where they are recorded: they gain what it took.
 abbrev pub WriteGives : Option (List ℕ) → Option (List ℕ) → ℕ → ℕ → List ℕ → Sent → Type 0
 WriteGives old new before now bytes (Took n) = (0 < n) × (n ≤ length bytes) × IfSome old (λ taken. new ≡ Some (taken ++ take n bytes))
 WriteGives old new before now bytes Refused = Rose before now × (new ≡ old)
@@ -32,7 +32,7 @@ pub record Writes (old new : Option (List ℕ)) (before now : ℕ) (bytes : List
   pub gives : WriteGives old new before now bytes answer
   pub later : before ≤ now
 
--- one read put a piece behind what was read before; the piece left the source
+-- one read put a piece after what was read before; the piece left the source
 pub record ReadsOn (old new : Option (List ℕ)) (before after : List ℕ) (room : ℕ) : Type 0 where
   pub count : ℕ
   pub some : 0 < count
@@ -45,7 +45,7 @@ abbrev pub StepGives : Option (List ℕ) → Option (List ℕ) → List ℕ → 
 StepGives old new before after room true = ReadsOn old new before after room
 StepGives old new before after room false = (after ≡ before) × IfSome old (λ left. (left ≡ []) × (new ≡ Some []))
 
--- what reading up to a limit gives, where the content is told: its first bytes, as many as the limit
+-- what reading up to a limit gives, where the content is recorded: its first bytes, as many as the limit
 abbrev pub Drained : Option (List ℕ) → ℕ → List ℕ → Type 0
 Drained old limit bytes = IfSome old (λ left. bytes ≡ take limit left)
 

@@ -30,7 +30,7 @@ with_heard log answer = record log { gave = log.gave ++ answer ∷ [] }
 abbrev pub with_taken : LinkLog → List ℕ → LinkLog
 with_taken log bytes = record log { took = log.took ++ bytes }
 
--- Each answer of a receive is told. A failure that comes where the count of them stands at its end need not be.
+-- Each answer of a receive is recorded. A failure that comes where the count of them stands at its end need not be.
 abbrev pub ReceiveTells : Option LinkLog → Option LinkLog → ℕ → List ℕ → Received → Type 0
 ReceiveTells old new before into Failed = IfSome old (λ log. (new ≡ Some (with_heard log heard.Failed)) ⊎ ((2 ^ 64 ≤ before + 1) × (new ≡ Some log)))
 ReceiveTells old new before into (Got n) = IfSome old (λ log. new ≡ Some (with_heard log (heard_of (Got n) into)))

@@ -1,18 +1,29 @@
 -- Listeners: the kinds of their answers, and the links that were finished (own rules).
-use Rattle.std.specs.Prelude.{◌≡◌, ◌⊎◌, ⊤, ℕ, ◌+◌, ◌<◌, ◌≤◌, ◌^◌, Bool, true, false, List, [], ◌∷◌, ◌++◌, length, count_by, replicate, Option, Some, IfSome}
+use Rattle.std.specs.Prelude.{◌≡◌, ◌⊎◌, ⊤, ℕ, ◌+◌, ◌<◌, ◌≤◌, ◌^◌, Bool, true, false, List, [], ◌∷◌, ◌++◌, length, count_by, replicate, Contains, Option, Some, IfSome}
 use Rattle.wl_edge.specs.Edge.{Rose}
 use Rattle.wl_edge.specs.Links.{LinkLog}
+use Rattle.wl_edge.specs.declared.origin.Origin.{Origin}
 use Rattle.wl_edge.specs.declared.listener.AcceptKind.{AcceptKind}
 use Rattle.wl_edge.specs.declared.listener.AcceptKind.TheVariants as kind
 use Rattle.wl_edge.specs.declared.listener.Accepted.{Accepted}
 use Rattle.wl_edge.specs.declared.listener.Accepted.TheVariants.{Link, Idle, End, Failed}
 
--- A finished link: its log, where it tells one, and its counts.
+-- A finished link: where it came from, its log, where it tells one, and its counts.
 pub record FinishedLink : Type 0 where
+  pub origin : Origin
   pub log : Option LinkLog
   pub failed_receives : ℕ
   pub failed_sends : ℕ
   pub stalls : ℕ
+
+-- A socket on which a listener listens: its selectors, which are fixed when it is bound, and its number.
+pub record BoundSocket : Type 0 where
+  pub selectors : List (List ℕ)
+  pub number : ℕ
+
+-- The origin is one of these sockets, if they are known.
+abbrev pub CameOver : Option (List BoundSocket) → Origin → Type 0
+CameOver sockets origin = IfSome sockets (λ known. Contains known (record { selectors = origin.selectors; number = origin.socket }))
 
 -- The kinds of a listener's answers, and the links that were finished, in their order.
 pub record ListenerLog : Type 0 where
@@ -46,7 +57,7 @@ IfLink {L} Failed P = ⊤
 abbrev pub with_kind : ListenerLog → AcceptKind → ListenerLog
 with_kind log answer = record log { kinds = log.kinds ++ answer ∷ [] }
 
--- Each answer is told. A failure that comes where the count of them stands at its end need not be.
+-- Each answer is recorded. A failure that comes where the count of them stands at its end need not be.
 abbrev pub AcceptTells : {L : Type 0} → Option ListenerLog → Option ListenerLog → ℕ → Accepted L → Type 0
 AcceptTells {L} old new before Failed = IfSome old (λ log. (new ≡ Some (with_kind log kind.Failed)) ⊎ ((2 ^ 64 ≤ before + 1) × (new ≡ Some log)))
 AcceptTells {L} old new before (Link link) = IfSome old (λ log. new ≡ Some (with_kind log kind.Link))

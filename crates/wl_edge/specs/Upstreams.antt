@@ -1,4 +1,4 @@
--- Where documents come from: the calls that are told, and their number (own rules).
+-- Where documents come from: the calls that are recorded, and their number (own rules).
 use Rattle.std.specs.Prelude.{◌≡◌, ℕ, ◌+◌, ◌-◌, ◌≤◌, ◌^◌, List, [], ◌∷◌, ◌++◌, length, min, take, Option, Some, None, IfSome, IsSomeAnd, Result, Ok, Err}
 use Rattle.wl_edge.specs.Edge.{Rose}
 use Rattle.wl_edge.specs.Scripts.{due_answer, made_once_more}
@@ -22,8 +22,8 @@ one_more number = min (number + 1) (2 ^ 64 - 1)
 abbrev pub with_pull : UpstreamLog → PullCall → UpstreamLog
 with_pull log call = record { calls = log.calls ++ call ∷ []; number = one_more log.number }
 
--- A pull appends a document, which is told; one that fails appends nothing, is told too, and the count rises. One that
--- found no memory appends nothing and is told by the number alone.
+-- A pull appends a document, which is recorded; one that fails appends nothing, is recorded too, and the count rises. One that
+-- found no memory appends nothing and shows in the number alone.
 abbrev pub PullGives : Option UpstreamLog → Option UpstreamLog → ℕ → ℕ → List ℕ → List ℕ → Result (Unit {0}) EdgeFault → Type 0
 PullGives old new before now into after (Ok done) = (part : List ℕ) × (after ≡ into ++ part) × (length part ≤ MAX_PULLED) × IfSome old (λ log. new ≡ Some (with_pull log (record { into = into; answer = Some part })))
 PullGives old new before now into after (Err Failed) = (after ≡ into) × Rose before now × IfSome old (λ log. new ≡ Some (with_pull log (record { into = into; answer = None })))

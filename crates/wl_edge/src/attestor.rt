@@ -5,13 +5,14 @@ ghost use Rattle.wl_edge.specs.Calls.{Answers};
 ghost use Rattle.wl_edge.specs.declared.attestor.AttestorCall.{AttestorCall};
 
 use crate::fault::EdgeFault;
+use crate::origin::Origin;
 use wl_selector::Selectors;
 
 /// One call of an attestor with its answer, which is none where the call failed.
 #[derive(Drop, PartialEq)]
 pub struct AttestorCall {
-    /// The number of the socket over which the caller came, from 0.
-    pub socket: u32,
+    /// Where the caller came from.
+    pub origin: Origin,
     pub answer: Option<Selectors>,
 }
 
@@ -23,8 +24,8 @@ pub trait Attestor {
     /// How often a call has failed. It never falls; at 2^64-1 it stays.
     ghost faults: { Self → ℕ };
 
-    /// The selectors of a caller who came over the socket of this number, from 0.
-    fn attest(&mut self, socket: u32) -> Result<Selectors, EdgeFault>
+    /// The selectors of a caller who came from there.
+    fn attest(&mut self, origin: &Origin) -> Result<Selectors, EdgeFault>
         ensures { Answers (calls self.old) (calls self.new) (faults self.old) (faults self.new)
-            (λ answer. record { socket = socket; answer = answer }) result };
+            (λ answer. record { origin = origin.now; answer = answer }) result };
 }

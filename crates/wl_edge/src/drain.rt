@@ -31,7 +31,7 @@ fn buffer(alloc: Global) -> Result<Vec<u8>, ReadFault>
     }
 }
 
-/// Reads once and puts what came behind what was read before. False at the end of the source.
+/// Reads once and puts what came after what was read before. False at the end of the source.
 fn read_on<I: Source>(input: &mut I, room: &mut [u8], done: &mut Vec<u8>) -> Result<bool, ReadFault>
     requires { 0 < length room.old }
     ensures step { IfOk result (λ more. StepGives (I.left input.old) (I.left input.new)
@@ -52,7 +52,7 @@ fn read_on<I: Source>(input: &mut I, room: &mut [u8], done: &mut Vec<u8>) -> Res
 /// Reads the source to its end, or so many bytes of it.
 pub fn read_all<I: Source>(alloc: Global, input: &mut I, limit: usize) -> Result<Vec<u8>, ReadFault>
     requires { limit < 2 ^ 60 }
-    ensures few { IfOk result (λ v. length v.items ≤ limit) }
+    ensures at_most { IfOk result (λ v. length v.items ≤ limit) }
     ensures bytes { IfOk result (λ v. Drained (I.left input.old) limit v.items) }
     ensures left { IfOk result (λ v. Leaves (I.left input.old) (I.left input.new) v.items) }
     ensures failed { IsErrOf result ReadFault.Failed → Rose (I.faults input.old) (I.faults input.new) }

@@ -2,7 +2,9 @@
 
 ghost use Rattle.std.specs.Prelude.{◌≡◌, ◌<◌, ℕ, Option, length};
 ghost use Rattle.wl_edge.specs.Links.{LinkLog, Receives, SendsSome, TriesToSend};
+ghost use Rattle.wl_edge.specs.declared.origin.Origin.{Origin};
 
+use crate::origin::Origin;
 use crate::sink::Sent;
 use wl_octets::Octets;
 
@@ -19,7 +21,7 @@ pub enum Received {
     Failed,
 }
 
-/// An answer of a receive as it is told, with the bytes that came.
+/// An answer of a receive as it is recorded, with the bytes that came.
 #[derive(Drop, PartialEq)]
 pub enum Heard {
     /// These bytes came.
@@ -45,6 +47,9 @@ pub enum TrySent {
 
 /// A stream of bytes both ways.
 pub trait Link {
+    /// Where it came from: the same for its life.
+    ghost origin: { Self → Origin };
+
     /// What it gave and took, where it tells that.
     ghost told: { Self → Option LinkLog };
 
@@ -57,13 +62,18 @@ pub trait Link {
     /// How often a sending was put off. It never falls; at 2^64-1 it stays.
     ghost stalls: { Self → ℕ };
 
+    /// Where it came from.
+    fn origin(&self) -> &Origin
+        ensures { result.now ≡ origin self.now };
+
     /// Receives some bytes into what is lent, which is not empty.
     fn receive(&mut self, into: &mut [u8]) -> Received
         requires { 0 < length into.old }
         ensures gives { Receives (told self.old) (told self.new) (failed_receives self.old)
             (failed_receives self.new) (length into.old) into.new result }
         ensures sends { failed_sends self.new ≡ failed_sends self.old }
-        ensures stalls { stalls self.new ≡ stalls self.old };
+        ensures stalls { stalls self.new ≡ stalls self.old }
+        ensures origin { origin self.new ≡ origin self.old };
 
     /// Sends some of the bytes, of which there is at least one. It may wait until the peer takes some.
     fn send(&mut self, bytes: &[u8]) -> Sent
@@ -71,12 +81,14 @@ pub trait Link {
         ensures takes { SendsSome (told self.old) (told self.new) (failed_sends self.old) (failed_sends self.new)
             bytes.now result }
         ensures receives { failed_receives self.new ≡ failed_receives self.old }
-        ensures stalls { stalls self.new ≡ stalls self.old };
+        ensures stalls { stalls self.new ≡ stalls self.old }
+        ensures origin { origin self.new ≡ origin self.old };
 
     /// Sends some of the bytes, of which there is at least one, and does not wait.
     fn try_send(&mut self, bytes: &[u8]) -> TrySent
         requires { 0 < length bytes.now }
         ensures takes { TriesToSend (told self.old) (told self.new) (failed_sends self.old) (failed_sends self.new)
             (stalls self.old) (stalls self.new) bytes.now result }
-        ensures receives { failed_receives self.new ≡ failed_receives self.old };
+        ensures receives { failed_receives self.new ≡ failed_receives self.old }
+        ensures origin { origin self.new ≡ origin self.old };
 }

@@ -1,8 +1,8 @@
 //! Where links come from.
 
-ghost use Rattle.std.specs.Prelude.{◌≡◌, ℕ, Option};
+ghost use Rattle.std.specs.Prelude.{◌≡◌, ℕ, List, Option};
 ghost use Rattle.wl_edge.specs.Links.{IsFresh};
-ghost use Rattle.wl_edge.specs.Listeners.{ListenerLog, Accepts, IfLink, HasOpenLink, Finishes};
+ghost use Rattle.wl_edge.specs.Listeners.{ListenerLog, BoundSocket, CameOver, Accepts, IfLink, HasOpenLink, Finishes};
 
 use crate::link::Link;
 
@@ -32,6 +32,9 @@ pub enum AcceptKind {
 pub trait Listener {
     type L: Link + Send;
 
+    /// The sockets on which it listens, if they are known.
+    ghost sockets: { Self → Option (List BoundSocket) };
+
     /// The kinds of its answers and the finished links, where it tells them.
     ghost told: { Self → Option ListenerLog };
 
@@ -42,16 +45,20 @@ pub trait Listener {
     fn accept(&mut self) -> Accepted<Self::L>
         ensures gives { Accepts (told self.old) (told self.new) (faults self.old) (faults self.new) result }
         ensures fresh { IfLink result (λ link. IsFresh (Self.L.told link) (Self.L.failed_receives link)
-            (Self.L.failed_sends link) (Self.L.stalls link)) };
+            (Self.L.failed_sends link) (Self.L.stalls link)) }
+        ensures origin { IfLink result (λ link. CameOver (sockets self.old) (Self.L.origin link)) }
+        ensures sockets { sockets self.new ≡ sockets self.old };
 
     /// Takes back a link that it gave and that is not served any more.
     fn finish(&mut self, link: Self::L)
         requires { HasOpenLink (told self.old) }
         ensures finished { Finishes (told self.old) (told self.new) (record {
+          origin = Self.L.origin link;
           log = Self.L.told link;
           failed_receives = Self.L.failed_receives link;
           failed_sends = Self.L.failed_sends link;
           stalls = Self.L.stalls link;
         }) }
-        ensures count { faults self.new ≡ faults self.old };
+        ensures count { faults self.new ≡ faults self.old }
+        ensures sockets { sockets self.new ≡ sockets self.old };
 }

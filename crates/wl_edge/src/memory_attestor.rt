@@ -6,13 +6,14 @@ ghost use Rattle.wl_edge.specs.Scripts.{Follows, due_answer};
 
 use crate::attestor::{Attestor, AttestorCall};
 use crate::fault::EdgeFault;
+use crate::origin::Origin;
 use crate::recording::counted;
 use crate::script::Script;
 use std::alloc::Global;
 use wl_octets::{Memory, Row};
 use wl_selector::Selectors;
 
-/// An attestor that answers what its script says, whatever socket it is asked for, and tells its calls.
+/// An attestor that answers what its script says, whatever origin it is asked for, and tells its calls.
 #[derive(Drop)]
 pub struct MemoryAttestor {
     alloc: Global,
@@ -32,12 +33,19 @@ fn selectors(alloc: Global, script: &Script<Selectors>) -> Result<Option<Selecto
     }
 }
 
-/// The call, as it is told.
-fn told_call(alloc: Global, socket: u32, script: &Script<Selectors>) -> Result<AttestorCall, Memory>
-    ensures { IfOk result (λ call. call ≡ record { socket = socket; answer = due_answer script.now }) }
+/// The call, as it is recorded.
+fn told_call(
+    alloc: Global,
+    origin: &Origin,
+    script: &Script<Selectors>,
+) -> Result<AttestorCall, Memory>
+    ensures { IfOk result (λ call. call ≡ record { origin = origin.now; answer = due_answer script.now }) }
 {
     let answer = selectors(alloc, script)?;
-    Ok(AttestorCall { socket, answer })
+    Ok(AttestorCall {
+        origin: origin.share()?,
+        answer,
+    })
 }
 
 impl MemoryAttestor {
@@ -68,14 +76,14 @@ impl Attestor for MemoryAttestor {
 
     ghost faults = { λ a. a.faults };
 
-    fn attest(&mut self, socket: u32) -> Result<Selectors, EdgeFault>
+    fn attest(&mut self, origin: &Origin) -> Result<Selectors, EdgeFault>
         ensures told { Answers (⟦<MemoryAttestor as Attestor>⟧.calls self.old) (⟦<MemoryAttestor as Attestor>⟧.calls self.new)
             (⟦<MemoryAttestor as Attestor>⟧.faults self.old) (⟦<MemoryAttestor as Attestor>⟧.faults self.new)
-            (λ answer. record { socket = socket; answer = answer }) result }
+            (λ answer. record { origin = origin.now; answer = answer }) result }
         ensures answer { Follows self.old.answers self.new.answers result }
     {
         let answer = selectors(self.alloc, &self.answers)?;
-        let call = told_call(self.alloc, socket, &self.answers)?;
+        let call = told_call(self.alloc, origin, &self.answers)?;
         self.calls.push(call)?;
         self.answers.pass();
         counted(answer, &mut self.faults)

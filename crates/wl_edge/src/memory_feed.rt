@@ -61,7 +61,7 @@ impl Feed {
         }
     }
 
-    /// Goes on behind this answer, which was due. At the end it stays.
+    /// Goes on after this answer, which was due. At the end it stays.
     pub(crate) fn pass(&mut self, answer: Received) {
         let fails = self.fails();
         self.made = self.made.saturating_add(1);

@@ -6,6 +6,7 @@ ghost use Rattle.wl_edge.specs.Links.{IsFresh, gave_in_memory};
 
 use crate::link::{Heard, Link, Received, TrySent};
 use crate::memory_feed::{Feed, tell};
+use crate::origin::Origin;
 use crate::sink::Sent;
 use std::alloc::Global;
 use wl_octets::{Memory, Octets, Row};
@@ -14,6 +15,8 @@ use wl_octets::{Memory, Octets, Row};
 /// counted together.
 #[derive(Drop)]
 pub struct LinkPlan {
+    /// Where it comes from.
+    pub origin: Origin,
     /// Its answers to receives, in their order; then comes the end. A piece that is longer than what is lent comes in
     /// parts, and an empty one is idle.
     pub gives: Row<Heard>,
@@ -30,13 +33,21 @@ pub struct LinkPlan {
 }
 
 impl LinkPlan {
-    /// A link that gives this, with room for so many answers and bytes, and never fails or stalls within that.
-    pub fn smooth(alloc: Global, gives: Row<Heard>, answers: usize, room: usize) -> LinkPlan
+    /// A link from there that gives this, with room for so many answers and bytes, and never fails or stalls within that.
+    pub fn smooth(
+        alloc: Global,
+        origin: Origin,
+        gives: Row<Heard>,
+        answers: usize,
+        room: usize,
+    ) -> LinkPlan
+        ensures origin { result.origin ≡ origin }
         ensures gives { result.gives ≡ gives }
         ensures rooms { (result.answers ≡ answers) × (result.room ≡ room) }
         ensures never_fails { (result.failing_receives ≡ []) × (result.failing_sends ≡ []) × (result.stalling ≡ []) }
     {
         LinkPlan {
+            origin,
             gives,
             failing_receives: Row::empty(alloc),
             failing_sends: Row::empty(alloc),
@@ -52,6 +63,7 @@ impl LinkPlan {
 #[derive(Drop)]
 pub struct MemoryLink {
     alloc: Global,
+    pub(crate) origin: Origin,
     feed: Feed,
     failing_sends: Row<u64>,
     stalling: Row<u64>,
@@ -79,11 +91,14 @@ pub(crate) struct FreshLink {
 
 impl FreshLink {
     /// A link that follows this plan.
-    pub(crate) fn start(alloc: Global, plan: LinkPlan) -> Result<FreshLink, Memory> {
+    pub(crate) fn start(alloc: Global, plan: LinkPlan) -> Result<FreshLink, Memory>
+        ensures origin { IfOk result (λ f. ⟦<MemoryLink as Link>⟧.origin f.link ≡ plan.origin) }
+    {
         let gave = Row::from_vec(Vec::with_capacity(alloc, plan.answers)?);
         let took = Octets::from_vec(Vec::with_capacity(alloc, plan.room)?);
         let link = MemoryLink {
             alloc,
+            origin: plan.origin,
             feed: Feed::start(plan.gives, plan.failing_receives),
             failing_sends: plan.failing_sends,
             stalling: plan.stalling,
@@ -103,7 +118,8 @@ impl FreshLink {
 
     /// The link, to be used.
     pub(crate) fn into_link(self) -> MemoryLink
-        ensures { IsFresh (⟦<MemoryLink as Link>⟧.told result) (⟦<MemoryLink as Link>⟧.failed_receives result)
+        ensures origin { ⟦<MemoryLink as Link>⟧.origin result ≡ ⟦<MemoryLink as Link>⟧.origin self.link }
+        ensures fresh { IsFresh (⟦<MemoryLink as Link>⟧.told result) (⟦<MemoryLink as Link>⟧.failed_receives result)
             (⟦<MemoryLink as Link>⟧.failed_sends result) (⟦<MemoryLink as Link>⟧.stalls result) }
     {
         self.link
@@ -111,9 +127,10 @@ impl FreshLink {
 }
 
 impl MemoryLink {
-    /// A link that was not used yet.
+    /// A link that was not used yet, from where its plan says.
     pub fn start(alloc: Global, plan: LinkPlan) -> Result<MemoryLink, Memory>
-        ensures { IfOk result (λ l. IsFresh (⟦<MemoryLink as Link>⟧.told l) (⟦<MemoryLink as Link>⟧.failed_receives l)
+        ensures origin { IfOk result (λ l. ⟦<MemoryLink as Link>⟧.origin l ≡ plan.origin) }
+        ensures fresh { IfOk result (λ l. IsFresh (⟦<MemoryLink as Link>⟧.told l) (⟦<MemoryLink as Link>⟧.failed_receives l)
             (⟦<MemoryLink as Link>⟧.failed_sends l) (⟦<MemoryLink as Link>⟧.stalls l)) }
     {
         Ok(FreshLink::start(alloc, plan)?.into_link())
@@ -155,7 +172,7 @@ impl MemoryLink {
     }
 }
 
-/// Puts as many of the bytes behind what was taken as there is room for, and says how many: none where there is no
+/// Puts as many of the bytes after what was taken as there is room for, and says how many: none where there is no
 /// room or no memory.
 fn take_front(took: &mut Octets, room: usize, piece: usize, bytes: &[u8]) -> usize
     ensures within { result ≤ length bytes.now }
@@ -170,6 +187,8 @@ fn take_front(took: &mut Octets, room: usize, piece: usize, bytes: &[u8]) -> usi
 }
 
 impl Link for MemoryLink {
+    ghost origin = { λ l. l.origin };
+
     ghost told = { λ l. Some (record { gave = gave_in_memory l.gave l.failed_past; took = l.took }) };
 
     ghost failed_receives = { λ l. min (l.failed_kept + l.failed_past) (2 ^ 64 - 1) };
@@ -177,6 +196,10 @@ impl Link for MemoryLink {
     ghost failed_sends = { λ l. l.failed_sends };
 
     ghost stalls = { λ l. l.stalls };
+
+    fn origin(&self) -> &Origin {
+        &self.origin
+    }
 
     fn receive(&mut self, into: &mut [u8]) -> Received {
         if self.failed_past > 0 || self.gave.len() >= self.answers {

@@ -1,6 +1,6 @@
 //! A listener in memory.
 
-ghost use Rattle.std.specs.Prelude.{◌≡◌, ◌+◌, ◌-◌, ◌^◌, ◌≤◌, [], Some, min, vec_len, vec_capacity, length, map, IfOk, IfSome};
+ghost use Rattle.std.specs.Prelude.{◌≡◌, ◌+◌, ◌-◌, ◌^◌, ◌≤◌, [], None, Some, min, vec_len, vec_capacity, length, map, IfOk, IfSome};
 ghost use Rattle.list_laws.specs.Lists.{BeginsWith};
 ghost use Rattle.wl_edge.specs.Listeners.{kinds_in_memory, links_given};
 
@@ -116,9 +116,13 @@ impl MemoryListener {
 impl Listener for MemoryListener {
     type L = MemoryLink;
 
+    // Its links come from wherever their plans say.
+    ghost sockets = { λ l. None };
+
     ghost told = { λ l. Some (record {
       kinds = kinds_in_memory l.kinds l.failed_past;
       finished = map (λ k. record {
+        origin = ⟦<MemoryLink as Link>⟧.origin k;
         log = ⟦<MemoryLink as Link>⟧.told k;
         failed_receives = ⟦<MemoryLink as Link>⟧.failed_receives k;
         failed_sends = ⟦<MemoryLink as Link>⟧.failed_sends k;

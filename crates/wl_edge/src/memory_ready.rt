@@ -51,7 +51,7 @@ fn fails(failing: &Row<u64>, calls: &mut u64, faults: &mut u64) -> bool
     false
 }
 
-/// Puts these numbers behind others, as far as there is memory.
+/// Puts these numbers after others, as far as there is memory.
 fn append(numbers: &[u32], into: &mut Row<u32>) -> Result<(), EdgeFault>
     ensures kept { BeginsWith into.new into.old }
     ensures all { OnOk result (into.new ≡ into.old ++ numbers.now) }

@@ -44,14 +44,14 @@ fn token(alloc: Global, script: &Script<JwtToken>) -> Result<Option<JwtToken>, M
     }
 }
 
-/// The call for an identity, as it is told.
+/// The call for an identity, as it is recorded.
 fn identity_call(alloc: Global, ask: &Ask, script: &Script<Signed>) -> Result<SignerCall, Memory>
     ensures { IfOk result (λ call. call ≡ SignerCall.X509 ask.now (due_answer script.now)) }
 {
     Ok(SignerCall::X509(ask.copy(alloc)?, identity(alloc, script)?))
 }
 
-/// The call for a token, as it is told.
+/// The call for a token, as it is recorded.
 fn token_call(
     alloc: Global,
     ask: &Ask,

@@ -64,7 +64,7 @@ pub(crate) fn copy_front(bytes: &[u8], into: &mut [u8], most: usize) -> usize
     ensures some { 0 < result }
     ensures within { result ≤ length into.old }
     ensures had { result ≤ length bytes.now }
-    ensures front { take result into.new ≡ take result bytes.now }
+    ensures prefix { take result into.new ≡ take result bytes.now }
 {
     let count = bytes.len().min(most).min(into.len());
     into[..count].copy_from_slice(bytes.split_at(count).0);

@@ -24,7 +24,7 @@ pub struct MemoryUpstream {
 
 /// As much of a document as a pull appends.
 fn front_of(document: &[u8]) -> &[u8]
-    ensures front { result.now ≡ take MAX_PULLED document.now }
+    ensures prefix { result.now ≡ take MAX_PULLED document.now }
     ensures short { length result.now ≤ MAX_PULLED }
 {
     if document.len() <= MAX_PULLED {
@@ -36,7 +36,7 @@ fn front_of(document: &[u8]) -> &[u8]
 
 /// A copy of it.
 fn copy_front_of(alloc: Global, document: &Octets) -> Result<Octets, Memory>
-    ensures front { IfOk result (λ front. front ≡ take MAX_PULLED document.now) }
+    ensures prefix { IfOk result (λ front. front ≡ take MAX_PULLED document.now) }
     ensures short { IfOk result (λ front. length front ≤ MAX_PULLED) }
 {
     Octets::from_slice(alloc, front_of(document.as_slice()))
@@ -44,7 +44,7 @@ fn copy_front_of(alloc: Global, document: &Octets) -> Result<Octets, Memory>
 
 /// A copy of as much of the document that is due as a pull appends.
 fn document(alloc: Global, script: &Script<Octets>) -> Result<Option<Octets>, Memory>
-    ensures front { IfOk result (λ copy. copy ≡ option_map (take MAX_PULLED) (due_answer script.now)) }
+    ensures prefix { IfOk result (λ copy. copy ≡ option_map (take MAX_PULLED) (due_answer script.now)) }
     ensures short { IfOk result (λ copy. IfSome copy (λ front. length front ≤ MAX_PULLED)) }
 {
     match script.due() {
@@ -53,7 +53,7 @@ fn document(alloc: Global, script: &Script<Octets>) -> Result<Option<Octets>, Me
     }
 }
 
-/// A pull that gave this document, as it is told.
+/// A pull that gave this document, as it is recorded.
 fn given_pull(alloc: Global, into: &Octets, document: &Octets) -> Result<PullCall, Memory>
     ensures { IfOk result (λ call. call ≡ record { into = into.now; answer = Some document.now }) }
 {
@@ -63,7 +63,7 @@ fn given_pull(alloc: Global, into: &Octets, document: &Octets) -> Result<PullCal
     })
 }
 
-/// A pull that failed, as it is told.
+/// A pull that failed, as it is recorded.
 fn failed_pull(alloc: Global, into: &Octets) -> Result<PullCall, Memory>
     ensures { IfOk result (λ call. call ≡ record { into = into.now; answer = None }) }
 {
@@ -73,7 +73,7 @@ fn failed_pull(alloc: Global, into: &Octets) -> Result<PullCall, Memory>
     })
 }
 
-/// The bytes with a document behind them, if there is one.
+/// The bytes with a document after them, if there is one.
 fn appended(alloc: Global, into: &Octets, document: &Octets) -> Result<Octets, Memory>
     ensures { IfOk result (λ whole. whole ≡ into.now ++ document.now) }
 {
@@ -98,7 +98,7 @@ impl MemoryUpstream {
         }
     }
 
-    /// Its calls, but for those that found no memory.
+    /// Its calls, except those that found no memory.
     pub fn calls(&self) -> &[PullCall]
         ensures { IfSome (⟦<MemoryUpstream as Upstream>⟧.told self.now) (λ log. log.calls ≡ result.now) }
     {

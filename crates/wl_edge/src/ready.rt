@@ -19,6 +19,7 @@ pub trait Ready<L: Link> {
         ensures receives { L.failed_receives link.new ≡ L.failed_receives link.old }
         ensures sends { L.failed_sends link.new ≡ L.failed_sends link.old }
         ensures stalls { L.stalls link.new ≡ L.stalls link.old }
+        ensures origin { L.origin link.new ≡ L.origin link.old }
         ensures failed { IsErrOf result EdgeFault.Failed → Rose (faults self.old) (faults self.new) }
         ensures later { faults self.old ≤ faults self.new };
 
@@ -28,6 +29,7 @@ pub trait Ready<L: Link> {
         ensures receives { L.failed_receives link.new ≡ L.failed_receives link.old }
         ensures sends { L.failed_sends link.new ≡ L.failed_sends link.old }
         ensures stalls { L.stalls link.new ≡ L.stalls link.old }
+        ensures origin { L.origin link.new ≡ L.origin link.old }
         ensures later { faults self.old ≤ faults self.new };
 
     /// Waits until links may be ready, their bell rang or a short while has passed, and appends the numbers of those

@@ -1,6 +1,6 @@
 //! Listening at the paths of Unix sockets.
 
-ghost use Rattle.std.specs.Prelude.{◌≡◌, ◌<◌, [], length, vec_len, Some, IfOk, IfErr};
+ghost use Rattle.std.specs.Prelude.{◌≡◌, ◌<◌, [], ◌∷◌, length, vec_len, Some, IfOk, IfErr};
 
 use crate::hidden::Hidden;
 use crate::listener::{BoundAt, RealListener};
@@ -13,7 +13,7 @@ use std::os::fd::{AsFd, AsRawFd, OwnedFd};
 use std::os::unix::fs::{FileTypeExt, PermissionsExt, lchown};
 use std::os::unix::net::{SocketAddr, UnixListener};
 use std::{fs, io};
-use wl_edge::Listener;
+use wl_edge::{Listener, Origin};
 
 /// How many connections may wait to be accepted.
 const BACKLOG: i32 = 128;
@@ -112,14 +112,18 @@ fn listen(
 
 /// Listens at the path of a Unix socket. Its file has the guard's owner, group and mode, whatever the umask is, before it
 /// has this name: until then it stands in a folder of mode 0700 beside the path, which is removed. A socket at which nobody
-/// listens any more is replaced; nothing else is ever removed. Peers that connect find a server that listens.
+/// listens any more is replaced; nothing else is ever removed. Peers that connect find a server that listens; their links
+/// have this origin.
 pub fn bind<R: Files + Net>(
     rt: &R,
     alloc: Global,
     path: &str,
     guard: Guard,
+    origin: Origin,
 ) -> Result<RealListener, BindFault>
     ensures path { IfOk result (λ l. ⟦<RealListener as BoundAt>⟧.path l ≡ path.now) }
+    ensures sockets { IfOk result (λ l. ⟦<RealListener as Listener>⟧.sockets l
+        ≡ Some (record { selectors = origin.selectors; number = origin.socket } ∷ [])) }
     ensures fresh { IfOk result (λ l. ⟦<RealListener as Listener>⟧.faults l ≡ 0) }
     ensures told { IfOk result (λ l. ⟦<RealListener as Listener>⟧.told l ≡ Some (record { kinds = []; finished = [] })) }
 {
@@ -127,23 +131,27 @@ pub fn bind<R: Files + Net>(
     let hidden = Hidden::make(rt, alloc, path)?;
     let listener = listen(rt, hidden.file(), path, guard);
     hidden.remove(rt);
-    RealListener::start(listener?, path).map_err(|e| BindFault::Refused(e.kind()))
+    RealListener::start(listener?, path, origin).map_err(|e| BindFault::Refused(e.kind()))
 }
 
-/// Listens at each of these paths, with this guard. A fault comes with the place of its path, counted from 0; then nobody
-/// listens at any of them.
+/// Listens at each of these paths, with this guard and this origin. A fault comes with the place of its path, counted from 0;
+/// then nobody listens at any of them.
 pub fn bind_all<R: Files + Net>(
     rt: &R,
     alloc: Global,
     paths: &[String],
     guard: Guard,
+    origin: &Origin,
 ) -> Result<Vec<RealListener>, (usize, BindFault)>
     ensures all { IfOk result (λ listeners. vec_len listeners ≡ length paths.now) }
     ensures place { IfErr result (λ e. e.0 < length paths.now) }
 {
     let mut listeners = Vec::new(alloc);
     for (place, path) in paths.iter().enumerate() {
-        match bind(rt, alloc, path.as_str(), guard) {
+        let Ok(origin) = origin.share() else {
+            return Err((place, BindFault::Memory));
+        };
+        match bind(rt, alloc, path.as_str(), guard, origin) {
             Ok(listener) => {
                 if listeners.push(listener).is_err() {
                     return Err((place, BindFault::Memory));

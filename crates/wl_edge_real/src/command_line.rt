@@ -8,7 +8,7 @@ use wl_octets::Memory;
 /// How many bytes of a word are read at first; where it is longer, twice as many, and so on.
 const FIRST_ROOM: usize = 256;
 
-/// The word at this place, counted from the program's name at 0; none behind the last.
+/// The word at this place, counted from the program's name at 0; none after the last.
 fn word<R: Env>(rt: &R, alloc: Global, at: usize) -> Result<Option<Vec<u8>>, Memory> {
     let mut room = FIRST_ROOM;
     for _ in 0..usize::BITS {

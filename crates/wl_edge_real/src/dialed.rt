@@ -1,6 +1,6 @@
 //! A link of a client, which connects when it has something to say.
 
-ghost use Rattle.std.specs.Prelude.{◌≡◌, ◌≤◌, ◌++◌, [], Some, take, length, IfOk, OnErr, IsSome};
+ghost use Rattle.std.specs.Prelude.{◌≡◌, ◌≤◌, ◌++◌, [], None, Some, take, length, IfOk, OnErr, IsSome};
 ghost use Rattle.wl_edge.specs.Links.{heard_of, IsFresh, IsWithin};
 ghost use Rattle.wl_edge_real.specs.Pieces.{piece_of, pieces_of};
 ghost use Rattle.wl_edge_real.specs.Streams.{came_of, went_into};
@@ -8,14 +8,15 @@ ghost use Rattle.wl_edge_real.specs.Streams.{came_of, went_into};
 use crate::link::answer_of;
 use crate::telling::heard;
 use crate::told_stream::ToldStream;
-use std::alloc::AllocError;
+use std::alloc::{AllocError, Global};
 use std::io;
 use std::io::{Read, Write};
 use std::net::{Net, OpenStream, SocketAddr};
 use std::os::unix::net::UnixStream;
 use std::time::Duration;
 use timed_stream::connect;
-use wl_edge::{Heard, Link, Received, Sent, TrySent};
+use wl_edge::{Heard, Link, Origin, Received, Sent, TrySent};
+use wl_octets::Memory;
 use wl_told::Told;
 
 /// How many seconds a receive waits for bytes before it is idle.
@@ -81,6 +82,8 @@ impl<T: Write + Drop> Write for Dialed<T> {
 #[derive(Drop)]
 pub struct DialedLink<R: Net> {
     rt: R,
+    /// That of a link over no socket of ours.
+    origin: Origin,
     address: Address,
     stream: Option<ToldStream<Dialed<R::Stream>>>,
     failed_receives: u64,
@@ -117,28 +120,31 @@ fn dial<R: Net>(rt: &R, address: &Address) -> io::Result<ToldStream<Dialed<R::St
 
 impl<R: Net + Drop> DialedLink<R> {
     /// A link to the Unix socket of this path. Nothing is opened yet.
-    pub fn start(rt: R, path: String) -> DialedLink<R>
-        ensures tells { IsSome (⟦<DialedLink<R> as Link>⟧.told result) }
-        ensures fresh { IsFresh (⟦<DialedLink<R> as Link>⟧.told result) (⟦<DialedLink<R> as Link>⟧.failed_receives result)
-            (⟦<DialedLink<R> as Link>⟧.failed_sends result) (⟦<DialedLink<R> as Link>⟧.stalls result) }
+    pub fn start(rt: R, alloc: Global, path: String) -> Result<DialedLink<R>, Memory>
+        ensures origin { IfOk result (λ l. ⟦<DialedLink<R> as Link>⟧.origin l ≡ record { selectors = []; socket = 0; uid = None }) }
+        ensures tells { IfOk result (λ l. IsSome (⟦<DialedLink<R> as Link>⟧.told l)) }
+        ensures fresh { IfOk result (λ l. IsFresh (⟦<DialedLink<R> as Link>⟧.told l) (⟦<DialedLink<R> as Link>⟧.failed_receives l)
+            (⟦<DialedLink<R> as Link>⟧.failed_sends l) (⟦<DialedLink<R> as Link>⟧.stalls l)) }
     {
-        DialedLink::start_at(rt, Address::Path(path))
+        DialedLink::start_at(rt, alloc, Address::Path(path))
     }
 
     /// A link to this address. Nothing is opened yet.
-    pub fn start_at(rt: R, address: Address) -> DialedLink<R>
-        ensures tells { IsSome (⟦<DialedLink<R> as Link>⟧.told result) }
-        ensures fresh { IsFresh (⟦<DialedLink<R> as Link>⟧.told result) (⟦<DialedLink<R> as Link>⟧.failed_receives result)
-            (⟦<DialedLink<R> as Link>⟧.failed_sends result) (⟦<DialedLink<R> as Link>⟧.stalls result) }
+    pub fn start_at(rt: R, alloc: Global, address: Address) -> Result<DialedLink<R>, Memory>
+        ensures origin { IfOk result (λ l. ⟦<DialedLink<R> as Link>⟧.origin l ≡ record { selectors = []; socket = 0; uid = None }) }
+        ensures tells { IfOk result (λ l. IsSome (⟦<DialedLink<R> as Link>⟧.told l)) }
+        ensures fresh { IfOk result (λ l. IsFresh (⟦<DialedLink<R> as Link>⟧.told l) (⟦<DialedLink<R> as Link>⟧.failed_receives l)
+            (⟦<DialedLink<R> as Link>⟧.failed_sends l) (⟦<DialedLink<R> as Link>⟧.stalls l)) }
     {
-        DialedLink {
+        Ok(DialedLink {
             rt,
+            origin: Origin::nowhere(alloc)?,
             address,
             stream: None,
             failed_receives: 0,
             failed_sends: 0,
             gave: Told::new(),
-        }
+        })
     }
 }
 
@@ -180,6 +186,8 @@ fn receive_from<S: Read + Write + Drop>(
 }
 
 impl<R: Net + Drop> Link for DialedLink<R> {
+    ghost origin = { λ l. l.origin };
+
     ghost told = { λ l. Some (record { gave = l.gave.list; took = went_into l.stream }) };
 
     ghost failed_receives = { λ l. l.failed_receives };
@@ -187,6 +195,10 @@ impl<R: Net + Drop> Link for DialedLink<R> {
     ghost failed_sends = { λ l. l.failed_sends };
 
     ghost stalls = { λ l. 0 };
+
+    fn origin(&self) -> &Origin {
+        &self.origin
+    }
 
     fn receive(&mut self, into: &mut [u8]) -> Received {
         let answer = receive_from(&mut self.stream, into);

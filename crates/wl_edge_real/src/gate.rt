@@ -1,5 +1,7 @@
 //! The gate that paces upkeep.
 
+use crate::stop::Stop;
+use std::sync::Arc;
 use std::sync::atomic::{AtomicBool, Ordering};
 use std::thread;
 use std::time::Duration;
@@ -9,7 +11,7 @@ use wl_edge::{BEFORE_KEEPING, BEFORE_UPKEEP, Gate};
 const KEEPER_SECONDS: u32 = 1;
 
 /// A gate that holds the puller for some seconds before each pull but the first, the keeper for a second before each look
-/// but the first, and nothing else.
+/// but the first, and nothing else. Once a stop is asked for it holds each for a second at most.
 #[derive(Drop)]
 pub struct RealGate<R> {
     rt: R,
@@ -18,16 +20,18 @@ pub struct RealGate<R> {
     pulled: AtomicBool,
     /// Whether the keeper has looked.
     kept: AtomicBool,
+    stop: Arc<Stop>,
 }
 
 impl<R: std::rt::Clock + Drop> RealGate<R> {
-    /// A gate that holds the puller for so many seconds between two pulls.
-    pub fn start(rt: R, seconds: u32) -> RealGate<R> {
+    /// A gate that holds the puller for so many seconds between two pulls, until this stop is asked for.
+    pub fn start(rt: R, seconds: u32, stop: Arc<Stop>) -> RealGate<R> {
         RealGate {
             rt,
             seconds,
             pulled: AtomicBool::new(false),
             kept: AtomicBool::new(false),
+            stop,
         }
     }
 }
@@ -39,6 +43,11 @@ impl<R: std::rt::Clock + Drop> Gate for RealGate<R> {
             BEFORE_KEEPING if self.kept.swap(true, Ordering::SeqCst) => KEEPER_SECONDS,
             _ => return,
         };
-        thread::sleep(&self.rt, Duration::from_secs(u64::from(seconds)));
+        for _ in 0..seconds {
+            thread::sleep(&self.rt, Duration::from_secs(1));
+            if self.stop.is_asked() {
+                return;
+            }
+        }
     }
 }

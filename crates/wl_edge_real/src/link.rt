@@ -5,6 +5,7 @@ ghost use Rattle.wl_edge_real.specs.Pieces.{piece_of, pieces_of};
 ghost use Rattle.wl_edge.specs.Edge.{Rose};
 ghost use Rattle.wl_edge.specs.Links.{heard_of, IsFresh, IsWithin, OnFailed};
 
+use crate::stop::{Stop, is_asked, is_urgent};
 use crate::telling::heard;
 use crate::told_stream::ToldStream;
 use std::io;
@@ -13,7 +14,7 @@ use std::os::fd::RawFd;
 use std::os::unix::net::UnixStream;
 use std::sync::Arc;
 use std::sync::atomic::{AtomicBool, Ordering};
-use wl_edge::{Heard, Link, Received, Sent, TrySent};
+use wl_edge::{Heard, Link, Origin, Received, Sent, TrySent};
 use wl_told::Told;
 
 /// How many bytes a read takes when a connection is closed.
@@ -44,13 +45,25 @@ impl Watch {
     }
 }
 
+/// What came of the calls of a link.
+pub trait LinkFailures {
+    /// Whether a receive has failed.
+    fn has_failed_receives(&self) -> bool;
+
+    /// Whether a sending has failed.
+    fn has_failed_sends(&self) -> bool;
+}
+
 /// A link over a Unix socket. It tells what it gave and took, by lists that exist only in proofs. A receive that finds
 /// nothing is idle at once, so that one who has nothing else to do waits with a `RealReady`.
 #[derive(Drop)]
 pub struct RealLink {
+    pub(crate) origin: Origin,
     stream: ToldStream<UnixStream>,
     /// Shared with one who watches the link.
     watch: Option<Arc<Watch>>,
+    /// What has it end.
+    stop: Option<Arc<Stop>>,
     failed_receives: u64,
     failed_sends: u64,
     stalls: u64,
@@ -68,16 +81,19 @@ pub(crate) fn is_pause(error: &io::Error) -> bool {
 }
 
 impl RealLink {
-    /// A link over this socket, which from now on does not block.
-    pub fn start(stream: UnixStream) -> io::Result<RealLink>
+    /// A link from there over this socket, which from now on does not block.
+    pub fn start(origin: Origin, stream: UnixStream) -> io::Result<RealLink>
+        ensures origin { IfOk result (λ l. ⟦<RealLink as Link>⟧.origin l ≡ origin) }
         ensures tells { (l : RealLink) → IsSome (⟦<RealLink as Link>⟧.told l) }
         ensures fresh { IfOk result (λ l. IsFresh (⟦<RealLink as Link>⟧.told l) (⟦<RealLink as Link>⟧.failed_receives l)
             (⟦<RealLink as Link>⟧.failed_sends l) (⟦<RealLink as Link>⟧.stalls l)) }
     {
         stream.set_nonblocking(true)?;
         Ok(RealLink {
+            origin,
             stream: ToldStream::start(stream),
             watch: None,
+            stop: None,
             failed_receives: 0,
             failed_sends: 0,
             stalls: 0,
@@ -111,8 +127,20 @@ impl RealLink {
         ensures receives { ⟦<RealLink as Link>⟧.failed_receives self.new ≡ ⟦<RealLink as Link>⟧.failed_receives self.old }
         ensures sends { ⟦<RealLink as Link>⟧.failed_sends self.new ≡ ⟦<RealLink as Link>⟧.failed_sends self.old }
         ensures stalls { ⟦<RealLink as Link>⟧.stalls self.new ≡ ⟦<RealLink as Link>⟧.stalls self.old }
+        ensures origin { ⟦<RealLink as Link>⟧.origin self.new ≡ ⟦<RealLink as Link>⟧.origin self.old }
     {
         self.watch = watch;
+    }
+
+    /// Has it end once this stop is asked for.
+    pub(crate) fn obey(&mut self, stop: Option<Arc<Stop>>)
+        ensures told { ⟦<RealLink as Link>⟧.told self.new ≡ ⟦<RealLink as Link>⟧.told self.old }
+        ensures receives { ⟦<RealLink as Link>⟧.failed_receives self.new ≡ ⟦<RealLink as Link>⟧.failed_receives self.old }
+        ensures sends { ⟦<RealLink as Link>⟧.failed_sends self.new ≡ ⟦<RealLink as Link>⟧.failed_sends self.old }
+        ensures stalls { ⟦<RealLink as Link>⟧.stalls self.new ≡ ⟦<RealLink as Link>⟧.stalls self.old }
+        ensures origin { ⟦<RealLink as Link>⟧.origin self.new ≡ ⟦<RealLink as Link>⟧.origin self.old }
+    {
+        self.stop = stop;
     }
 
     /// Notes that a receive gave so many bytes of those that it was lent. One that gave fewer has found all that was there,
@@ -150,6 +178,7 @@ impl RealLink {
         ensures stream { self.new.stream ≡ self.old.stream }
         ensures sends { self.new.failed_sends ≡ self.old.failed_sends }
         ensures stalls { self.new.stalls ≡ self.old.stalls }
+        ensures origin { self.new.origin ≡ self.old.origin }
     {
         match answer {
             Received::Got(count) => self.note_received(count, lent),
@@ -176,6 +205,26 @@ pub(crate) fn answer_of(read: io::Result<usize>) -> Received
     }
 }
 
+/// What a receive answers. After a stop was asked for one that finds nothing is the last; after an urgent one nothing is read.
+fn receive_until(
+    stop: &Option<Arc<Stop>>,
+    stream: &mut ToldStream<UnixStream>,
+    into: &mut [u8],
+) -> Received
+    ensures room { length into.new ≡ length into.old }
+    ensures within { IsWithin (length into.old) result }
+    ensures got { stream.new.got.list ≡ stream.old.got.list ++ piece_of (heard_of result into.new) }
+    ensures put { stream.new.put ≡ stream.old.put }
+{
+    if is_urgent(stop) {
+        return Received::End;
+    }
+    match answer_of(stream.read(into)) {
+        Received::Idle if is_asked(stop) => Received::End,
+        answer => answer,
+    }
+}
+
 /// Writes some of the bytes, and waits until that can be done.
 fn write_waiting(stream: &mut ToldStream<UnixStream>, bytes: &[u8]) -> io::Result<usize>
     ensures within { IfOk result (λ count. count ≤ length bytes.now) }
@@ -190,7 +239,19 @@ fn write_waiting(stream: &mut ToldStream<UnixStream>, bytes: &[u8]) -> io::Resul
     written
 }
 
+impl LinkFailures for RealLink {
+    fn has_failed_receives(&self) -> bool {
+        self.failed_receives > 0
+    }
+
+    fn has_failed_sends(&self) -> bool {
+        self.failed_sends > 0
+    }
+}
+
 impl Link for RealLink {
+    ghost origin = { λ l. l.origin };
+
     ghost told = { λ l. Some (record { gave = l.gave.list; took = l.stream.put.list }) };
 
     ghost failed_receives = { λ l. l.failed_receives };
@@ -199,9 +260,13 @@ impl Link for RealLink {
 
     ghost stalls = { λ l. l.stalls };
 
+    fn origin(&self) -> &Origin {
+        &self.origin
+    }
+
     fn receive(&mut self, into: &mut [u8]) -> Received {
         let lent = into.len();
-        let answer = answer_of(self.stream.read(into));
+        let answer = receive_until(&self.stop, &mut self.stream, into);
         self.gave = heard(&self.gave, into, answer);
         self.note(answer, lent);
         answer
@@ -223,7 +288,7 @@ impl Link for RealLink {
                 self.note_sent(false);
                 TrySent::Took(count)
             }
-            Err(error) if is_pause(&error) => {
+            Err(error) if is_pause(&error) && !is_urgent(&self.stop) => {
                 self.note_sent(true);
                 self.stalls = self.stalls.saturating_add(1);
                 TrySent::Later

@@ -1,10 +1,11 @@
 //! Listeners at Unix sockets.
 
-ghost use Rattle.std.specs.Prelude.{◌≡◌, ◌≤◌, ℕ, List, [], map, length, Some, IfOk};
+ghost use Rattle.std.specs.Prelude.{◌≡◌, ◌≤◌, ℕ, List, [], ◌∷◌, map, length, Some, IfOk};
 ghost use Rattle.wl_edge.specs.Links.{IsFresh};
 ghost use Rattle.wl_edge.specs.Listeners.{AcceptFits, IfLink, kind_of};
 
 use crate::link::RealLink;
+use crate::stop::{Stop, is_asked};
 use crate::telling::{Front, Took};
 use std::io;
 use std::io::ErrorKind;
@@ -12,11 +13,12 @@ use std::os::fd::{AsRawFd, RawFd};
 use std::os::unix::net::UnixListener;
 use std::sync::Arc;
 use std::sync::atomic::{AtomicBool, Ordering};
-use wl_edge::{AcceptKind, Accepted, Link, Listener};
+use wl_edge::{AcceptKind, Accepted, Link, Listener, Origin};
+use wl_octets::Memory;
 use wl_telling::One;
 use wl_told::Told;
 
-/// There is no memory for one more connection (errors of `accept(2)`, by their numbers on Linux).
+/// There is no memory for one more connection, or none for its origin (errors of `accept(2)`, by their numbers on Linux).
 const ENOMEM: i32 = 12;
 
 /// The system has no descriptor left.
@@ -33,8 +35,12 @@ const ENOBUFS: i32 = 105;
 #[derive(Drop)]
 pub struct RealListener {
     listener: UnixListener,
+    /// From where its links come.
+    origin: Origin,
     /// Whether peers may have connected since an accept found none. One who watches the listener shares it.
     arrivals: Option<Arc<AtomicBool>>,
+    /// What has it and its links end.
+    pub(crate) stop: Option<Arc<Stop>>,
     faults: u64,
     kinds: Told<AcceptKind>,
     finished: Told<RealLink>,
@@ -87,8 +93,10 @@ fn path_told(path: &[u8]) -> Told<u8>
 }
 
 impl RealListener {
-    /// A listener that was bound at this path and, from now on, does not block.
-    pub fn start(listener: UnixListener, path: &str) -> io::Result<RealListener>
+    /// A listener that was bound at this path and, from now on, does not block. Its links have this origin.
+    pub fn start(listener: UnixListener, path: &str, origin: Origin) -> io::Result<RealListener>
+        ensures sockets { IfOk result (λ l. ⟦<RealListener as Listener>⟧.sockets l
+            ≡ Some (record { selectors = origin.selectors; number = origin.socket } ∷ [])) }
         ensures path { IfOk result (λ l. ⟦<RealListener as BoundAt>⟧.path l ≡ path.now) }
         ensures told { IfOk result (λ l. ⟦<RealListener as Listener>⟧.told l ≡ Some (record { kinds = []; finished = [] })) }
         ensures fresh { IfOk result (λ l. ⟦<RealListener as Listener>⟧.faults l ≡ 0) }
@@ -96,12 +104,33 @@ impl RealListener {
         listener.set_nonblocking(true)?;
         Ok(RealListener {
             listener,
+            origin,
             arrivals: None,
+            stop: None,
             faults: 0,
             kinds: Told::new(),
             finished: Told::new(),
             path: path_told(path.as_bytes()),
         })
+    }
+
+    /// Has it end once this stop is asked for, and the links that it gives from now on. A watcher that is made from now on then lists
+    /// all links.
+    pub fn obey(&mut self, stop: Arc<Stop>)
+        ensures told { ⟦<RealListener as Listener>⟧.told self.new ≡ ⟦<RealListener as Listener>⟧.told self.old }
+        ensures faults { ⟦<RealListener as Listener>⟧.faults self.new ≡ ⟦<RealListener as Listener>⟧.faults self.old }
+        ensures path { ⟦<RealListener as BoundAt>⟧.path self.new ≡ ⟦<RealListener as BoundAt>⟧.path self.old }
+        ensures sockets { ⟦<RealListener as Listener>⟧.sockets self.new ≡ ⟦<RealListener as Listener>⟧.sockets self.old }
+    {
+        self.stop = Some(stop);
+    }
+
+    /// One more owner of its stop, where it has one.
+    pub(crate) fn share_stop(&self) -> io::Result<Option<Arc<Stop>>> {
+        match &self.stop {
+            Some(stop) => Ok(Some(Arc::try_clone(stop)?)),
+            None => Ok(None),
+        }
     }
 
     /// The socket.
@@ -114,6 +143,7 @@ impl RealListener {
         ensures told { ⟦<RealListener as Listener>⟧.told self.new ≡ ⟦<RealListener as Listener>⟧.told self.old }
         ensures faults { ⟦<RealListener as Listener>⟧.faults self.new ≡ ⟦<RealListener as Listener>⟧.faults self.old }
         ensures path { ⟦<RealListener as BoundAt>⟧.path self.new ≡ ⟦<RealListener as BoundAt>⟧.path self.old }
+        ensures sockets { ⟦<RealListener as Listener>⟧.sockets self.new ≡ ⟦<RealListener as Listener>⟧.sockets self.old }
     {
         self.arrivals = Some(arrivals);
     }
@@ -137,11 +167,19 @@ impl RealListener {
 
     /// The next connection as a link.
     fn next_link(&self) -> io::Result<RealLink>
-        ensures { IfOk result (λ l. IsFresh (⟦<RealLink as Link>⟧.told l) (⟦<RealLink as Link>⟧.failed_receives l)
+        ensures origin { IfOk result (λ l. ⟦<RealLink as Link>⟧.origin l ≡ self.now.origin) }
+        ensures fresh { IfOk result (λ l. IsFresh (⟦<RealLink as Link>⟧.told l) (⟦<RealLink as Link>⟧.failed_receives l)
             (⟦<RealLink as Link>⟧.failed_sends l) (⟦<RealLink as Link>⟧.stalls l)) }
     {
+        let origin = match self.origin.share() {
+            Ok(origin) => origin,
+            Err(Memory) => return Err(io::Error::from_raw_os_error(ENOMEM)),
+        };
+        let stop = self.share_stop()?;
         let (stream, _) = self.listener.accept()?;
-        RealLink::start(stream)
+        let mut link = RealLink::start(origin, stream)?;
+        link.obey(stop);
+        Ok(link)
     }
 
     /// The next answer, which is not told yet.
@@ -150,9 +188,14 @@ impl RealListener {
         ensures later { self.old.faults ≤ self.new.faults }
         ensures fresh { IfLink result (λ l. IsFresh (⟦<RealLink as Link>⟧.told l) (⟦<RealLink as Link>⟧.failed_receives l)
             (⟦<RealLink as Link>⟧.failed_sends l) (⟦<RealLink as Link>⟧.stalls l)) }
+        ensures origin { IfLink result (λ l. ⟦<RealLink as Link>⟧.origin l ≡ self.old.origin) }
+        ensures same { self.new.origin ≡ self.old.origin }
         ensures kinds { self.new.kinds ≡ self.old.kinds }
         ensures finished { self.new.finished ≡ self.old.finished }
     {
+        if is_asked(&self.stop) {
+            return Accepted::End;
+        }
         if !self.may_have_arrivals() {
             return Accepted::Idle;
         }
@@ -177,9 +220,12 @@ impl RealListener {
 impl Listener for RealListener {
     type L = RealLink;
 
+    ghost sockets = { λ l. Some (record { selectors = l.origin.selectors; number = l.origin.socket } ∷ []) };
+
     ghost told = { λ l. Some (record {
       kinds = l.kinds.list;
       finished = map (λ link. record {
+        origin = ⟦<RealLink as Link>⟧.origin link;
         log = ⟦<RealLink as Link>⟧.told link;
         failed_receives = ⟦<RealLink as Link>⟧.failed_receives link;
         failed_sends = ⟦<RealLink as Link>⟧.failed_sends link;

@@ -18,7 +18,7 @@ pub struct RealOutput<W> {
 }
 
 impl<W: Write + Drop> RealOutput<W> {
-    /// Over this stream, of which nothing is told yet.
+    /// Over this stream, of which nothing is recorded yet.
     pub fn start(stream: W) -> RealOutput<W>
         ensures empty { ⟦<RealOutput<W> as Sink>⟧.taken result ≡ Some [] }
         ensures fresh { ⟦<RealOutput<W> as Sink>⟧.faults result ≡ 0 }

@@ -6,6 +6,7 @@ ghost use Rattle.list_laws.specs.Lists.{BeginsWith};
 use crate::bell::RealBell;
 use crate::link::{RealLink, Watch};
 use crate::listener::{BoundAt, RealListener};
+use crate::stop::{Stop, is_asked};
 use mio::unix::SourceFd;
 use mio::{Events, Interest, Poll, Token, Waker};
 use std::alloc::Global;
@@ -66,13 +67,15 @@ pub struct RealReady {
     watched: Vec<Watched>,
     /// Whether peers may have connected, which the listener shares.
     arrivals: Arc<AtomicBool>,
+    /// What has the listener and its links end.
+    stop: Option<Arc<Stop>>,
     rung: bool,
     faults: u64,
 }
 
 impl RealReady {
     /// A watcher of no links yet, with its bell. A wait ends also where a peer connects to the listener, and then
-    /// appends nothing for that.
+    /// appends nothing for that. After the listener's stop was asked for each wait appends all.
     pub fn start(
         rt: &impl Net,
         alloc: Global,
@@ -82,6 +85,7 @@ impl RealReady {
         ensures listener { ⟦<RealListener as Listener>⟧.faults listener.new ≡ ⟦<RealListener as Listener>⟧.faults listener.old }
         ensures told { ⟦<RealListener as Listener>⟧.told listener.new ≡ ⟦<RealListener as Listener>⟧.told listener.old }
         ensures path { ⟦<RealListener as BoundAt>⟧.path listener.new ≡ ⟦<RealListener as BoundAt>⟧.path listener.old }
+        ensures sockets { ⟦<RealListener as Listener>⟧.sockets listener.new ≡ ⟦<RealListener as Listener>⟧.sockets listener.old }
     {
         let poll = Poll::new(rt)?;
         let socket = listener.descriptor();
@@ -96,6 +100,7 @@ impl RealReady {
             events: Events::with_capacity(alloc, EVENTS)?,
             watched: Vec::new(alloc),
             arrivals,
+            stop: listener.share_stop()?,
             rung: false,
             faults: 0,
         };
@@ -224,7 +229,7 @@ impl Ready<RealLink> for RealReady {
             return Err(EdgeFault::Failed);
         }
         let rung = note_events(&self.events, self.watched.as_mut_slice(), &self.arrivals);
-        self.rung = self.rung || rung;
+        self.rung = self.rung || rung || is_asked(&self.stop);
         append(self.watched.as_mut_slice(), self.rung, into)?;
         self.rung = false;
         Ok(())

@@ -39,7 +39,7 @@ impl<'a> Adds<Front<'a>, u8> for Took {
     ghost added = { λ f. take f.count f.bytes.now };
 }
 
-/// The list with this answer behind it.
+/// The list with this answer after it.
 pub(crate) fn heard(told: &Told<Heard>, into: &[u8], answer: Received) -> Told<Heard>
     ensures { result.list ≡ told.now.list ++ heard_of answer into.now ∷ [] }
 {

@@ -9,7 +9,7 @@ use std::rt::Clock;
 use std::test::Fail;
 use std::time::{Duration, Instant};
 use std::{fs, io, thread};
-use wl_edge::{EdgeFault, Link, Received, Sent, TrySent, Upstream};
+use wl_edge::{EdgeFault, Link, Origin, Received, Sent, TrySent, Upstream};
 use wl_edge_real::{DialedLink, RealLink, RealUpstream};
 use wl_octets::Octets;
 
@@ -70,7 +70,8 @@ fn send_slowly(
 #[test]
 fn a_slow_reader_gets_each_byte_once(rt: HostRuntime) -> Result<(), Fail> {
     let (near, mut far) = UnixStream::pair(&rt)?;
-    let mut link = RealLink::start(near)?;
+    let origin = Origin::nowhere(rt.alloc())?;
+    let mut link = RealLink::start(origin, near)?;
     far.set_nonblocking(true)?;
     let text = long_text(rt.alloc())?;
     let mut came = Vec::new(rt.alloc());
@@ -86,7 +87,7 @@ fn a_slow_reader_gets_each_byte_once(rt: HostRuntime) -> Result<(), Fail> {
 
 /// A link to this path that has sent one byte.
 fn dialed(rt: &HostRuntime, path: &str) -> Result<DialedLink<HostRuntime>, Fail> {
-    let mut link = DialedLink::start(*rt, String::from_str(rt.alloc(), path)?);
+    let mut link = DialedLink::start(*rt, rt.alloc(), String::from_str(rt.alloc(), path)?)?;
     match link.send(b"a") {
         Sent::Took(1) => Ok(link),
         _ => Err("dial")?,
@@ -136,7 +137,7 @@ fn a_full_backlog_is_a_fault_at_once(rt: HostRuntime) -> Result<(), Fail> {
     let mut waiting = Vec::new(rt.alloc());
     fill_backlog(&rt, path.as_str(), &mut waiting)?;
     let begun = Instant::now(&rt)?;
-    let mut link = DialedLink::start(rt, String::from_str(rt.alloc(), path.as_str())?);
+    let mut link = DialedLink::start(rt, rt.alloc(), String::from_str(rt.alloc(), path.as_str())?)?;
     assert_eq!(rt; link.send(b"a"), Sent::Failed);
     let mut upstream = RealUpstream::start(
         rt,

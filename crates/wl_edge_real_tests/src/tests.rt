@@ -9,18 +9,20 @@ use std::io::{Read, Write};
 use std::net::Net;
 use std::os::unix::fs::PermissionsExt;
 use std::os::unix::net::{UnixListener, UnixStream};
+use std::sync::Arc;
 use std::test::Fail;
 use std::time::{Duration, Instant};
 use std::{env, fs, process, thread};
 use wl_edge::{
-    Accepted, BEFORE_TURN, BEFORE_UPKEEP, Bell, Clock, EdgeFault, Gate, Link, Listener, Ready,
-    Received, Sent, TrySent, Upstream,
+    Accepted, BEFORE_TURN, BEFORE_UPKEEP, Bell, Clock, EdgeFault, Gate, Link, Listener, Origin,
+    Ready, Received, Sent, TrySent, Upstream,
 };
 use wl_edge_real::{
     BindFault, DialedLink, Guard, RealBell, RealClock, RealGate, RealLink, RealListener, RealReady,
-    RealUpstream, bind, bind_all,
+    RealUpstream, Stop, bind, bind_all,
 };
 use wl_octets::{Octets, Row};
+use wl_selector::{Selector, Selectors};
 
 /// A path of this test's own at which nothing stands.
 pub(crate) fn path_of(rt: &HostRuntime, name: &str) -> Result<String, Fail> {
@@ -62,7 +64,7 @@ const OWN: Guard = Guard {
 pub(crate) fn bound<R: AllocGlobal + Files + Net>(rt: &R, path: &str) -> Result<RealListener, Fail>
     ensures { IfOk result (λ l. ⟦<RealListener as Listener>⟧.told l ≡ Some (record { kinds = []; finished = [] })) }
 {
-    match bind(rt, rt.alloc(), path, OWN) {
+    match bind(rt, rt.alloc(), path, OWN, Origin::nowhere(rt.alloc())?) {
         Ok(listener) => Ok(listener),
         Err(_) => Err("bind")?,
     }
@@ -71,7 +73,7 @@ pub(crate) fn bound<R: AllocGlobal + Files + Net>(rt: &R, path: &str) -> Result<
 /// Whether a file that is no socket stays.
 fn leaves_a_file<R: AllocGlobal + Files + Net>(rt: &R, path: &str) -> Result<bool, Fail> {
     fs::write(rt, path, "abc")?;
-    let refused = bind(rt, rt.alloc(), path, OWN).err();
+    let refused = bind(rt, rt.alloc(), path, OWN, Origin::nowhere(rt.alloc())?).err();
     let text = fs::read_to_string(rt, path)?;
     fs::remove_file(rt, path)?;
     Ok(refused == Some(BindFault::NotASocket) && text.as_str() == "abc")
@@ -80,8 +82,9 @@ fn leaves_a_file<R: AllocGlobal + Files + Net>(rt: &R, path: &str) -> Result<boo
 /// Whether nobody else can listen where one listens.
 fn is_taken<R: Files + Net>(rt: &R, alloc: Global, path: &str) -> Result<bool, Fail> {
     let paths = [String::from_str(alloc, path)?];
-    let all = bind_all(rt, alloc, &paths, OWN).err();
-    let one = bind(rt, alloc, path, OWN).err();
+    let origin = Origin::nowhere(alloc)?;
+    let all = bind_all(rt, alloc, &paths, OWN, &origin).err();
+    let one = bind(rt, alloc, path, OWN, origin).err();
     Ok(all == Some((0, BindFault::Taken)) && one == Some(BindFault::Taken))
 }
 
@@ -117,7 +120,8 @@ fn a_socket_has_its_mode(rt: HostRuntime) -> Result<(), Fail> {
     let path = format!(in rt.alloc(); "{folder}/w.sock")?;
     for mode in [0o600, 0o666, 0o777, 0o660, 0] {
         let guard = Guard { mode, ..OWN };
-        let listener = bind(&rt, rt.alloc(), path.as_str(), guard).map_err(|_| "bind")?;
+        let origin = Origin::nowhere(rt.alloc())?;
+        let listener = bind(&rt, rt.alloc(), path.as_str(), guard, origin).map_err(|_| "bind")?;
         assert!(rt;
             stands_alone(&rt, folder.as_str(), path.as_str(), mode)?,
             "{mode}"
@@ -199,13 +203,21 @@ fn fill(link: &mut RealLink) -> TrySent {
 #[test]
 fn a_link_puts_off_what_its_peer_does_not_read(rt: HostRuntime) -> Result<(), Fail> {
     let (near, far) = UnixStream::pair(&rt)?;
-    let mut link = RealLink::start(near)?;
+    let origin = Origin::nowhere(rt.alloc())?;
+    let mut link = RealLink::start(origin, near)?;
     let mut room = [0; 4];
     assert_eq!(rt; fill(&mut link), TrySent::Later);
     assert_eq!(rt; link.receive(&mut room), Received::Idle);
     far.shutdown(std::net::Shutdown::Write)?;
     assert_eq!(rt; link.receive(&mut room), Received::End);
     Ok(())
+}
+
+/// The set of one selector.
+fn one_selector(alloc: Global) -> Result<Selectors, Fail> {
+    let mut items = Vec::new(alloc);
+    items.push(Selector::parse(alloc, b"app:web").map_err(|_| "selector")?)?;
+    Ok(Selectors::from_list(alloc, items, 1).map_err(|_| "selectors")?)
 }
 
 /// The numbers that the next wait appends.
@@ -230,13 +242,15 @@ fn next_told(alloc: Global, ready: &mut RealReady) -> Result<Row<u32>, Fail> {
 fn a_watcher_tells_of_links_and_a_bell_of_all(rt: HostRuntime) -> Result<(), Fail> {
     let alloc = rt.alloc();
     let path = path_of(&rt, "ready")?;
-    let mut listener = bind(&rt, alloc, path.as_str(), OWN).map_err(|_| "bind")?;
+    let origin = Origin::new(alloc, one_selector(alloc)?, 7, None)?;
+    let mut listener = bind(&rt, alloc, path.as_str(), OWN, origin.share()?).map_err(|_| "bind")?;
     let (mut ready, bell) = RealReady::start(&rt, alloc, &mut listener)?;
     let mut peers = Vec::new(alloc);
     let mut links = Vec::new(alloc);
     for number in 3..6 {
         peers.push(UnixStream::connect(&rt, path.as_str())?)?;
         let mut link = next_link(&mut listener)?;
+        assert!(rt; *link.origin() == origin);
         assert_eq!(rt; ready.add(number, &mut link), Ok(()));
         links.push(link)?;
     }
@@ -264,7 +278,7 @@ fn a_watcher_tells_of_links_and_a_bell_of_all(rt: HostRuntime) -> Result<(), Fai
     }
     assert_eq!(rt; told(alloc, &mut ready)?.len(), 0);
 
-    // After a ring, from another thread, each that is watched is told.
+    // After a ring, from another thread, each that is watched is reported.
     if let Some(link) = links.get_mut(0) {
         ready.remove(3, link);
     }
@@ -409,7 +423,7 @@ fn an_upstream_reads_a_document_at_each_pull(rt: HostRuntime) -> Result<(), Fail
 #[test]
 fn a_dialed_link_connects_at_its_first_sending(rt: HostRuntime) -> Result<(), Fail> {
     let path = path_of(&rt, "dialed")?;
-    let mut link = DialedLink::start(rt, String::from_str(rt.alloc(), path.as_str())?);
+    let mut link = DialedLink::start(rt, rt.alloc(), String::from_str(rt.alloc(), path.as_str())?)?;
     let mut room = [0; 8];
     assert_eq!(rt; link.receive(&mut room), Received::Idle);
     assert_eq!(rt; link.send(b"a"), Sent::Failed);
@@ -425,7 +439,8 @@ fn a_dialed_link_connects_at_its_first_sending(rt: HostRuntime) -> Result<(), Fa
 #[test]
 fn a_clock_tells_the_time_and_a_gate_holds_upkeep(rt: HostRuntime) -> Result<(), Fail> {
     let mut clock = RealClock::start(rt);
-    let gate = RealGate::start(rt, 3);
+    let stop = Arc::new(rt.alloc(), Stop::start())?;
+    let gate = RealGate::start(rt, 3, Arc::try_clone(&stop)?);
     let before = clock.now();
     gate.pass(BEFORE_TURN);
     gate.pass(BEFORE_UPKEEP);
@@ -433,6 +448,63 @@ fn a_clock_tells_the_time_and_a_gate_holds_upkeep(rt: HostRuntime) -> Result<(),
     let begun = Instant::now(&rt)?;
     gate.pass(BEFORE_UPKEEP);
     assert!(rt; begun.elapsed(&rt)? >= Duration::from_secs(3));
+    stop.ask();
+    let asked = Instant::now(&rt)?;
+    gate.pass(BEFORE_UPKEEP);
+    assert!(rt; asked.elapsed(&rt)? < Duration::from_secs(3));
     assert!(rt; before > 1_700_000_000 && clock.now() > before);
+    Ok(())
+}
+
+/// Whether a link that is to end gives what came first, and then its end.
+fn gives_what_came(link: &mut RealLink, peer: &mut UnixStream) -> bool {
+    let mut room = [0; 4];
+    let is_sent = peer.write_all(b"ab").is_ok();
+    let got = (link.receive(&mut room), link.receive(&mut room));
+    is_sent && got == (Received::Got(2), Received::End)
+}
+
+/// How many links a wait lists.
+fn count_listed(alloc: Global, ready: &mut RealReady) -> usize {
+    let mut numbers = Row::empty(alloc);
+    let _ = ready.wait(&mut numbers);
+    numbers.len()
+}
+
+/// Whether a wait lists no idle link, and lists it once a stop was asked for.
+fn lists_at_a_stop(alloc: Global, ready: &mut RealReady, stop: &Stop) -> bool {
+    let _ = count_listed(alloc, ready);
+    let before = count_listed(alloc, ready);
+    stop.ask();
+    before == 0 && count_listed(alloc, ready) == 1
+}
+
+/// Whether a link that is stalled fails after an urgent stop, and is at its end whatever its peer has sent.
+fn fails_where_urgent(link: &mut RealLink, peer: &mut UnixStream, stop: &Stop) -> bool {
+    let filled = fill(link);
+    stop.hurry();
+    let is_sent = peer.write_all(b"ab").is_ok();
+    let last = (link.try_send(b"x"), link.receive(&mut [0; 4]));
+    is_sent && filled == TrySent::Later && last == (TrySent::Failed, Received::End)
+}
+
+#[test]
+fn after_a_stop_links_and_their_listener_end(rt: HostRuntime) -> Result<(), Fail> {
+    let alloc = rt.alloc();
+    let path = path_of(&rt, "stop")?;
+    let stop = Arc::new(alloc, Stop::start())?;
+    let mut listener = bound(&rt, path.as_str())?;
+    listener.obey(Arc::try_clone(&stop)?);
+    let (mut ready, bell) = RealReady::start(&rt, alloc, &mut listener)?;
+    let mut peer = UnixStream::connect(&rt, path.as_str())?;
+    let mut link = next_link(&mut listener)?;
+    let is_idle = ready.add(7, &mut link).is_ok() && link.receive(&mut [0; 4]) == Received::Idle;
+    let is_listed = lists_at_a_stop(alloc, &mut ready, &stop);
+    let is_over = matches!(listener.accept(), Accepted::End);
+    let gives = gives_what_came(&mut link, &mut peer);
+    let fails = fails_where_urgent(&mut link, &mut peer, &stop);
+    drop((ready, bell, listener, link, peer));
+    let _ = fs::remove_file(&rt, path.as_str());
+    assert_eq!(rt; [is_idle, is_listed, is_over, gives, fails], [true; 5]);
     Ok(())
 }

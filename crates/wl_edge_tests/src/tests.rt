@@ -51,7 +51,7 @@ fn reads_to_the_end(rt: HostRuntime) -> Result<(), Fail> {
     Ok(())
 }
 
-/// Whether a read of the source fails, and not for want of memory.
+/// Whether a read of the source fails, and not for lack of memory.
 fn read_fails(alloc: Global, source: &mut MemorySource) -> Result<bool, ReadFault> {
     match read_all(alloc, source, 100) {
         Ok(_) => Ok(false),

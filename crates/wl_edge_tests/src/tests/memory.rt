@@ -1,4 +1,4 @@
-//! The things in memory: which calls fail or are put off, and what is told.
+//! The things in memory: which calls fail or are put off, and what is recorded.
 
 ghost use Rattle.std.specs.Prelude.{◌≡◌, [], Some, IfOk};
 
@@ -8,8 +8,8 @@ use std::test::Fail;
 use wl_edge::{
     AcceptKind, Accepted, Attestor, AttestorCall, BEFORE_TURN, Bell, Clock, EdgeFault, Gate, Heard,
     Link, LinkPlan, Listener, ListenerPlan, MemoryAttestor, MemoryBell, MemoryClock, MemoryLink,
-    MemoryListener, MemoryReady, MemorySigner, MemoryUpstream, OpenGate, PullCall, Ready, Received,
-    Script, Sent, Signer, SignerCall, TrySent, Upstream,
+    MemoryListener, MemoryReady, MemorySigner, MemoryUpstream, OpenGate, Origin, PullCall, Ready,
+    Received, Script, Sent, Signer, SignerCall, TrySent, Upstream,
 };
 use wl_entry::{Ask, JwtToken, Signed};
 use wl_octets::{Memory, Octets, Row};
@@ -34,7 +34,7 @@ fn pair<T: Drop>(alloc: Global, first: T, second: T) -> Result<Row<T>, Memory> {
     Ok(row)
 }
 
-/// What a call gave, or nothing where it failed. Want of memory stays a fault.
+/// What a call gave, or nothing where it failed. Out of memory stays a fault.
 fn value_unless_failed<T: Drop>(answer: Result<T, EdgeFault>) -> Result<Option<T>, EdgeFault> {
     match answer {
         Ok(value) => Ok(Some(value)),
@@ -164,16 +164,22 @@ fn attestor(alloc: Global) -> Result<MemoryAttestor, Fail> {
     Ok(MemoryAttestor::start(alloc, script))
 }
 
-/// How many selectors a caller over a socket has, or nothing where the call failed.
-fn count_of(attestor: &mut MemoryAttestor, socket: u32) -> Result<Option<usize>, EdgeFault> {
-    let selectors = value_unless_failed(attestor.attest(socket))?;
+/// The origin of what comes over the socket of this number.
+fn over(alloc: Global, socket: u32) -> Result<Origin, Fail> {
+    let selectors = one(alloc)?;
+    Ok(Origin::new(alloc, selectors, socket, None)?)
+}
+
+/// How many selectors a caller from there has, or nothing where the call failed.
+fn count_of(attestor: &mut MemoryAttestor, origin: &Origin) -> Result<Option<usize>, EdgeFault> {
+    let selectors = value_unless_failed(attestor.attest(origin))?;
     Ok(selectors.map(|set| set.as_slice().len()))
 }
 
-/// Whether the call of this number failed.
-fn is_failed(attestor: &MemoryAttestor, socket: u32, number: usize) -> bool {
+/// Whether the call of this number was for this origin, and failed.
+fn is_failed(attestor: &MemoryAttestor, origin: Origin, number: usize) -> bool {
     let failed = AttestorCall {
-        socket,
+        origin,
         answer: None,
     };
     attestor
@@ -187,10 +193,10 @@ fn an_attestor_gives_its_answers_in_turn(rt: HostRuntime) -> Result<(), Fail> {
     let mut attestor = attestor(rt.alloc())?;
     let mut counts = [None; 4];
     for (socket, count) in (0..4).zip(counts.iter_mut()) {
-        *count = count_of(&mut attestor, socket)?;
+        *count = count_of(&mut attestor, &over(rt.alloc(), socket)?)?;
     }
     assert_eq!(rt; counts, [Some(1), Some(0), None, Some(0)]);
-    assert!(rt; is_failed(&attestor, 2, 2));
+    assert!(rt; is_failed(&attestor, over(rt.alloc(), 2)?, 2));
     Ok(())
 }
 
@@ -202,7 +208,7 @@ fn upstream(alloc: Global) -> Result<MemoryUpstream, Memory> {
     Ok(MemoryUpstream::start(alloc, script))
 }
 
-/// Whether it tells of two pulls, of which the last put the document behind `a`.
+/// Whether it tells of two pulls, of which the last put the document after `a`.
 fn tells_pulls(alloc: Global, upstream: &MemoryUpstream) -> Result<bool, Memory> {
     let document = Octets::from_slice(alloc, b"{}")?;
     let last = PullCall {
@@ -260,7 +266,7 @@ fn gives(alloc: Global) -> Result<Row<Heard>, Memory> {
 /// A link that gives this, with room for six answers; its second receive fails.
 fn giving(alloc: Global) -> Result<MemoryLink, Memory> {
     let gives = gives(alloc)?;
-    let mut plan = LinkPlan::smooth(alloc, gives, 6, 0);
+    let mut plan = LinkPlan::smooth(alloc, Origin::nowhere(alloc)?, gives, 6, 0);
     plan.failing_receives = numbers(alloc, &[1])?;
     MemoryLink::start(alloc, plan)
 }
@@ -295,7 +301,7 @@ fn a_link_gives_its_pieces_in_parts(rt: HostRuntime) -> Result<(), Fail> {
 
 /// A link that takes two bytes at once and three in all; sendings are put off, and the fourth one fails.
 fn taking(alloc: Global) -> Result<MemoryLink, Memory> {
-    let mut plan = LinkPlan::smooth(alloc, Row::empty(alloc), 0, 3);
+    let mut plan = LinkPlan::smooth(alloc, Origin::nowhere(alloc)?, Row::empty(alloc), 0, 3);
     plan.stalling = numbers(alloc, &[0, 2])?;
     plan.failing_sends = numbers(alloc, &[3])?;
     plan.piece = 2;
@@ -329,7 +335,10 @@ fn listener(alloc: Global) -> Result<MemoryListener, Memory>
     ensures { IfOk result (λ l. ⟦<MemoryListener as Listener>⟧.told l ≡ Some (record { kinds = []; finished = [] })) }
 {
     let plan = ListenerPlan {
-        links: only(alloc, LinkPlan::smooth(alloc, gives(alloc)?, 9, 9))?,
+        links: only(
+            alloc,
+            LinkPlan::smooth(alloc, Origin::nowhere(alloc)?, gives(alloc)?, 9, 9),
+        )?,
         idle: numbers(alloc, &[1])?,
         failing: numbers(alloc, &[2])?,
         answers: 4,
@@ -372,7 +381,10 @@ fn a_listener_gives_and_takes_back(rt: HostRuntime) -> Result<(), Fail> {
 
 fn link(alloc: Global) -> Result<MemoryLink, Memory> {
     let gives = gives(alloc)?;
-    MemoryLink::start(alloc, LinkPlan::smooth(alloc, gives, 9, 9))
+    MemoryLink::start(
+        alloc,
+        LinkPlan::smooth(alloc, Origin::nowhere(alloc)?, gives, 9, 9),
+    )
 }
 
 /// A watcher whose third call fails.

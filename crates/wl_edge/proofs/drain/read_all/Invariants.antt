@@ -1,6 +1,6 @@
 use Rattle.std.proofs.Common.{◌≤◌, ◌<◌, ◌-◌, length}
 use Rattle.std.specs.Prelude.{vec_len}
-use Rattle.wl_edge.proofs.Reading.{Reading}
+use Rattle.wl_edge.proofs.Sources.{Reading}
 use Rattle.wl_edge.proofs.drain.read_all.Given as goal
 
 abbrev pub invariant-reads : goal.invariant-reads

@@ -1,5 +1,5 @@
 use Rattle.std.proofs.Common.{arith}
-use Rattle.wl_edge.proofs.Sending.{send_more}
+use Rattle.wl_edge.proofs.Sinks.{send_more}
 use Rattle.wl_edge.proofs.drain.write_all.Goals as goal
 
 pub sends-preserved : goal.sends-preserved

@@ -1,5 +1,5 @@
 use Rattle.std.proofs.Common.{◌≤◌, length}
-use Rattle.wl_edge.proofs.Sending.{Sending}
+use Rattle.wl_edge.proofs.Sinks.{Sending}
 use Rattle.wl_edge.proofs.drain.write_all.Given as goal
 
 abbrev pub invariant-sends : goal.invariant-sends

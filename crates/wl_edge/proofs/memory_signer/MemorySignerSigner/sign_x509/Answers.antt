@@ -1,4 +1,4 @@
-use Rattle.wl_edge.proofs.Telling.{told_call}
+use Rattle.wl_edge.proofs.RecordedCalls.{told_call}
 use Rattle.wl_edge.proofs.memory_signer.MemorySignerSigner.sign_x509.Goals as goal
 
 pub returns-clause-told : goal.returns-clause-told

@@ -1,4 +1,4 @@
-use Rattle.wl_edge.proofs.Telling.{told_pull}
+use Rattle.wl_edge.proofs.RecordedCalls.{told_pull}
 use Rattle.wl_edge.proofs.memory_upstream.MemoryUpstreamUpstream.pull.Goals as goal
 
 pub returns-in_ok-push-in-Some-clause-told : goal.returns-in_ok-push-in-Some-clause-told

@@ -1,4 +1,4 @@
--- Calls in memory that are told.
+-- Calls in memory that are recorded.
 use Rattle.std.specs.Prelude.{◌≡◌, ◌≤◌, ℕ, List, [], ◌∷◌, ◌++◌, length, Option, Some, None, Result, Ok}
 use Rattle.std.proofs.Common.{sym, ◌∙◌, ap, subst, arith}
 use Rattle.wl_edge.specs.Calls.{Answers, CallGives}
