@@ -11,7 +11,7 @@ use Rattle.wl_entry.specs.declared.signing.Signed.{Signed}
 use Rattle.wl_entry.specs.declared.tokens.JwtToken.{JwtToken}
 use Rattle.jwt_cache.specs.declared.rings.CachedToken.{CachedToken}
 use Rattle.wl_snapshot.specs.Snapshots.{Publication}
-use Rattle.wl_snapshot.specs.Views.{Sight, view_in}
+use Rattle.wl_snapshot.specs.Views.{ViewModel, view_in}
 use Rattle.wl_snapshot.specs.Answers.{answer_of, asks_of}
 use Rattle.wl_snapshot.specs.declared.answers.Answer.{Answer}
 use Rattle.wl_snapshot.specs.declared.answers.Answer.TheVariants.{Denied, Wait, TooLong, Message}
@@ -43,7 +43,7 @@ use Rattle.wl_core.specs.Seats.{seat_at, joined_seat, named_seat, told_seat, fee
 use Rattle.wl_core.specs.Tokens.{kept_token, outcome_of}
 use Rattle.wl_core.specs.Moments.{Moment, reading_of, after_reading, signed_with, failed_with, flight_in, answer_ask, token_seat, moment_after}
 use Rattle.wl_core.specs.Worlds.{Holds, WorksOn}
-use Rattle.wl_session.proofs.Attesting.{first_here, first_later, first_of_none, left_among, none_left, left_none, names_leave_none}
+use Rattle.wl_session.proofs.Attestations.{first_here, first_later, first_of_none, left_among, none_left, left_none, names_leave_none}
 
 -- ---- no call is left without a name
 
@@ -57,7 +57,7 @@ left_append : (xs ys : List ServedCall) → left_among xs ≡ 0 → left_among y
 left_append [] ys none others = others
 left_append (x ∷ xs) ys none others = left_front x.stream x.stage xs ys (λ is. left_append xs ys is others) none
 
-stream_left : (n : ℕ) (method : Method3) (sel : List (List ℕ)) (v : Sight) (headed : Bool) (a : Answer) (p : Phase) → left_among (stream_answer n method sel v headed a p).kept ≡ 0
+stream_left : (n : ℕ) (method : Method3) (sel : List (List ℕ)) (v : ViewModel) (headed : Bool) (a : Answer) (p : Phase) → left_among (stream_answer n method sel v headed a p).kept ≡ 0
 stream_left n method sel v headed Denied p = refl
 stream_left n method sel v headed Wait p = refl
 stream_left n method sel v headed (TooLong size) p = refl
@@ -71,14 +71,14 @@ ended_left : (b : Bool) (p q : Phase) → left_among (if b then has_ended p else
 ended_left true p q = refl
 ended_left false p q = refl
 
-answer_left : (n : ℕ) (kind : CallKind) (sel : List (List ℕ)) (headed : Bool) (v : Sight) (p : Phase) → left_among (call_answer n kind sel headed v p).kept ≡ 0
+answer_left : (n : ℕ) (kind : CallKind) (sel : List (List ℕ)) (headed : Bool) (v : ViewModel) (p : Phase) → left_among (call_answer n kind sel headed v p).kept ≡ 0
 unfolding call_answer
 answer_left n (Stream method) sel headed v p = stream_left n method sel v headed (answer_of method v) p
 answer_left n (Tokens audience id) sel headed v p = token_left n headed audience (asks_of id v) p
 answer_left n (Check service) sel headed v p = ended_left _ _ _
 answer_left n (Watch service) sel headed v p = refl
 
-new_left : (b : Bool) (n : ℕ) (kind : CallKind) (sel : List (List ℕ)) (seen : Option Sight) (headed : Bool) (v : Sight) (p : Phase)
+new_left : (b : Bool) (n : ℕ) (kind : CallKind) (sel : List (List ℕ)) (seen : Option ViewModel) (headed : Bool) (v : ViewModel) (p : Phase)
     → left_among (if b then goes_on n (Ready kind sel seen headed) p else call_answer n kind sel headed v p).kept ≡ 0
 new_left true n kind sel seen headed v p = refl
 new_left false n kind sel seen headed v p = answer_left n kind sel headed v p

@@ -9,7 +9,7 @@ use Rattle.wl_core.specs.declared.seats.Seat.{Seat}
 use Rattle.wl_session.specs.Steps.{IsTold, Told}
 use Rattle.wl_core.specs.Seats.{seat_at, joined_seat, named_seat}
 use Rattle.wl_core.specs.Lines.{join_lines, caller_line, name_lines, told_lines, out_lines, failure_lines}
-use Rattle.wl_core.proofs.Telling.{seat_set, seat_left, seat_said, told_said, told_lines_of}
+use Rattle.wl_core.proofs.CallAnswers.{seat_set, seat_left, seat_said, told_said, told_lines_of}
 
 -- one connection more on which there is no session
 pub one_more : (none : Option Seat) (n : ℕ) → replicate n none ++ none ∷ [] ≡ replicate (n + 1) none

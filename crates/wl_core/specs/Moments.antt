@@ -82,7 +82,7 @@ after_no_identity n m = failed_with (flight_in n m) n m
 
 -- ---- the sessions
 
--- a session does as it is told
+-- a session does what it is to do
 abbrev pub with_told : ℕ → (Seat → Told) → List (Option Seat) → List (Option Seat)
 with_told conn tell seats = slice_set seats conn (told_seat tell (seat_at seats conn))
 

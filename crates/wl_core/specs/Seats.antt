@@ -25,7 +25,7 @@ abbrev pub named_seat : Option (List (List ℕ)) → Option Seat → Option Seat
 named_seat caller None = None
 named_seat caller (Some seat) = Some (record { caller = caller; session = seat.session })
 
--- what a session is told to do, where there is one
+-- what a session is to do, where there is one
 abbrev pub told_seat : (Seat → Told) → Option Seat → Option Seat
 told_seat tell None = None
 told_seat tell (Some seat) = Some (with_session (tell seat).after seat)

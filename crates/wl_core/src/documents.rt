@@ -84,7 +84,7 @@ fn read(alloc: Global, manager: &mut Keeper, document: &[u8]) -> Result<Row<Octe
 }
 
 /// The upstream authority gives a document.
-#[tactic(auto, using(crate::proofs::Reading::read_stored, crate::proofs::Reading::read_history, crate::proofs::Reading::read_said, crate::proofs::Reading::fault_is, crate::proofs::Reading::refused_stored, crate::proofs::Reading::refused_history, crate::proofs::Reading::refused_said, crate::proofs::Reading::untouched))]
+#[tactic(auto, using(crate::proofs::StoreSteps::read_stored, crate::proofs::StoreSteps::read_history, crate::proofs::StoreSteps::read_said, crate::proofs::StoreSteps::fault_is, crate::proofs::StoreSteps::refused_stored, crate::proofs::StoreSteps::refused_history, crate::proofs::StoreSteps::refused_said, crate::proofs::StoreSteps::untouched))]
 pub fn sync(alloc: Global, manager: &mut Keeper, document: &[u8]) -> Result<Stepped, Memory>
     ensures stored { OnOk result (manager.new.stored ≡ after_document document.now manager.old.stored) }
     ensures history { (history : List CachedToken) → StandsFor manager.old.tokens history
@@ -105,7 +105,7 @@ pub fn sync(alloc: Global, manager: &mut Keeper, document: &[u8]) -> Result<Step
     }
 }
 
-/// That a document was refused; want of memory is no fault of its own.
+/// That a document was refused; out of memory is no fault of its own.
 fn refused_lines(alloc: Global, fault: DocFault) -> Result<Row<Line>, Memory>
     ensures named { IfOk result (λ l. fault ≢ DocFault.Memory) }
     ensures lines { IfOk result (λ l. l ≡ Line.Refused fault ∷ []) }
@@ -247,7 +247,7 @@ fn install(
 }
 
 /// A ticket comes back with a signed identity.
-#[tactic(auto, using(crate::proofs::Reading::flies, crate::proofs::Reading::identity_stored, crate::proofs::Reading::identity_said, crate::proofs::Reading::spent_stored, crate::proofs::Reading::spent_said, crate::proofs::Reading::untouched))]
+#[tactic(auto, using(crate::proofs::StoreSteps::flies, crate::proofs::StoreSteps::identity_stored, crate::proofs::StoreSteps::identity_said, crate::proofs::StoreSteps::spent_stored, crate::proofs::StoreSteps::spent_said, crate::proofs::StoreSteps::untouched))]
 pub fn signed(
     alloc: Global,
     manager: &mut Keeper,
@@ -276,7 +276,7 @@ pub fn signed(
 }
 
 /// A ticket comes back without one.
-#[tactic(auto, using(crate::proofs::Reading::flies, crate::proofs::Reading::failed_stored, crate::proofs::Reading::failed_said, crate::proofs::Reading::none_stored, crate::proofs::Reading::none_said))]
+#[tactic(auto, using(crate::proofs::StoreSteps::flies, crate::proofs::StoreSteps::failed_stored, crate::proofs::StoreSteps::failed_said, crate::proofs::StoreSteps::none_stored, crate::proofs::StoreSteps::none_said))]
 pub fn failed(alloc: Global, manager: &mut Keeper, number: u64) -> Result<Row<Line>, Memory>
     ensures stored { OnOk result (manager.new.stored ≡ after_no_identity number manager.old.stored) }
     ensures tokens { OnOk result (manager.new.tokens ≡ manager.old.tokens) }

@@ -65,7 +65,7 @@ pub fn one_line(alloc: Global, line: Line) -> Result<Row<Line>, Memory>
 /// Appends lines; out of memory, a prefix of them was appended.
 pub fn say_all(said: &mut Row<Line>, lines: Row<Line>) -> Result<(), Memory>
     ensures ok { OnOk result (said.new ≡ said.old ++ lines) }
-    ensures front { GainsFront lines said.old said.new }
+    ensures prefix { GainsFront lines said.old said.new }
 {
     for line in lines.into_vec() {
         said.push(line)?;

@@ -53,7 +53,7 @@ fn take_turn(
 
 impl Seat {
     /// The caller's bytes; each call that is ready after them is attested.
-    #[tactic(auto, using(crate::proofs::Telling::fed_well, crate::proofs::Telling::fed_badly))]
+    #[tactic(auto, using(crate::proofs::CallAnswers::fed_well, crate::proofs::CallAnswers::fed_badly))]
     pub fn feed(&mut self, alloc: Global, piece: &[u8], out: &mut Octets) -> Result<(), Memory>
         ensures told { OnOk result (IsTold (feed_seat piece.now self.old) self.new.session out.old out.new) }
         ensures caller { self.new.caller ≡ self.old.caller }
@@ -69,7 +69,7 @@ impl Seat {
     }
 
     /// A turn on a publication.
-    #[tactic(auto, using(crate::proofs::Telling::turned_well, crate::proofs::Telling::turned_badly))]
+    #[tactic(auto, using(crate::proofs::CallAnswers::turned_well, crate::proofs::CallAnswers::turned_badly))]
     pub fn turn(
         &mut self,
         snapshot: &Snapshot,
@@ -92,7 +92,7 @@ impl Seat {
     }
 
     /// The first waiting ask gets this outcome.
-    #[tactic(auto, using(crate::proofs::Telling::given_well))]
+    #[tactic(auto, using(crate::proofs::CallAnswers::given_well))]
     pub fn give(&mut self, outcome: JwtOutcome, out: &mut Octets) -> Result<(), Memory>
         requires { IsSome (asks_in self.old.session) }
         ensures told { OnOk result (IsTold (outcome_told outcome self.old.session) self.new.session out.old out.new) }
@@ -105,7 +105,7 @@ impl Seat {
     }
 
     /// How many messages began. It takes no memory.
-    #[tactic(auto, using(crate::proofs::Counting::began_is))]
+    #[tactic(auto, using(crate::proofs::WideCounts::began_is))]
     pub fn begun(&self) -> u64
         ensures { HasMemory self.now.session → result ≡ begun_in self.now.session }
     {
@@ -227,7 +227,7 @@ impl Seats {
     }
 
     /// Bytes come from the caller.
-    #[tactic(auto, using(crate::proofs::Telling::told_set, crate::proofs::Telling::none_set, crate::proofs::Rooms::absent_said, crate::proofs::Rooms::written_said))]
+    #[tactic(auto, using(crate::proofs::CallAnswers::told_set, crate::proofs::CallAnswers::none_set, crate::proofs::Rooms::absent_said, crate::proofs::Rooms::written_said))]
     pub fn feed(&mut self, alloc: Global, conn: u32, piece: &[u8]) -> Result<Row<Line>, Memory>
         requires { conn < length self.old.seats.items }
         ensures seats { OnOk result (self.new.seats.items ≡ with_told conn (feed_seat piece.now) self.old.seats.items) }
@@ -252,7 +252,7 @@ impl Seats {
     }
 
     /// The caller's calls are answered from a publication.
-    #[tactic(auto, using(crate::proofs::Telling::told_set, crate::proofs::Telling::none_set, crate::proofs::Rooms::absent_said, crate::proofs::Rooms::written_said))]
+    #[tactic(auto, using(crate::proofs::CallAnswers::told_set, crate::proofs::CallAnswers::none_set, crate::proofs::Rooms::absent_said, crate::proofs::Rooms::written_said))]
     pub fn turn(
         &mut self,
         alloc: Global,

@@ -46,7 +46,7 @@ fn turn(
 
 /// Takes an event, and tells what came of it. A turn of a session that is not marked makes no view, unless a call of it
 /// is new.
-#[tactic(auto, using(crate::proofs::Holding::sync_steps, crate::proofs::Holding::claim_steps, crate::proofs::Holding::signed_steps, crate::proofs::Holding::failed_steps, crate::proofs::Holding::join_steps, crate::proofs::Holding::name_steps, crate::proofs::Holding::feed_steps, crate::proofs::Holding::turn_steps, crate::proofs::Holding::token_steps, crate::proofs::Holding::close_steps, crate::proofs::Reading::untouched, crate::proofs::Reading::failed_untouched))]
+#[tactic(auto, using(crate::proofs::AfterEvents::sync_steps, crate::proofs::AfterEvents::claim_steps, crate::proofs::AfterEvents::signed_steps, crate::proofs::AfterEvents::failed_steps, crate::proofs::AfterEvents::join_steps, crate::proofs::AfterEvents::name_steps, crate::proofs::AfterEvents::feed_steps, crate::proofs::AfterEvents::turn_steps, crate::proofs::AfterEvents::token_steps, crate::proofs::AfterEvents::close_steps, crate::proofs::StoreSteps::untouched, crate::proofs::StoreSteps::failed_untouched))]
 pub fn step(
     alloc: Global,
     manager: &mut Manager<Free>,

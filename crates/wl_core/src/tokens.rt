@@ -24,7 +24,7 @@ use wl_session::{JwtAsk, JwtOutcome};
 type Keeper = Manager<Free>;
 
 /// A token that was given for an ask is offered to the manager, and goes to the ask where it is fit.
-#[tactic(auto, using(crate::proofs::Keeping::keeps_by))]
+#[tactic(auto, using(crate::proofs::TokenKeeps::keeps_by))]
 fn offer(
     alloc: Global,
     manager: &mut Keeper,
@@ -46,7 +46,7 @@ fn offer(
 }
 
 /// The kept token of an ask, or else the one that is given.
-#[tactic(auto, using(crate::proofs::Keeping::outcome_kept, crate::proofs::Keeping::outcome_failed, crate::proofs::Keeping::outcome_given, crate::proofs::Keeping::history_found))]
+#[tactic(auto, using(crate::proofs::TokenKeeps::outcome_kept, crate::proofs::TokenKeeps::outcome_failed, crate::proofs::TokenKeeps::outcome_given, crate::proofs::TokenKeeps::history_found))]
 fn outcome_of(
     alloc: Global,
     manager: &mut Keeper,
@@ -73,7 +73,7 @@ fn outcome_of(
 }
 
 /// The first waiting ask of a session gets a token, or none.
-#[tactic(auto, using(crate::proofs::Keeping::none_told, crate::proofs::Keeping::none_said, crate::proofs::Keeping::some_told, crate::proofs::Keeping::some_said, crate::proofs::Keeping::answers_found))]
+#[tactic(auto, using(crate::proofs::TokenKeeps::none_told, crate::proofs::TokenKeeps::none_said, crate::proofs::TokenKeeps::some_told, crate::proofs::TokenKeeps::some_said, crate::proofs::TokenKeeps::answers_found))]
 fn answer(
     alloc: Global,
     manager: &mut Keeper,
@@ -107,7 +107,7 @@ fn answer(
 }
 
 /// The signer answers the first waiting ask of a connection with a token, or with none.
-#[tactic(auto, using(crate::proofs::Telling::told_set, crate::proofs::Telling::none_set, crate::proofs::Keeping::token_lines_of, crate::proofs::Keeping::token_history_of))]
+#[tactic(auto, using(crate::proofs::CallAnswers::told_set, crate::proofs::CallAnswers::none_set, crate::proofs::TokenKeeps::token_lines_of, crate::proofs::TokenKeeps::token_history_of))]
 pub fn token(
     alloc: Global,
     manager: &mut Keeper,

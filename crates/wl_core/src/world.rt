@@ -103,7 +103,7 @@ fn take(
         → IfOk result (λ n. n ≡ counted (octets_of (lines_at event m))) }
     ensures said { (m : Moment) → Holds manager.old seats.old.seats.items seats.old.begun_before m
         → OnOk result (said.new ≡ said.old ++ lines_at event m) }
-    ensures front { (m : Moment) → Holds manager.old seats.old.seats.items seats.old.begun_before m
+    ensures prefix { (m : Moment) → Holds manager.old seats.old.seats.items seats.old.begun_before m
         → GainsFront (lines_at event m) said.old said.new }
 {
     fits(seats.begun_before);
@@ -118,7 +118,7 @@ fn take(
 
 impl World {
     /// No caller has come yet.
-    #[tactic(auto, using(crate::proofs::Holding::begins_well))]
+    #[tactic(auto, using(crate::proofs::AfterEvents::begins_well))]
     fn begin(alloc: Global, manager: Manager<Free>) -> Result<World, Memory>
         requires { rings.StandsFor manager.tokens [] }
         ensures { IfOk result
@@ -136,7 +136,7 @@ impl World {
 
     /// A world that begins with a document, in which no caller has come yet. The first check of the document that fails is
     /// the fault.
-    #[tactic(auto, using(crate::proofs::Holding::begins))]
+    #[tactic(auto, using(crate::proofs::AfterEvents::begins))]
     pub fn start(alloc: Global, document: &[u8]) -> Result<World, DocFault>
         ensures ok { IfOk result
             (λ w. IsOkAnd (document_state None document.now)
@@ -149,7 +149,7 @@ impl World {
     }
 
     /// As `start`, and the store is strict for good.
-    #[tactic(auto, using(crate::proofs::Holding::begins))]
+    #[tactic(auto, using(crate::proofs::AfterEvents::begins))]
     pub fn start_strict(alloc: Global, document: &[u8]) -> Result<World, DocFault>
         ensures ok { IfOk result
             (λ w. IsOkAnd (document_state None document.now)
@@ -163,14 +163,14 @@ impl World {
 
     /// Takes an event, and appends what is to be said of it. Out of memory, a prefix of that was appended, and the world has
     /// failed for good.
-    #[tactic(auto, using(crate::proofs::Standing::stands_on, list_laws::proofs::Fronts::gains_nothing))]
+    #[tactic(auto, using(crate::proofs::WorldEvents::stands_on, list_laws::proofs::Fronts::gains_nothing))]
     pub fn apply(&mut self, event: Event, said: &mut Row<Line>) -> Result<(), Memory>
         requires { IsWithin event }
         ensures stands { (d : Beginning) (past : List Event) → StandsFor self.old d past
             → OnOk result (StandsFor self.new d (event ∷ past)) }
         ensures said { (d : Beginning) (past : List Event) → StandsFor self.old d past
             → OnOk result (said.new ≡ said.old ++ says d past event) }
-        ensures front { (d : Beginning) (past : List Event) → StandsFor self.old d past
+        ensures prefix { (d : Beginning) (past : List Event) → StandsFor self.old d past
             → GainsFront (says d past event) said.old said.new }
         ensures failed { OnErr result (self.new.has_failed ≡ true) }
         ensures again { self.old.has_failed ≡ true
@@ -205,7 +205,7 @@ impl World {
         ensures said { (d : Beginning) (past : List Event) (before : List Line) → StandsFor self.old d past
             → said.old ≡ before ++ transcript d past
             → OnOk result (StandsFor self.new d (onto events past) × (said.new ≡ before ++ transcript d (onto events past))) }
-        ensures front { (d : Beginning) (past : List Event) → StandsFor self.old d past
+        ensures prefix { (d : Beginning) (past : List Event) → StandsFor self.old d past
             → GainsFront (says_all d past events) said.old said.new }
         ensures failed { OnErr result (self.new.has_failed ≡ true) }
     {
@@ -216,7 +216,7 @@ impl World {
     }
 
     /// What it has done so far. It takes no memory.
-    #[tactic(auto, using(crate::proofs::Standing::counts_are, crate::proofs::Standing::has_memory))]
+    #[tactic(auto, using(crate::proofs::WorldEvents::counts_are, crate::proofs::WorldEvents::has_memory))]
     pub fn counts(&self) -> Counts
         ensures { (d : Beginning) (past : List Event) → StandsFor self.now d past
             → result ≡ counts_of d past }

@@ -26,7 +26,7 @@ fn start(alloc: Global, document: &[u8], is_strict: bool) -> Result<World, Fail>
     }
 }
 
-/// The lines in words, with a newline behind each.
+/// The lines in words, with a newline after each.
 fn text_of(alloc: Global, lines: &[Line]) -> Result<String, Fail> {
     let mut text = String::new(alloc);
     for line in lines {

@@ -5,9 +5,9 @@
 #![tactic(auto)]
 
 mod desk;
-mod editions;
+mod published_snapshots;
 mod settle;
 mod tokens;
 
 pub use desk::Desk;
-pub use editions::last_edition;
+pub use published_snapshots::last_snapshot;

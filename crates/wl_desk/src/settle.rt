@@ -8,7 +8,7 @@ ghost use Rattle.wl_publish.specs.Listings.{listing};
 ghost use Rattle.wl_desk.specs.Desks.{Follows, grown, noted};
 
 use crate::desk::Desk;
-use crate::editions::edition_of;
+use crate::published_snapshots::published_snapshot_of;
 use std::alloc::Global;
 use std::sync::Wait;
 use wl_entry::Voucher;
@@ -38,18 +38,18 @@ impl<V: Voucher> Desk<V> {
         ensures rest { (self.new.store ≡ self.old.store) × (self.new.seats ≡ self.old.seats) }
         ensures err { OnErr result (self.new ≡ self.old) }
     {
-        let edition = match edition_of(alloc, &prepared) {
-            Ok(edition) => edition,
+        let published_snapshot = match published_snapshot_of(alloc, &prepared) {
+            Ok(published_snapshot) => published_snapshot,
             Err(Memory) => {
                 prepared.abandon();
                 return Err(Memory);
             }
         };
-        let Some(edition) = edition else {
+        let Some(published_snapshot) = published_snapshot else {
             let adopted = self.manager.adopt(prepared);
             return Ok((adopted, None));
         };
-        match self.publisher.publish(rt, edition) {
+        match self.publisher.publish(rt, published_snapshot) {
             Ok(note) => {
                 let adopted = self.manager.adopt(prepared);
                 Ok((adopted, Some(note)))

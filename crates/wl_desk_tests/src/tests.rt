@@ -7,7 +7,7 @@ mod readers;
 
 use std::alloc::{AllocError, Global};
 use std::sync::Wait;
-use wl_desk::{Desk, last_edition};
+use wl_desk::{Desk, last_snapshot};
 use wl_entry::{Free, Signed};
 use wl_manager::Manager;
 use wl_octets::{Memory, Octets, Row};
@@ -50,7 +50,7 @@ fn open<R: Wait>(rt: &R, alloc: Global, places: u32) -> Result<(Desk<Free>, Row<
         Ok(manager) => manager,
         Err(_) => return Err(Stop::Document),
     };
-    let first = last_edition(alloc, &manager)?;
+    let first = last_snapshot(alloc, &manager)?;
     let (publisher, passes) = start(rt, alloc, first, places)?;
     Ok((Desk::start(manager, publisher, places), passes))
 }

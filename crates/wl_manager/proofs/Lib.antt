@@ -1,2 +1,2 @@
-pub mod Forgetting
-pub mod Vouching
+pub mod DroppedTokens
+pub mod Vouchers

@@ -142,14 +142,14 @@ module _ {T : Type 0} (valid : Ask → Signed → Type 0) (book : T → Book) (l
         fits = fits_snoc (book x) (list x) (set places place v) v set_kept.fits fit;
       }
 
-  -- a new reader takes in what it is told
+  -- a new reader takes in what it is given
   pub starts : (v w : Knowledge) (place other : ℕ) → Merges Holds place v other w w newcomer
   starts v w place other x places kept at apart there =
       let told : Fits (book x) (list x) w = ⊎_elim (λ (here : (other ≡ place) × (w ≡ w)). absurd (apart here.0)) (λ (far : (other ≢ place) × (get_elem? places other ≡ some w)). kept.fits other w far.1) (at_set places place other w w there) in
       sets x (set places place w) other newcomer (sets x places place w kept told) (fits_newcomer (book x) (list x))
 
 -- what is shown after one operation is what it says
-pub shown_is : (old : Publication × Listing) (ops : List Current) (next op : Current) → ops ≡ op ∷ [] → ◌≡◌ {A = Publication × Listing} (next.edition, next.prefix) (fold (λ (s : Publication × Listing) (n : Current). (n.edition, n.prefix)) old ops) → (next.edition ≡ op.edition) × (next.prefix ≡ op.prefix)
+pub shown_is : (old : Publication × Listing) (ops : List Current) (next op : Current) → ops ≡ op ∷ [] → ◌≡◌ {A = Publication × Listing} (next.published_snapshot, next.prefix) (fold (λ (s : Publication × Listing) (n : Current). (n.published_snapshot, n.prefix)) old ops) → (next.published_snapshot ≡ op.published_snapshot) × (next.prefix ≡ op.prefix)
 shown_is old ops next op one is =
-    let e : ◌≡◌ {A = Publication × Listing} (next.edition, next.prefix) (op.edition, op.prefix) = subst (λ (l : List Current). ◌≡◌ {A = Publication × Listing} (next.edition, next.prefix) (fold (λ (s : Publication × Listing) (n : Current). (n.edition, n.prefix)) old l)) one is in
+    let e : ◌≡◌ {A = Publication × Listing} (next.published_snapshot, next.prefix) (op.published_snapshot, op.prefix) = subst (λ (l : List Current). ◌≡◌ {A = Publication × Listing} (next.published_snapshot, next.prefix) (fold (λ (s : Publication × Listing) (n : Current). (n.published_snapshot, n.prefix)) old l)) one is in
     (ap (λ p. p.0) e, ap (λ p. p.1) e)

@@ -1,4 +1,4 @@
 mod Prefixes
 mod Numbers
-mod Adding
+mod Additions
 mod Keeps

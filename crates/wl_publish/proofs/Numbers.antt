@@ -40,7 +40,7 @@ has_last : (before : List Publication) (p : Publication) → HasNumber (before +
 has_last [] p = inl refl
 has_last (q ∷ before) p = inr (has_last before p)
 
--- the number that was read last goes behind those that were read before
+-- the number that was read last goes after those that were read before
 pub mine_more : (n : ℕ) (seen list : List Publication) (mine : List ℕ) (p : Publication) → NumberedFrom n list → IsLast list p → IsPrefix seen list → IsMine seen mine → IsMine list (mine ++ p.number ∷ [])
 mine_more n seen list mine p h last pre is =
     let grown = all_such (HasNumber seen) (HasNumber list) mine (λ m has. has_more seen list m pre has) is.1 in

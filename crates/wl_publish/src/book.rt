@@ -5,7 +5,7 @@ ghost use mathlib.Core.List.{IsPrefix};
 ghost use Rattle.wl_publish.specs.Books.{head_of};
 ghost use Rattle.wl_publish.specs.Listings.{listing};
 
-use crate::edition::Edition;
+use crate::published_snapshot::PublishedSnapshot;
 use logbook::{Gain, Offer, Plain, Play, Rule, Seen, Start, Word};
 use std::marker::Model;
 use wl_snapshot::Snapshot;
@@ -49,12 +49,12 @@ impl Play<Snapshot, u64> for Add {
     ghost then = { Adds };
 }
 
-impl Plain<Edition, Snapshot, u64> for Add {
+impl Plain<PublishedSnapshot, Snapshot, u64> for Add {
     ghost use Rattle.std.specs.Prelude.{None};
 
-    ghost ask = { λ edition. edition };
+    ghost ask = { λ published_snapshot. published_snapshot };
 
-    ghost state = { λ edition. None };
+    ghost state = { λ published_snapshot. None };
 }
 
 /// The word that counts the publications.
@@ -120,7 +120,7 @@ impl Prefix {
     }
 
     /// Adds a publication to the book, and says whether it did. It does not where the book is longer, or full.
-    pub fn add(&mut self, head: &Head, next: &Edition) -> bool
+    pub fn add(&mut self, head: &Head, next: &PublishedSnapshot) -> bool
         requires head { head.now ≡ head_of self.old.store }
         ensures { MatchBool result (self.new ≡ listing self.old.store (self.old.list ++ next.now ∷ []))
             (self.new ≡ self.old) }
@@ -130,9 +130,11 @@ impl Prefix {
             return false;
         };
         let mut seen = self.seen.again();
-        let mut offer: Offer<Snapshot, u64, OneList, Nothing> = seen.plain::<Nothing, Edition, Add>(
-            next,
-        );
+        let mut offer: Offer<Snapshot, u64, OneList, Nothing> = seen.plain::<
+            Nothing,
+            PublishedSnapshot,
+            Add,
+        >(next);
         let mut pen = seen.no_pen();
         let found = head.compare_exchange::<Add, Nothing>(
             count, more, &mut seen, &mut offer, &mut pen,

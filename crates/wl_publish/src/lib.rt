@@ -5,12 +5,12 @@
 #![tactic(auto)]
 
 mod book;
-mod edition;
 mod pass;
+mod published_snapshot;
 mod publisher;
 mod rule;
 mod steps;
 
-pub use edition::Edition;
 pub use pass::{Note, Pass};
+pub use published_snapshot::PublishedSnapshot;
 pub use publisher::{Publisher, start};

@@ -1,4 +1,4 @@
-//! Readers, and what they are told.
+//! Readers, and what they are given.
 
 ghost use Rattle.std.specs.Prelude.{◌≡◌, ◌⊎◌, [], true, MatchResult};
 ghost use mathlib.Core.List.{IsPrefix};
@@ -11,7 +11,7 @@ ghost use Rattle.wl_publish.specs.History.{book_of, knowing, Took};
 ghost use Rattle.wl_publish.specs.Reading.{Reads, ReadsAfter};
 
 use crate::book::Prefix;
-use crate::edition::Edition;
+use crate::published_snapshot::PublishedSnapshot;
 use crate::rule::OwnReader;
 use crate::steps;
 use core::mem::replace_with;
@@ -81,14 +81,14 @@ impl<V: Voucher> Model for Pass<V> {
     ghost invariant = { λ p. ((known_at p.held.reader.place).known ≡ true)
         × (book_of (known_at p.held.reader.place) ≡ p.told.store)
         × IsMine (known_at p.held.reader.place).seen (known_at p.held.reader.place).mine
-        × (p.held.own.prefix.store ≡ p.told.store) × IsLast p.held.own.prefix.list p.held.own.edition };
+        × (p.held.own.prefix.store ≡ p.told.store) × IsLast p.held.own.prefix.list p.held.own.published_snapshot };
 }
 
 impl<V: Voucher> Pass<V> {
     /// A pass that has seen and was told the list of this prefix, and has read nothing.
     pub(crate) fn new(held: OwnReader<V>, told: Prefix) -> Pass<V>
         requires known { known_at held.reader.place ≡ knowing told.store told.list [] }
-        requires own { (held.own.prefix.store ≡ told.store) × IsLast held.own.prefix.list held.own.edition }
+        requires own { (held.own.prefix.store ≡ told.store) × IsLast held.own.prefix.list held.own.published_snapshot }
         ensures { result ≡ passing told.store told.list [] told.list }
     {
         Pass { held, told }
@@ -96,22 +96,22 @@ impl<V: Voucher> Pass<V> {
 
     /// The last publication, with the index of its entries; the numbers that were read grow by its number. It waits for
     /// nobody. At `Memory` the pass is as before, or as after a read whose answer could not be shared.
-    pub fn read(&mut self) -> Result<Edition, Memory>
+    pub fn read(&mut self) -> Result<PublishedSnapshot, Memory>
         ensures { MatchResult result (λ s. ReadsAfter V.signed self.old s self.new)
             (λ _. (self.new ≡ self.old) ⊎ ((s : Publication) × Reads V.signed self.old s self.new)) }
     {
         replace_with(
             &mut self.held,
             &self.told,
-            |held: OwnReader<V>, told: &Prefix| -> (OwnReader<V>, Result<Edition, Memory>)
+            |held: OwnReader<V>, told: &Prefix| -> (OwnReader<V>, Result<PublishedSnapshot, Memory>)
                 requires known { ((known_at held.reader.place).known ≡ true)
                     × (book_of (known_at held.reader.place) ≡ told.now.store) }
                 requires own { (held.own.prefix.store ≡ told.now.store)
-                    × IsLast held.own.prefix.list held.own.edition }
+                    × IsLast held.own.prefix.list held.own.published_snapshot }
                 ensures store { ((known_at result.0.reader.place).known ≡ true)
                     × (book_of (known_at result.0.reader.place) ≡ told.now.store) }
                 ensures own { (result.0.own.prefix.store ≡ told.now.store)
-                    × IsLast result.0.own.prefix.list result.0.own.edition }
+                    × IsLast result.0.own.prefix.list result.0.own.published_snapshot }
                 ensures read { MatchResult result.1
                     (λ s. Took V.signed (known_at held.reader.place) s (known_at result.0.reader.place)
                     × IsPrefix told.now.list (known_at result.0.reader.place).seen)

@@ -8,8 +8,8 @@ ghost use Rattle.wl_publish.specs.History.{knowing};
 ghost use Rattle.wl_publish.specs.Listings.{listing, passing, EndsWith};
 
 use crate::book::{Head, Prefix, open_book};
-use crate::edition::Edition;
 use crate::pass::{Note, Pass};
+use crate::published_snapshot::PublishedSnapshot;
 use crate::rule::{Current, ListWriter, OwnReader};
 use crate::steps;
 use core::mem::replace_with;
@@ -39,7 +39,7 @@ impl<V: Voucher> Model for Publisher<V> {
 
     ghost invariant = { λ p. (p.head ≡ head_of p.prefix.store)
         × (p.writer.desk.shown.value.prefix ≡ p.prefix)
-        × IsLast p.prefix.list p.writer.desk.shown.value.edition
+        × IsLast p.prefix.list p.writer.desk.shown.value.published_snapshot
         × (drop p.writer.behind p.writer.log.items ≡ []) × Legal V.signed p.prefix.list };
 }
 
@@ -52,14 +52,18 @@ impl<V: Voucher> Publisher<V> {
         ensures same { self.new ≡ self.old }
     {
         Ok(Note::new(
-            self.writer.published().edition.snapshot().number,
+            self.writer.published().published_snapshot.snapshot().number,
             self.prefix.again(),
         ))
     }
 
     /// Publishes the next publication, whose number is one above the last. It may wait for readers that are reading an
     /// older one. At `Err` it comes back, and the list is as before.
-    pub fn publish<R: Wait>(&mut self, rt: &R, next: Edition) -> Result<Note<V>, (Edition, Memory)>
+    pub fn publish<R: Wait>(
+        &mut self,
+        rt: &R,
+        next: PublishedSnapshot,
+    ) -> Result<Note<V>, (PublishedSnapshot, Memory)>
         requires number { (last : ℕ) × EndsWith self.old.list last × (next.number ≡ last + 1) }
         requires vouched { IsVouched V.signed next }
         ensures { MatchResult result
@@ -71,7 +75,7 @@ impl<V: Voucher> Publisher<V> {
             return Err((next, Memory));
         }
         let current = Current {
-            edition: next,
+            published_snapshot: next,
             prefix: self.prefix.again(),
         };
         replace_with(&mut self.writer, current, |writer, current| {
@@ -110,7 +114,7 @@ fn passes<V: Voucher>(
     places: u32,
 ) -> Result<Row<Pass<V>>, Memory>
     requires known { known_at writer.old.desk.place ≡ knowing prefix.now.store prefix.now.list [] }
-    requires last { IsLast prefix.now.list writer.old.desk.shown.value.edition }
+    requires last { IsLast prefix.now.list writer.old.desk.shown.value.published_snapshot }
     ensures places { IfOk result (λ passes. length passes ≡ places) }
     ensures passes { IfOk result (λ passes. AllByRecursion
         (λ p. p ≡ passing prefix.now.store prefix.now.list [] prefix.now.list) passes) }
@@ -119,9 +123,9 @@ fn passes<V: Voucher>(
 {
     let mut passes = Row::empty(alloc);
     for _place in 0..places {
-        let edition = writer.published().edition.copy(alloc)?;
+        let published_snapshot = writer.published().published_snapshot.copy(alloc)?;
         let own = Current {
-            edition,
+            published_snapshot,
             prefix: prefix.again(),
         };
         let reader = steps::reader_of(writer)?;
@@ -134,7 +138,7 @@ fn passes<V: Voucher>(
 pub fn start<V: Voucher, R: Wait>(
     rt: &R,
     alloc: Global,
-    first: Edition,
+    first: PublishedSnapshot,
     places: u32,
 ) -> Result<(Publisher<V>, Row<Pass<V>>), Memory>
     requires places { (0 < places) × (places ≤ 64) }
@@ -149,7 +153,7 @@ pub fn start<V: Voucher, R: Wait>(
         return Err(Memory);
     }
     let current = Current {
-        edition: first,
+        published_snapshot: first,
         prefix: prefix.again(),
     };
     let mut writer = steps::make::<V, R>(rt, alloc, current, places as usize)?;

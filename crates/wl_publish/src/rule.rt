@@ -4,7 +4,7 @@ ghost use Rattle.std.specs.Prelude.{◌≡◌, IfOk};
 ghost use Rattle.wl_publish.specs.Lists.{IsLast};
 
 use crate::book::Prefix;
-use crate::edition::Edition;
+use crate::published_snapshot::PublishedSnapshot;
 use atomic_table::{Join, Split};
 use crossbeam_utils::rule::{Outcome, Protocol};
 use left_right::Absorb;
@@ -20,49 +20,52 @@ use wl_snapshot::Snapshot;
 /// What readers take: the last publication, and the list that it ends.
 #[derive(Drop)]
 pub struct Current {
-    pub edition: Edition,
+    pub published_snapshot: PublishedSnapshot,
     pub prefix: Prefix,
 }
 
 impl Current {
     /// Takes over what is shown, with owners counted apart, where that is another publication, and gives one more owner of
     /// it. Out of memory either is as it was or as it is shown.
-    pub fn follow(&mut self, alloc: Global, shown: &Current) -> Result<Edition, Memory>
+    pub fn follow(&mut self, alloc: Global, shown: &Current) -> Result<PublishedSnapshot, Memory>
         requires store { shown.now.prefix.store ≡ self.old.prefix.store }
-        requires last { IsLast self.old.prefix.list self.old.edition
-            × IsLast shown.now.prefix.list shown.now.edition }
-        ensures edition { IfOk result (λ e. e ≡ shown.now.edition) }
+        requires last { IsLast self.old.prefix.list self.old.published_snapshot
+            × IsLast shown.now.prefix.list shown.now.published_snapshot }
+        ensures published_snapshot { IfOk result (λ e. e ≡ shown.now.published_snapshot) }
         ensures store { self.new.prefix.store ≡ self.old.prefix.store }
-        ensures last { IsLast self.new.prefix.list self.new.edition }
+        ensures last { IsLast self.new.prefix.list self.new.published_snapshot }
     {
         if self.prefix.is_as_long(&shown.prefix) {
-            return self.edition.share();
+            return self.published_snapshot.share();
         }
-        self.edition = shown.edition.copy(alloc)?;
+        self.published_snapshot = shown.published_snapshot.copy(alloc)?;
         self.prefix = shown.prefix.again();
-        self.edition.share()
+        self.published_snapshot.share()
     }
 }
 
 impl Absorb<Current> for Current {
     type State = (Snapshot, Prefix);
 
-    ghost state = { λ c. (c.edition, c.prefix) };
+    ghost state = { λ c. (c.published_snapshot, c.prefix) };
 
-    ghost applied = { λ state next. (next.edition, next.prefix) };
+    ghost applied = { λ state next. (next.published_snapshot, next.prefix) };
 
     fn absorb_first(&mut self, operation: &Current, _other: &Current) -> Result<(), AllocError> {
-        let Ok(edition) = operation.edition.share() else {
+        let Ok(published_snapshot) = operation.published_snapshot.share() else {
             return Err(AllocError);
         };
-        self.edition = edition;
+        self.published_snapshot = published_snapshot;
         self.prefix = operation.prefix.again();
         Ok(())
     }
 
     fn absorb_second(&mut self, operation: Current, _other: &Current) -> Result<(), Current> {
-        let Current { edition, prefix } = operation;
-        self.edition = edition;
+        let Current {
+            published_snapshot,
+            prefix,
+        } = operation;
+        self.published_snapshot = published_snapshot;
         self.prefix = prefix;
         Ok(())
     }
@@ -87,7 +90,7 @@ pub struct History<V: Voucher> {
 impl<V: Voucher> Protocol<Current, Knowledge> for History<V> {
     ghost use Rattle.wl_publish.specs.History.{Kept, newcomer};
 
-    ghost holds = { λ x views. Kept V.signed x.prefix.store x.prefix.list x.edition views };
+    ghost holds = { λ x views. Kept V.signed x.prefix.store x.prefix.list x.published_snapshot views };
 
     ghost first = { newcomer };
 }
@@ -119,7 +122,7 @@ pub struct Reads<V> {
 impl<V: Voucher> Outcome<Current, Knowledge> for Reads<V> {
     ghost use Rattle.wl_publish.specs.History.{HasRead};
 
-    ghost then = { λ v x y w. HasRead V.signed x.prefix.store x.prefix.list v x.edition w };
+    ghost then = { λ v x y w. HasRead V.signed x.prefix.store x.prefix.list v x.published_snapshot w };
 }
 
 /// A copy of what the writer knows is cut off.
@@ -131,7 +134,7 @@ impl Split<Knowledge> for Tells {
     ghost right = { λ v. v };
 }
 
-/// A new reader takes in what it is told.
+/// A new reader takes in what it is given.
 pub struct Starts;
 
 impl Join<Knowledge> for Starts {

@@ -10,7 +10,7 @@ ghost use Rattle.wl_publish.specs.Listings.{Listing, listing};
 ghost use Rattle.wl_publish.specs.History.{book_of, knowing, HasRead, Took};
 
 use crate::book::{Head, Prefix};
-use crate::edition::Edition;
+use crate::published_snapshot::PublishedSnapshot;
 use crate::rule::{
     Begins, Current, ListReader, ListWriter, OwnReader, Publishes, Reads, Starts, Tells,
 };
@@ -28,26 +28,26 @@ pub fn make<V: Voucher, R: Wait>(
     places: usize,
 ) -> Result<ListWriter<V>, Memory>
     requires places { (0 < places) × (places ≤ 64) }
-    requires first { first.prefix.list ≡ first.edition ∷ [] }
+    requires first { first.prefix.list ≡ first.published_snapshot ∷ [] }
     requires legal { Legal V.signed first.prefix.list }
     ensures shown { IfOk result (λ w. (w.desk.shown.value.prefix ≡ first.prefix)
-        × (w.desk.shown.value.edition ≡ first.edition)) }
+        × (w.desk.shown.value.published_snapshot ≡ first.published_snapshot)) }
     ensures none { IfOk result (λ w. drop w.behind w.log.items ≡ []) }
     ensures known { IfOk result
         (λ w. known_at w.desk.place ≡ knowing first.prefix.store first.prefix.list []) }
 {
-    let Ok(edition) = first.edition.share() else {
+    let Ok(published_snapshot) = first.published_snapshot.share() else {
         return Err(Memory);
     };
-    let Ok(other) = first.edition.share() else {
+    let Ok(other) = first.published_snapshot.share() else {
         return Err(Memory);
     };
     let second = Current {
-        edition,
+        published_snapshot,
         prefix: first.prefix.again(),
     };
     let again = Current {
-        edition: other,
+        published_snapshot: other,
         prefix: first.prefix.again(),
     };
     let Ok(writer) = ListWriter::<V>::new(alloc, first, second, places) else {
@@ -64,9 +64,9 @@ fn begin<V: Voucher, R: Wait>(
 ) -> Result<ListWriter<V>, Memory>
     requires none { drop writer.behind writer.log.items ≡ [] }
     requires same { (again.prefix ≡ writer.desk.shown.value.prefix)
-        × (again.edition ≡ writer.desk.shown.value.edition) }
+        × (again.published_snapshot ≡ writer.desk.shown.value.published_snapshot) }
     ensures shown { IfOk result (λ w. (w.desk.shown.value.prefix ≡ again.prefix)
-        × (w.desk.shown.value.edition ≡ again.edition)) }
+        × (w.desk.shown.value.published_snapshot ≡ again.published_snapshot)) }
     ensures none { IfOk result (λ w. drop w.behind w.log.items ≡ []) }
     ensures known { IfOk result
         (λ w. known_at w.desk.place ≡ knowing again.prefix.store again.prefix.list []) }
@@ -104,12 +104,14 @@ pub fn reader_of<V: Voucher>(writer: &mut ListWriter<V>) -> Result<ListReader<V>
 }
 
 /// Reads the last publication, with the list that it ends. It waits for nobody.
-fn read<V: Voucher>(held: OwnReader<V>) -> (OwnReader<V>, Result<(Edition, Prefix), Memory>)
+fn read<V: Voucher>(
+    held: OwnReader<V>,
+) -> (OwnReader<V>, Result<(PublishedSnapshot, Prefix), Memory>)
     requires known { ((known_at held.reader.place).known ≡ true)
         × (book_of (known_at held.reader.place) ≡ held.own.prefix.store) }
-    requires last { IsLast held.own.prefix.list held.own.edition }
+    requires last { IsLast held.own.prefix.list held.own.published_snapshot }
     ensures own { (result.0.own.prefix.store ≡ held.own.prefix.store)
-        × IsLast result.0.own.prefix.list result.0.own.edition }
+        × IsLast result.0.own.prefix.list result.0.own.published_snapshot }
     ensures read { MatchResult result.1
         (λ r. HasRead V.signed r.1.store r.1.list (known_at held.reader.place) r.0 (known_at result.0.reader.place))
         (λ _. (known_at result.0.reader.place ≡ known_at held.reader.place) ⊎ ((l : Listing)
@@ -122,12 +124,12 @@ fn read<V: Voucher>(held: OwnReader<V>) -> (OwnReader<V>, Result<(Edition, Prefi
     } = held;
     match reader.enter_as::<Reads<V>>() {
         Ok(reading) => {
-            let edition = own.follow(alloc, reading.get());
+            let published_snapshot = own.follow(alloc, reading.get());
             let prefix = reading.get().prefix.again();
             let reader = reading.leave();
             let held = OwnReader { reader, own, alloc };
-            match edition {
-                Ok(edition) => (held, Ok((edition, prefix))),
+            match published_snapshot {
+                Ok(published_snapshot) => (held, Ok((published_snapshot, prefix))),
                 Err(Memory) => (held, Err(Memory)),
             }
         }
@@ -139,14 +141,14 @@ fn read<V: Voucher>(held: OwnReader<V>) -> (OwnReader<V>, Result<(Edition, Prefi
 pub fn read_after<V: Voucher>(
     held: OwnReader<V>,
     told: &Prefix,
-) -> (OwnReader<V>, Result<Edition, Memory>)
+) -> (OwnReader<V>, Result<PublishedSnapshot, Memory>)
     requires known { ((known_at held.reader.place).known ≡ true)
         × (book_of (known_at held.reader.place) ≡ told.now.store) }
-    requires own { (held.own.prefix.store ≡ told.now.store) × IsLast held.own.prefix.list held.own.edition }
+    requires own { (held.own.prefix.store ≡ told.now.store) × IsLast held.own.prefix.list held.own.published_snapshot }
     ensures store { ((known_at result.0.reader.place).known ≡ true)
         × (book_of (known_at result.0.reader.place) ≡ told.now.store) }
     ensures own { (result.0.own.prefix.store ≡ told.now.store)
-        × IsLast result.0.own.prefix.list result.0.own.edition }
+        × IsLast result.0.own.prefix.list result.0.own.published_snapshot }
     ensures read { MatchResult result.1
         (λ s. Took V.signed (known_at held.reader.place) s (known_at result.0.reader.place)
         × IsPrefix told.now.list (known_at result.0.reader.place).seen)
@@ -154,9 +156,9 @@ pub fn read_after<V: Voucher>(
         × Took V.signed (known_at held.reader.place) s (known_at result.0.reader.place))) }
 {
     match read(held) {
-        (held, Ok((edition, prefix))) => {
+        (held, Ok((published_snapshot, prefix))) => {
             if told.begins(&prefix) {
-                (held, Ok(edition))
+                (held, Ok(published_snapshot))
             } else {
                 (held, Err(Memory))
             }
@@ -166,7 +168,7 @@ pub fn read_after<V: Voucher>(
 }
 
 /// Adds a publication to the book, and says whether it did.
-pub fn add<V: Voucher>(head: &Head, prefix: &mut Prefix, next: &Edition) -> bool
+pub fn add<V: Voucher>(head: &Head, prefix: &mut Prefix, next: &PublishedSnapshot) -> bool
     requires head { head.now ≡ head_of prefix.old.store }
     requires legal { Legal V.signed (prefix.old.list ++ next.now ∷ []) }
     ensures { MatchBool result ((prefix.new ≡ listing prefix.old.store (prefix.old.list ++ next.now ∷ []))
@@ -215,10 +217,10 @@ fn enqueue<V: Voucher, R: Wait>(rt: &R, writer: ListWriter<V>, next: Current) ->
 pub fn show<V: Voucher, R: Wait>(rt: &R, writer: ListWriter<V>, next: Current) -> ListWriter<V>
     requires none { drop writer.behind writer.log.items ≡ [] }
     requires store { next.prefix.store ≡ writer.desk.shown.value.prefix.store }
-    requires list { next.prefix.list ≡ writer.desk.shown.value.prefix.list ++ next.edition ∷ [] }
+    requires list { next.prefix.list ≡ writer.desk.shown.value.prefix.list ++ next.published_snapshot ∷ [] }
     requires legal { Legal V.signed next.prefix.list }
     ensures shown { (result.desk.shown.value.prefix ≡ next.prefix)
-        × (result.desk.shown.value.edition ≡ next.edition) }
+        × (result.desk.shown.value.published_snapshot ≡ next.published_snapshot) }
     ensures none { drop result.behind result.log.items ≡ [] }
 {
     let mut writer = enqueue(rt, writer, next);

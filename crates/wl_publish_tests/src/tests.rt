@@ -11,7 +11,7 @@ use std::thread::join;
 use wl_entry::Free;
 use wl_match::Index;
 use wl_octets::{Memory, Row, Shared};
-use wl_publish::{Edition, Note, Pass, Publisher, start};
+use wl_publish::{Note, Pass, PublishedSnapshot, Publisher, start};
 use wl_snapshot::Snapshot;
 
 fn shared<T: Drop>(alloc: Global, part: T) -> Result<Shared<T>, Memory>
@@ -24,7 +24,7 @@ fn shared<T: Drop>(alloc: Global, part: T) -> Result<Shared<T>, Memory>
 }
 
 /// A publication of this number without entries.
-fn edition(alloc: Global, number: u64) -> Result<Edition, Memory>
+fn published_snapshot(alloc: Global, number: u64) -> Result<PublishedSnapshot, Memory>
     ensures { IfOk result (λ e. (e.number ≡ number) × IsVouched (λ ask signed. Unit {0}) e) }
 {
     let Ok(domain) = TrustDomain::parse(alloc, b"a.b") else {
@@ -40,8 +40,8 @@ fn edition(alloc: Global, number: u64) -> Result<Edition, Memory>
     let index = Index::build(alloc, &[])?;
     let index = shared(alloc, index)?;
     let snapshot = shared(alloc, snapshot)?;
-    let edition = Edition::new(alloc, snapshot, index)?;
-    Ok(edition)
+    let published_snapshot = PublishedSnapshot::new(alloc, snapshot, index)?;
+    Ok(published_snapshot)
 }
 
 /// Publishes the next number.
@@ -57,7 +57,7 @@ fn publish_next<R: Wait>(
     let Some(next) = number.checked_add(1) else {
         return Err(Memory);
     };
-    match publisher.publish(rt, edition(alloc, next)?) {
+    match publisher.publish(rt, published_snapshot(alloc, next)?) {
         Ok(note) => Ok(note),
         Err((_, Memory)) => Err(Memory),
     }
@@ -85,7 +85,7 @@ fn publish_calls(rt: HostRuntime) -> Result<(), Fail> {
     let (mut publisher, passes): (Publisher<Free>, Row<Pass<Free>>) = start(
         &rt,
         alloc,
-        edition(alloc, 0)?,
+        published_snapshot(alloc, 0)?,
         2,
     )?;
     let mut passes = passes.into_vec();
@@ -140,7 +140,7 @@ fn two_readers(rt: HostRuntime) -> Result<(), Fail> {
     let (mut publisher, passes): (Publisher<Free>, Row<Pass<Free>>) = start(
         &rt,
         alloc,
-        edition(alloc, 0)?,
+        published_snapshot(alloc, 0)?,
         2,
     )?;
     let mut passes = passes.into_vec();

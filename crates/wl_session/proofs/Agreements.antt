@@ -13,13 +13,13 @@ use Rattle.h2_conn.proofs.Results.{flushes_once}
 use Rattle.grpc_wire.specs.declared.refusal.Refusal.TheVariants.{UnknownService}
 use Rattle.wl_health.specs.Messages.{spell_state}
 use Rattle.wl_snapshot.specs.Snapshots.{Publication}
-use Rattle.wl_snapshot.specs.Views.{Sight, view_in}
+use Rattle.wl_snapshot.specs.Views.{ViewModel, view_in}
 use Rattle.wl_snapshot.specs.Answers.{answer_of, asks_of}
 use Rattle.wl_snapshot.specs.declared.answers.Answer.{Answer}
 use Rattle.wl_snapshot.specs.declared.answers.Answer.TheVariants.{Denied, Wait, TooLong, Message}
 use Rattle.wl_snapshot.specs.declared.answers.Method3.{Method3}
 use Rattle.wl_snapshot.specs.declared.token_asks.Wanted.{Wanted}
-use Rattle.wl_snapshot.proofs.Equalities.{sight_self}
+use Rattle.wl_snapshot.proofs.Equalities.{view_model_self}
 use Rattle.wl_session.specs.declared.served.CallKind.{CallKind}
 use Rattle.wl_session.specs.declared.served.CallKind.TheVariants.{Stream, Tokens, Check, Watch}
 use Rattle.wl_session.specs.declared.served.Stage.{Stage}
@@ -30,9 +30,9 @@ use Rattle.wl_session.specs.Answering.{Turned, goes_on, has_ended, with_refusal,
 use Rattle.wl_session.specs.Talks.{Talking, Said, first_of, then_, silent, written, frames_said, break_said}
 use Rattle.wl_session.specs.Sessions.{ended_by, feed_said, with_turned, turn_said}
 use Rattle.wl_session.specs.Agreeing.{SeesAlike, SeeAlike, HasSeen, HaveSeen, IsQuiet}
-use Rattle.wl_session.proofs.Running.{then_assoc, said_on}
+use Rattle.wl_session.proofs.ItemSequences.{then_assoc, said_on}
 
--- behind what was written nothing is left to be written
+-- after what was written nothing is left to be written
 pub written_quiet : (fault : Option ConnFault) (t : Talking) → IsQuiet (written fault t).after
 unfolding written
 written_quiet fault t = record { greeted = refl; quiet = flushes_once t.phase }
@@ -62,7 +62,7 @@ broken_fault why (Open q) = refl
 broken_fault why (Failed fault left totals) = refl
 broken_fault why (OutOfMemory totals) = refl
 
--- behind a fault the same bytes do nothing
+-- after a fault the same bytes do nothing
 broke_quiet : (why : FrameFault) (u : Talking) → IsQuiet u → after_frame_fault why u.phase ≡ u.phase → break_said why u ≡ record { after = u; bytes = []; fault = frame_fault_on why u.phase }
 unfolding break_said
 broke_quiet why u q is = ap (λ (p : Phase). written (frame_fault_on why u.phase) (record u { phase = p })) is ∙ quiet_writes (frame_fault_on why u.phase) u q
@@ -100,7 +100,7 @@ cut_anywhere e a b t = ap (λ (r : Reading). feed_said r t) (reads_on e a b) ∙
 
 stage_alike : (x y : Publication) (n : ℕ) (s : Stage) (p : Phase) → SeesAlike x y s → stage_turn x n s p ≡ stage_turn y n s p
 stage_alike x y n (Unnamed kind) p same = refl
-stage_alike x y n (Ready kind sel seen headed) p same = ap (λ (v : Sight). answer_where_new n kind sel seen headed v p) same
+stage_alike x y n (Ready kind sel seen headed) p same = ap (λ (v : ViewModel). answer_where_new n kind sel seen headed v p) same
 stage_alike x y n (Asking first rest got) p same = refl
 
 call_alike : (x y : Publication) (c : ServedCall) (p : Phase) → SeesAlike x y c.stage → call_turn x c p ≡ call_turn y c p
@@ -146,9 +146,9 @@ seen_append x (c ∷ cs) ds a b = (a.0, seen_append x cs ds a.1 b)
 
 stream_seen : (x : Publication) (n : ℕ) (method : Method3) (sel : List (List ℕ)) (headed : Bool) (a : Answer) (p : Phase) → HaveSeen x (stream_answer n method sel (view_in x sel) headed a p).kept
 stream_seen x n method sel headed Denied p = tt
-stream_seen x n method sel headed Wait p = (sight_self (view_in x sel), tt)
+stream_seen x n method sel headed Wait p = (view_model_self (view_in x sel), tt)
 stream_seen x n method sel headed (TooLong size) p = tt
-stream_seen x n method sel headed (Message m) p = (sight_self (view_in x sel), tt)
+stream_seen x n method sel headed (Message m) p = (view_model_self (view_in x sel), tt)
 
 token_seen : (x : Publication) (n : ℕ) (headed : Bool) (audience : List (List ℕ)) (ws : List Wanted) (p : Phase) → HaveSeen x (token_answer n headed audience ws p).kept
 token_seen x n headed audience [] p = tt
@@ -163,9 +163,9 @@ unfolding call_answer
 answer_seen x n (Stream method) sel headed p = stream_seen x n method sel headed (answer_of method (view_in x sel)) p
 answer_seen x n (Tokens audience id) sel headed p = token_seen x n headed audience (asks_of id (view_in x sel)) p
 answer_seen x n (Check service) sel headed p = check_seen x n headed (health_of service (view_in x sel)) p (health_of service (view_in x sel) == 3)
-answer_seen x n (Watch service) sel headed p = (sight_self (view_in x sel), tt)
+answer_seen x n (Watch service) sel headed p = (view_model_self (view_in x sel), tt)
 
-new_seen : (x : Publication) (n : ℕ) (kind : CallKind) (sel : List (List ℕ)) (seen : Option Sight) (headed : Bool) (p : Phase) (b : Bool) → was_seen seen (view_in x sel) ≡ b
+new_seen : (x : Publication) (n : ℕ) (kind : CallKind) (sel : List (List ℕ)) (seen : Option ViewModel) (headed : Bool) (p : Phase) (b : Bool) → was_seen seen (view_in x sel) ≡ b
     → HaveSeen x (if b then goes_on n (Ready kind sel seen headed) p else call_answer n kind sel headed (view_in x sel) p).kept
 new_seen x n kind sel seen headed p true is = (is, tt)
 new_seen x n kind sel seen headed p false is = answer_seen x n kind sel headed p
@@ -179,7 +179,7 @@ call_seen : (x : Publication) (c : ServedCall) (p : Phase) → HaveSeen x (call_
 unfolding call_turn
 call_seen x c p = stage_seen x c.stream c.stage p
 
--- those that go on behind a turn were answered on their view
+-- those that go on after a turn were answered on their view
 pub calls_seen : (x : Publication) (cs : List ServedCall) (p : Phase) → HaveSeen x (calls_turn x cs p).kept
 unfolding calls_turn
 calls_seen x [] p = tt

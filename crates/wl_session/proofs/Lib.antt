@@ -1,19 +1,19 @@
-pub mod Running
+pub mod ItemSequences
 pub mod Agreements
-pub mod Serving
-mod Turning
-pub mod Settling
-pub mod Attested
+pub mod ReadyCalls
+mod TurnSequences
+pub mod SessionFacts
+pub mod ViewFacts
 mod Views
 mod Sizes
-mod Framing
-mod Feeding
-pub mod Following
+mod FramedMessages
+mod FedBytes
+pub mod TurnPublications
 mod Refusals
 mod Streams
 mod Orders
-mod Completing
-mod Answered
-pub mod Attesting
-pub mod Blinding
+mod TurnAnswers
+mod PeerAnswers
+pub mod Attestations
+pub mod WithoutSelectors
 pub mod Traces

@@ -16,7 +16,7 @@ use Rattle.grpc_wire.specs.declared.refusal.Refusal.{Refusal}
 use Rattle.grpc_wire.specs.declared.refusal.Refusal.TheVariants.{NoIdentity, LongResponse, UnknownService}
 use Rattle.wl_health.specs.Messages.{spell_state}
 use Rattle.wl_snapshot.specs.Snapshots.{Publication}
-use Rattle.wl_snapshot.specs.Views.{Sight, view_in}
+use Rattle.wl_snapshot.specs.Views.{ViewModel, view_in}
 use Rattle.wl_snapshot.specs.Answers.{answer_of, asks_of}
 use Rattle.wl_snapshot.specs.declared.answers.Answer.{Answer}
 use Rattle.wl_snapshot.specs.declared.answers.Answer.TheVariants.{Denied, Wait, TooLong, Message}
@@ -127,7 +127,7 @@ phases_commute n k f g keeps stays other (OutOfMemory totals) = refl
 
 -- ---- what speaks on one stream
 
--- it may be done before or behind each change of this stream
+-- it may be done before or after each change of this stream
 abbrev Apart : ℕ → (Phase → Phase) → Type 0
 Apart k act = (g : Stream → Stream) → Renumbers g → (p : Phase) → act (on_phase k g p) ≡ on_phase k g (act p)
 
@@ -193,7 +193,7 @@ record Alone (n : ℕ) (turn : Phase → Turned) : Type 0 where
   speaks : Speaks n (λ p. (turn p).phase)
   kept : (p q : Phase) → (turn p).kept ≡ (turn q).kept
 
-stream_alone : (n : ℕ) (method : Method3) (sel : List (List ℕ)) (v : Sight) (headed : Bool) (a : Answer) → Alone n (stream_answer n method sel v headed a)
+stream_alone : (n : ℕ) (method : Method3) (sel : List (List ℕ)) (v : ViewModel) (headed : Bool) (a : Answer) → Alone n (stream_answer n method sel v headed a)
 stream_alone n method sel v headed Denied = record { speaks = refusal_speaks n headed NoIdentity; kept = λ p q. refl }
 stream_alone n method sel v headed Wait = record { speaks = withdrawal_speaks n; kept = λ p q. refl }
 stream_alone n method sel v headed (TooLong size) = record { speaks = refusal_speaks n headed LongResponse; kept = λ p q. refl }
@@ -207,14 +207,14 @@ check_alone : (n : ℕ) (headed : Bool) (state : ℕ) (b : Bool) → Alone n (λ
 check_alone n headed state true = record { speaks = refusal_speaks n headed UnknownService; kept = λ p q. refl }
 check_alone n headed state false = record { speaks = last_speaks n headed (spell_state state); kept = λ p q. refl }
 
-answer_alone : (n : ℕ) (kind : CallKind) (sel : List (List ℕ)) (headed : Bool) (v : Sight) → Alone n (λ p. call_answer n kind sel headed v p)
+answer_alone : (n : ℕ) (kind : CallKind) (sel : List (List ℕ)) (headed : Bool) (v : ViewModel) → Alone n (λ p. call_answer n kind sel headed v p)
 unfolding call_answer
 answer_alone n (kinds.Stream method) sel headed v = stream_alone n method sel v headed (answer_of method v)
 answer_alone n (kinds.Tokens audience id) sel headed v = token_alone n headed audience (asks_of id v)
 answer_alone n (kinds.Check service) sel headed v = check_alone n headed (health_of service v) (health_of service v == 3)
 answer_alone n (kinds.Watch service) sel headed v = record { speaks = message_speaks n headed (spell_state (health_of service v)); kept = λ p q. refl }
 
-new_alone : (n : ℕ) (kind : CallKind) (sel : List (List ℕ)) (seen : Option Sight) (headed : Bool) (v : Sight) (b : Bool) → Alone n (λ p. if b then goes_on n (Ready kind sel seen headed) p else call_answer n kind sel headed v p)
+new_alone : (n : ℕ) (kind : CallKind) (sel : List (List ℕ)) (seen : Option ViewModel) (headed : Bool) (v : ViewModel) (b : Bool) → Alone n (λ p. if b then goes_on n (Ready kind sel seen headed) p else call_answer n kind sel headed v p)
 new_alone n kind sel seen headed v true = record { speaks = says_nothing n; kept = λ p q. refl }
 new_alone n kind sel seen headed v false = answer_alone n kind sel headed v
 
@@ -237,7 +237,7 @@ kept_alone x c p q = (call_alone x c).kept p q
 pub turns_commute : (x y : Publication) (c d : ServedCall) (p : Phase) → (c.stream ≡ d.stream → ⊥) → (call_turn x c (call_turn y d p).phase).phase ≡ (call_turn y d (call_turn x c p).phase).phase
 turns_commute x y c d p other = either_order c.stream d.stream (λ r. (call_turn x c r).phase) (λ r. (call_turn y d r).phase) (call_alone x c).speaks (call_alone y d).speaks other p
 
--- also where others take theirs behind them
+-- also where others take theirs after them
 pub calls_commute : (x : Publication) (c d : ServedCall) (cs : List ServedCall) (p : Phase) → (c.stream ≡ d.stream → ⊥) → (calls_turn x (d ∷ c ∷ cs) p).phase ≡ (calls_turn x (c ∷ d ∷ cs) p).phase
 unfolding calls_turn
 calls_commute x c d cs p other = ap (λ (r : Phase). (calls_turn x cs r).phase) (turns_commute x x c d p other)

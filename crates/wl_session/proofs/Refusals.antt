@@ -7,7 +7,7 @@ use Rattle.grpc_wire.specs.declared.refusal.Refusal.{Refusal}
 use Rattle.grpc_wire.specs.declared.refusal.Refusal.TheVariants.{NoIdentity, LongResponse, UnknownService}
 use Rattle.workload_proto.specs.declared.limits.TheConstants.{MAX_RESPONSE_LEN}
 use Rattle.workload_proto.specs.Spelling.{capped}
-use Rattle.wl_snapshot.specs.Views.{Sight}
+use Rattle.wl_snapshot.specs.Views.{ViewModel}
 use Rattle.wl_snapshot.specs.Answers.{answer_of, asks_of, message_of, waits, within_limit}
 use Rattle.wl_snapshot.specs.declared.answers.Answer.{Answer}
 use Rattle.wl_snapshot.specs.declared.answers.Answer.TheVariants.{Denied, Wait, TooLong, Message}
@@ -21,7 +21,7 @@ use Rattle.wl_session.specs.Refusing.{stream_refusal, token_refusal, refusal_on,
 
 -- ---- a call that is refused ends so
 
-stream_ends : (n : ℕ) (method : Method3) (sel : List (List ℕ)) (headed : Bool) (v : Sight) (p : Phase) (r : Refusal) (a : Answer) → stream_refusal a ≡ Some r → stream_answer n method sel v headed a p ≡ has_ended (with_refusal n headed r p)
+stream_ends : (n : ℕ) (method : Method3) (sel : List (List ℕ)) (headed : Bool) (v : ViewModel) (p : Phase) (r : Refusal) (a : Answer) → stream_refusal a ≡ Some r → stream_answer n method sel v headed a p ≡ has_ended (with_refusal n headed r p)
 stream_ends n method sel headed v p r Denied is = let same : NoIdentity ≡ r = cc is in ap (λ (s : Refusal). has_ended (with_refusal n headed s p)) same
 stream_ends n method sel headed v p r Wait is = cc is
 stream_ends n method sel headed v p r (TooLong size) is = let same : LongResponse ≡ r = cc is in ap (λ (s : Refusal). has_ended (with_refusal n headed s p)) same
@@ -57,15 +57,15 @@ seen_refusal : (w : Bool) (m : List ℕ) → stream_refusal (if w then Wait else
 seen_refusal true m is = cc is
 seen_refusal false m is = within_refusal m (nat_lt MAX_RESPONSE_LEN (capped (length m))) is
 
-stream_seven : (method : Method3) (v : Sight) (b : Bool) → (length v.held == 0) ≡ b → stream_refusal (if b then Denied else if waits method v then Wait else within_limit (message_of method v)) ≡ Some NoIdentity → v.held ≡ []
+stream_seven : (method : Method3) (v : ViewModel) (b : Bool) → (length v.held == 0) ≡ b → stream_refusal (if b then Denied else if waits method v then Wait else within_limit (message_of method v)) ≡ Some NoIdentity → v.held ≡ []
 stream_seven method v true at is = none_there v.held at
 stream_seven method v false at is = absurd (seen_refusal (waits method v) (message_of method v) is)
 
-denied : (method : Method3) (v : Sight) → v.held ≡ [] → answer_of method v ≡ Denied
+denied : (method : Method3) (v : ViewModel) → v.held ≡ [] → answer_of method v ≡ Denied
 unfolding answer_of
 denied method v none = ap (λ (b : Bool). if b then Denied else if waits method v then Wait else within_limit (message_of method v)) (ap (λ (hs : List _). length hs == 0) none)
 
-seven_of : (method : Method3) (v : Sight) → stream_refusal (answer_of method v) ≡ Some NoIdentity → v.held ≡ []
+seven_of : (method : Method3) (v : ViewModel) → stream_refusal (answer_of method v) ≡ Some NoIdentity → v.held ≡ []
 unfolding answer_of
 seven_of method v is = stream_seven method v (length v.held == 0) refl is
 
@@ -119,7 +119,7 @@ answered_is : (m w : List ℕ) (b c : Bool) → (if b then Denied else if c then
 answered_is m w true c is = cc is
 answered_is m w false c is = waited_is m w c is
 
-message_is : (method : Method3) (v : Sight) (m : List ℕ) → answer_of method v ≡ Message m → m ≡ message_of method v
+message_is : (method : Method3) (v : ViewModel) (m : List ℕ) → answer_of method v ≡ Message m → m ≡ message_of method v
 unfolding answer_of
 message_is method v m is = answered_is m (message_of method v) (length v.held == 0) (waits method v) is
 

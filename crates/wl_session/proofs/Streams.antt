@@ -13,7 +13,7 @@ use Rattle.h2_conn.specs.Sound.{Sound, SoundPhase}
 use Rattle.h2_conn.specs.Holding.{Claim, ClaimOn, IsHeld, Lasts}
 use Rattle.h2_conn.proofs.Sounds.{s_headed_on, s_finished_on, s_offered_on, s_withdrawn_on, s_reset_by}
 use Rattle.h2_conn.proofs.WindowSums.{sound_pull}
-use Rattle.h2_conn.proofs.Holding.{headed_claim, finished_claim, offered_other, offered_here, withdrawn_other, reset_claim, flushed_claim}
+use Rattle.h2_conn.proofs.OfferedMessages.{headed_claim, finished_claim, offered_other, offered_here, withdrawn_other, reset_claim, flushed_claim}
 use Rattle.grpc_wire.specs.Messages.{framed}
 use Rattle.grpc_wire.specs.Answers.{response_fields, trailer_fields, refused_fields}
 use Rattle.grpc_wire.specs.declared.refusal.Refusal.{Refusal}

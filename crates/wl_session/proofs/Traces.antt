@@ -6,7 +6,7 @@ use Rattle.h2_frame.specs.declared.frame.Frame.{Frame}
 use Rattle.h2_frame.specs.Reading.{End, Opening, Rest, Fault, Reading, reading_from}
 use Rattle.h2_conn.specs.declared.fault.ConnFault.{ConnFault}
 use Rattle.wl_snapshot.specs.Snapshots.{Publication}
-use Rattle.wl_snapshot.specs.Views.{Sight, view_in}
+use Rattle.wl_snapshot.specs.Views.{ViewModel, view_in}
 use Rattle.wl_session.specs.declared.asks.JwtOutcome.{JwtOutcome}
 use Rattle.wl_session.specs.declared.served.Stage.{Stage}
 use Rattle.wl_session.specs.declared.served.Stage.TheVariants.{Unnamed, Ready, Asking}
@@ -18,10 +18,10 @@ use Rattle.wl_session.specs.Tokens.{is_unnamed}
 use Rattle.wl_session.specs.Talks.{Talking, Said, fresh_talk, then_, silent, written, frame_said, frames_said, break_said}
 use Rattle.wl_session.specs.Sessions.{SessionState, Running, Fallen, OutOfMemory, ended_by, feed_said, turn_said, name_said, given_said}
 use Rattle.wl_session.proofs.Agreements.{again, written_quiet}
-use Rattle.wl_session.proofs.Settling.{settled_feed, settled_name, settled_given}
+use Rattle.wl_session.proofs.SessionFacts.{settled_feed, settled_name, settled_given}
 use Rattle.wl_session.specs.Steps.{Told, quiet, runs_on, unnamed_count, names_said, all_named, fed_by, feed_told, turn_told, outcome_told}
 use Rattle.wl_session.specs.Items.{Item, FrameItem, TurnItem, OutcomeItem, items_said, talk, attestation, attestations, reading_items, feed_items, stage_view, call_view, views_item, turn_items, broken_items}
-use Rattle.wl_session.proofs.Blinding.{blind, blind_said, items_append, one_item, reading_blind, names_blind, turn_blind, given_blind, then_blind}
+use Rattle.wl_session.proofs.WithoutSelectors.{blind, blind_said, items_append, one_item, reading_blind, names_blind, turn_blind, given_blind, then_blind}
 
 -- ---- the relation
 
@@ -232,7 +232,7 @@ turned_on p e t items follows =
       bytes = more.1;
     }
 
-pub new_view : (seen : Option Sight) (v : Sight) (b : Bool) → was_seen seen v ≡ b → is_none (if b then None else Some v) ≡ true → was_seen seen v ≡ true
+pub new_view : (seen : Option ViewModel) (v : ViewModel) (b : Bool) → was_seen seen v ≡ b → is_none (if b then None else Some v) ≡ true → was_seen seen v ≡ true
 new_view seen v true is none = is
 new_view seen v false is none = absurd (cc none)
 

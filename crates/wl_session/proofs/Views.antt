@@ -4,8 +4,8 @@ use Rattle.wl_entry.specs.Entitled.{is_entitled}
 use Rattle.wl_entry.specs.declared.entries.Entry.{Entry}
 use Rattle.wl_match.specs.Indexes.{items_at}
 use Rattle.wl_snapshot.specs.Snapshots.{Publication}
-use Rattle.wl_snapshot.specs.Views.{Sight, sight_of, view_in, entries_at}
-use Rattle.wl_snapshot.proofs.Equalities.{sight_is}
+use Rattle.wl_snapshot.specs.Views.{ViewModel, view_model_of, view_in, entries_at}
+use Rattle.wl_snapshot.proofs.Equalities.{view_model_is}
 use Rattle.wl_session.specs.Kinds.{was_seen}
 
 same_items : (entries : List Entry) (places : List ℕ) → entries_at entries places ≡ items_at entries places
@@ -13,10 +13,10 @@ unfolding entries_at items_at
 same_items entries places = refl
 
 -- where the places are those of the entitled entries, it is the caller's view
-pub by_places : (x : Publication) (sel : List (List ℕ)) (places : List ℕ) → items_at x.entries places ≡ filter (is_entitled sel) x.entries → sight_of x (entries_at x.entries places) ≡ view_in x sel
+pub by_places : (x : Publication) (sel : List (List ℕ)) (places : List ℕ) → items_at x.entries places ≡ filter (is_entitled sel) x.entries → view_model_of x (entries_at x.entries places) ≡ view_in x sel
 unfolding view_in
-by_places x sel places chosen = ap (sight_of x) (same_items x.entries places ∙ chosen)
+by_places x sel places chosen = ap (view_model_of x) (same_items x.entries places ∙ chosen)
 
 -- with equal selectors it is the caller's view too
-pub seen_alike : (x : Publication) (own sel : List (List ℕ)) (seen : Sight) → own ≡ sel → was_seen (Some seen) (view_in x own) ≡ true → seen ≡ view_in x sel
-seen_alike x own sel seen same is = sight_is seen (view_in x own) is ∙ ap (view_in x) same
+pub seen_alike : (x : Publication) (own sel : List (List ℕ)) (seen : ViewModel) → own ≡ sel → was_seen (Some seen) (view_in x own) ≡ true → seen ≡ view_in x sel
+seen_alike x own sel seen same is = view_model_is seen (view_in x own) is ∙ ap (view_in x) same

@@ -11,7 +11,7 @@ use Rattle.grpc_wire.specs.declared.refusal.Refusal.TheVariants.{NoIdentity, Lon
 use Rattle.wl_health.specs.Health.{state_of}
 use Rattle.wl_health.specs.Messages.{spell_state}
 use Rattle.wl_snapshot.specs.Snapshots.{Publication}
-use Rattle.wl_snapshot.specs.Views.{Sight, view_in, is_whole}
+use Rattle.wl_snapshot.specs.Views.{ViewModel, view_in, is_whole}
 use Rattle.wl_snapshot.specs.Answers.{answer_of, asks_of}
 use Rattle.wl_snapshot.specs.declared.answers.Answer.{Answer}
 use Rattle.wl_snapshot.specs.declared.answers.Answer.TheVariants.{Denied, Wait, TooLong, Message}
@@ -31,7 +31,7 @@ use Rattle.wl_session.specs.Kinds.{was_seen}
 unfoldable pub with_head : ℕ → Bool → Phase → Phase
 with_head n headed p = if headed then p else on_open (with_head_on n (block_bytes response_fields)) p
 
--- a message is offered behind the head
+-- a message is offered after the head
 unfoldable pub with_message : ℕ → Bool → List ℕ → Phase → Phase
 with_message n headed m p = offers n (framed m) (with_head n headed p)
 
@@ -66,20 +66,20 @@ Gives (Ok stage) n p due = due ≡ record { phase = p; kept = kept_of n stage }
 Gives (Err memory) n p due = Unit {0}
 
 -- a streaming call of the Workload API; one that waits has no waiting message
-abbrev pub stream_answer : ℕ → Method3 → List (List ℕ) → Sight → Bool → Answer → Phase → Turned
+abbrev pub stream_answer : ℕ → Method3 → List (List ℕ) → ViewModel → Bool → Answer → Phase → Turned
 stream_answer n method sel v headed Denied p = has_ended (with_refusal n headed NoIdentity p)
 stream_answer n method sel v headed Wait p = goes_on n (Ready (Stream method) sel (Some v) headed) (withdraws n p)
 stream_answer n method sel v headed (TooLong size) p = has_ended (with_refusal n headed LongResponse p)
 stream_answer n method sel v headed (Message m) p = goes_on n (Ready (Stream method) sel (Some v) true) (with_message n headed m p)
 
 -- the state of a service for a caller with this view
-abbrev pub health_of : List ℕ → Sight → ℕ
+abbrev pub health_of : List ℕ → ViewModel → ℕ
 health_of service v = state_of service (length v.held == 0) (is_whole v)
 
 abbrev pub check_answer : ℕ → Bool → ℕ → Phase → Turned
 check_answer n headed state p = if state == 3 then has_ended (with_refusal n headed UnknownService p) else has_ended (with_last_message n headed (spell_state state) p)
 
-abbrev pub watch_answer : ℕ → List ℕ → List (List ℕ) → Sight → Bool → Phase → Turned
+abbrev pub watch_answer : ℕ → List ℕ → List (List ℕ) → ViewModel → Bool → Phase → Turned
 watch_answer n service sel v headed p = goes_on n (Ready (Watch service) sel (Some v) true) (with_message n headed (spell_state (health_of service v)) p)
 
 -- an ask for a token, of a call on this stream
@@ -92,7 +92,7 @@ token_answer n headed audience [] p = has_ended (with_refusal n headed NoIdentit
 token_answer n headed audience (w ∷ ws) p = goes_on n (Asking (ask_on n audience w) ws []) p
 
 -- a ready call is answered on a view
-unfoldable pub call_answer : ℕ → CallKind → List (List ℕ) → Bool → Sight → Phase → Turned
+unfoldable pub call_answer : ℕ → CallKind → List (List ℕ) → Bool → ViewModel → Phase → Turned
 call_answer n (Stream method) sel headed v p = stream_answer n method sel v headed (answer_of method v) p
 call_answer n (Tokens audience id) sel headed v p = token_answer n headed audience (asks_of id v) p
 call_answer n (Check service) sel headed v p = check_answer n headed (health_of service v) p
@@ -101,7 +101,7 @@ call_answer n (Watch service) sel headed v p = watch_answer n service sel v head
 -- ---- a turn
 
 -- a call is answered where its view is another than the one that answered it last
-abbrev pub answer_where_new : ℕ → CallKind → List (List ℕ) → Option Sight → Bool → Sight → Phase → Turned
+abbrev pub answer_where_new : ℕ → CallKind → List (List ℕ) → Option ViewModel → Bool → ViewModel → Phase → Turned
 answer_where_new n kind sel seen headed v p = if was_seen seen v then goes_on n (Ready kind sel seen headed) p else call_answer n kind sel headed v p
 
 abbrev pub stage_turn : Publication → ℕ → Stage → Phase → Turned
@@ -112,7 +112,7 @@ stage_turn x n (Asking first rest got) p = goes_on n (Asking first rest got) p
 unfoldable pub call_turn : Publication → ServedCall → Phase → Turned
 call_turn x c p = stage_turn x c.stream c.stage p
 
--- one, and then those behind it
+-- one, and then those after it
 abbrev pub turn_before : Turned → (Phase → Turned) → Turned
 turn_before first go_on =
     let rest = go_on first.phase in

@@ -1,4 +1,4 @@
--- What the streams of ready calls have of their messages, and that a turn leaves none behind.
+-- What the streams of ready calls have of their messages, and that a turn leaves none over.
 use Rattle.std.specs.Prelude.{◌≡◌, ℕ, ◌≤◌, List, [], ◌∷◌, Option, Some, None, Result, IsSome}
 use Rattle.std.specs.List.{AllByRecursion}
 use Rattle.h2_conn.specs.declared.phase.Phase.{Phase}
@@ -10,7 +10,7 @@ use Rattle.grpc_conn.specs.declared.standing.Call.{Call}
 use Rattle.grpc_conn.specs.Calls.{standing_at}
 use Rattle.wl_health.specs.Messages.{spell_state}
 use Rattle.wl_snapshot.specs.Snapshots.{Publication}
-use Rattle.wl_snapshot.specs.Views.{Sight, view_in}
+use Rattle.wl_snapshot.specs.Views.{ViewModel, view_in}
 use Rattle.wl_snapshot.specs.Answers.{answer_of}
 use Rattle.wl_snapshot.specs.declared.answers.Answer.{Answer}
 use Rattle.wl_snapshot.specs.declared.answers.Answer.TheVariants.{Denied, Wait, TooLong, Message}
@@ -35,14 +35,14 @@ HasAnswer n (TooLong size) p = Unit {0}
 HasAnswer n (Message m) p = ClaimOn n (IsHeld (framed m)) p
 
 -- so it is with a streaming call's answer on a view, Watch included
-abbrev pub HasAnswerOn : ℕ → CallKind → Sight → Phase → Type 0
+abbrev pub HasAnswerOn : ℕ → CallKind → ViewModel → Phase → Type 0
 HasAnswerOn n (Stream method) v p = HasAnswer n (answer_of method v) p
 HasAnswerOn n (Tokens audience id) v p = Unit {0}
 HasAnswerOn n (Check service) v p = Unit {0}
 HasAnswerOn n (Watch service) v p = ClaimOn n (IsHeld (framed (spell_state (health_of service v)))) p
 
 -- and on the view that answered it last, if one did
-abbrev pub HasLastAnswer : ℕ → CallKind → Option Sight → Phase → Type 0
+abbrev pub HasLastAnswer : ℕ → CallKind → Option ViewModel → Phase → Type 0
 HasLastAnswer n kind None p = Unit {0}
 HasLastAnswer n kind (Some v) p = HasAnswerOn n kind v p
 

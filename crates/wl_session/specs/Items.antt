@@ -1,4 +1,4 @@
--- What a session lives through, one item after another, and the talk over these items (own rules).
+-- What happens to a session, one item after another, and the talk over these items (own rules).
 use Rattle.std.specs.Prelude.{ℕ, if◌then◌else◌, List, [], ◌∷◌, ◌++◌, map, filter, Option, Some, None, is_none}
 use Rattle.std.specs.List.{list_all}
 use Rattle.h2_frame.specs.declared.fault.FrameFault.{FrameFault}
@@ -7,7 +7,7 @@ use Rattle.h2_frame.specs.Reading.{End, Opening, Rest, Fault, Reading, reading_f
 use Rattle.h2_conn.specs.declared.fault.ConnFault.{ConnFault}
 use Rattle.h2_conn.specs.declared.phase.Phase.{Phase}
 use Rattle.wl_snapshot.specs.Snapshots.{Publication}
-use Rattle.wl_snapshot.specs.Views.{Sight, view_in}
+use Rattle.wl_snapshot.specs.Views.{ViewModel, view_in}
 use Rattle.wl_session.specs.declared.asks.JwtOutcome.{JwtOutcome}
 use Rattle.wl_session.specs.declared.served.Stage.{Stage}
 use Rattle.wl_session.specs.declared.served.Stage.TheVariants.{Unnamed, Ready, Asking}
@@ -20,7 +20,7 @@ use Rattle.wl_session.specs.Sessions.{SessionState, Running, Fallen, OutOfMemory
 
 -- ---- the talk over a trace
 
--- What a session lives through: a frame of the peer; bytes that are none; that the first call that was not attested was
+-- What happens to a session: a frame of the peer; bytes that are none; that the first call that was not attested was
 -- attested, or could not be, on its stream; a turn, with the view of each ready call by ascending stream where it is another
 -- than the one that answered the call last; and what the first waiting ask got.
 pub data Item : Type 0 where
@@ -28,26 +28,26 @@ pub data Item : Type 0 where
   BrokenItem : FrameFault → Item
   AttestedItem : ℕ → Item
   UnattestedItem : ℕ → Item
-  TurnItem : List (Option Sight) → Item
+  TurnItem : List (Option ViewModel) → Item
   OutcomeItem : JwtOutcome → Item
 
 -- a ready call is answered on a view
-abbrev pub answered_stage : Sight → ℕ → Stage → Phase → Turned
+abbrev pub answered_stage : ViewModel → ℕ → Stage → Phase → Turned
 answered_stage v n (Unnamed kind) p = goes_on n (Unnamed kind) p
 answered_stage v n (Ready kind sel seen headed) p = call_answer n kind sel headed v p
 answered_stage v n (Asking first rest got) p = goes_on n (Asking first rest got) p
 
-abbrev pub answered_where : Option Sight → ServedCall → Phase → Turned
+abbrev pub answered_where : Option ViewModel → ServedCall → Phase → Turned
 answered_where None c p = goes_on c.stream c.stage p
 answered_where (Some v) c p = answered_stage v c.stream c.stage p
 
 -- each call on its view
-unfoldable pub calls_on : List (Option Sight) → List ServedCall → Phase → Turned
+unfoldable pub calls_on : List (Option ViewModel) → List ServedCall → Phase → Turned
 calls_on views [] p = has_ended p
 calls_on [] (c ∷ cs) p = turn_before (goes_on c.stream c.stage p) (calls_on [] cs)
 calls_on (v ∷ views) (c ∷ cs) p = turn_before (answered_where v c p) (calls_on views cs)
 
-unfoldable pub views_said : List (Option Sight) → Talking → Said
+unfoldable pub views_said : List (Option ViewModel) → Talking → Said
 views_said views t = written None (with_turned t (calls_on views t.served t.phase))
 
 -- what a caller is attested as is no part of its talk: its views are
@@ -90,25 +90,25 @@ reading_items r = map FrameItem r.frames ++ broken_items r.ending
 abbrev pub fed_items : Reading → Option (List (List ℕ)) → Talking → List Item
 fed_items r caller t = reading_items r ++ attestations (feed_said r t).fault caller (feed_said r t).after
 
--- a session that has failed lives through nothing more
+-- a session that has failed takes nothing more
 abbrev pub feed_items : List ℕ → Option (List (List ℕ)) → SessionState → List Item
 feed_items piece caller (Running e t shown) = fed_items (reading_from e piece) caller t
 feed_items piece caller (Fallen fault begun) = []
 feed_items piece caller OutOfMemory = []
 
-abbrev pub view_where_new : Option Sight → Sight → Option Sight
+abbrev pub view_where_new : Option ViewModel → ViewModel → Option ViewModel
 view_where_new seen v = if was_seen seen v then None else Some v
 
-abbrev pub stage_view : Publication → Stage → Option Sight
+abbrev pub stage_view : Publication → Stage → Option ViewModel
 stage_view p (Unnamed kind) = None
 stage_view p (Ready kind sel seen headed) = view_where_new seen (view_in p sel)
 stage_view p (Asking first rest got) = None
 
-abbrev pub call_view : Publication → ServedCall → Option Sight
+abbrev pub call_view : Publication → ServedCall → Option ViewModel
 call_view p c = stage_view p c.stage
 
 -- a turn in which no view is new is left out, unless it is the first item
-abbrev pub views_item : List Item → List (Option Sight) → List Item
+abbrev pub views_item : List Item → List (Option ViewModel) → List Item
 views_item [] views = TurnItem views ∷ []
 views_item (i ∷ before) views = if list_all is_none views then [] else TurnItem views ∷ []
 

@@ -5,8 +5,8 @@ use Rattle.grpc_wire.specs.declared.method.Method.TheVariants as methods
 use Rattle.grpc_conn.specs.declared.request.Request.{Request}
 use Rattle.grpc_conn.specs.declared.request.Request.TheVariants as requests
 use Rattle.wl_snapshot.specs.declared.answers.Method3.TheVariants as streams
-use Rattle.wl_snapshot.specs.Same.{same_sight}
-use Rattle.wl_snapshot.specs.Views.{Sight}
+use Rattle.wl_snapshot.specs.Same.{same_view_model}
+use Rattle.wl_snapshot.specs.Views.{ViewModel}
 use Rattle.wl_session.specs.declared.served.CallKind.{CallKind}
 use Rattle.wl_session.specs.declared.served.CallKind.TheVariants.{Stream, Tokens, Check, Watch}
 
@@ -34,6 +34,6 @@ kind_of method (requests.Jwt audience id) = Tokens audience id
 kind_of method (requests.Health service) = health_kind method service
 
 -- the view is the one that answered last
-abbrev pub was_seen : Option Sight → Sight → Bool
+abbrev pub was_seen : Option ViewModel → ViewModel → Bool
 was_seen None v = false
-was_seen (Some old) v = same_sight old v
+was_seen (Some old) v = same_view_model old v

@@ -1,9 +1,9 @@
 -- What holds of a session between its calls.
 use Rattle.std.specs.Prelude.{◌≡◌, ℕ, ◌≤◌, ◌==◌, Bool, true, false, List, [], ◌∷◌, Option, Some, None, Result, IsSome}
 use Rattle.h2_conn.specs.Conns.{flush_of}
-use Rattle.wl_snapshot.specs.Same.{same_sight}
+use Rattle.wl_snapshot.specs.Same.{same_view_model}
 use Rattle.wl_snapshot.specs.Snapshots.{Publication}
-use Rattle.wl_snapshot.specs.Views.{Sight, view_in}
+use Rattle.wl_snapshot.specs.Views.{ViewModel, view_in}
 use Rattle.wl_session.specs.declared.asks.SessionFault.{SessionFault}
 use Rattle.wl_session.specs.declared.served.Stage.{Stage}
 use Rattle.wl_session.specs.declared.served.Stage.TheVariants.{Unnamed, Ready, Asking}
@@ -13,7 +13,7 @@ use Rattle.wl_session.specs.declared.asks.JwtOutcome.{JwtOutcome}
 use Rattle.wl_session.specs.Sessions.{SessionState, Running, Fallen, OutOfMemory, fresh_session, Feeds, Turns, Names, GivesOutcome, unnamed_in, asks_in}
 
 -- a call that no turn answered yet
-abbrev pub is_new_view : Option Sight → Bool
+abbrev pub is_new_view : Option ViewModel → Bool
 is_new_view None = true
 is_new_view (Some v) = false
 
@@ -25,9 +25,9 @@ is_new_stage (Asking first rest got) = false
 abbrev pub is_new : ServedCall → Bool
 is_new c = is_new_stage c.stage
 
-abbrev pub WasSeenOn : Sight → Option Sight → Type 0
+abbrev pub WasSeenOn : ViewModel → Option ViewModel → Type 0
 WasSeenOn v None = Unit {0}
-WasSeenOn v (Some old) = same_sight old v ≡ true
+WasSeenOn v (Some old) = same_view_model old v ≡ true
 
 abbrev pub WasSeen : Publication → Stage → Type 0
 WasSeen x (Unnamed kind) = Unit {0}
@@ -40,17 +40,17 @@ WereSeen x [] = Unit {0}
 WereSeen x (c ∷ cs) = WasSeen x c.stage × WereSeen x cs
 
 -- what is so of the selectors of a ready call that was attested, and of the view that answered it last
-abbrev pub StageIs : (List (List ℕ) → Option Sight → Type 0) → Stage → Type 0
+abbrev pub StageIs : (List (List ℕ) → Option ViewModel → Type 0) → Stage → Type 0
 StageIs rule (Unnamed kind) = Unit {0}
 StageIs rule (Ready kind sel seen headed) = rule sel seen
 StageIs rule (Asking first rest got) = Unit {0}
 
 -- it is so of each
-abbrev pub EachIs : (List (List ℕ) → Option Sight → Type 0) → List ServedCall → Type 0
+abbrev pub EachIs : (List (List ℕ) → Option ViewModel → Type 0) → List ServedCall → Type 0
 EachIs rule [] = Unit {0}
 EachIs rule (c ∷ cs) = StageIs rule c.stage × EachIs rule cs
 
-abbrev pub EachIsIn : (List (List ℕ) → Option Sight → Type 0) → SessionState → Type 0
+abbrev pub EachIsIn : (List (List ℕ) → Option ViewModel → Type 0) → SessionState → Type 0
 EachIsIn rule (Running e t x) = EachIs rule t.served
 EachIsIn rule (Fallen f begun) = Unit {0}
 EachIsIn rule OutOfMemory = Unit {0}

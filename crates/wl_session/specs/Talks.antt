@@ -1,4 +1,4 @@
--- Talk: what a frame of the peer does, and what is written behind each item (own rule).
+-- Talk: what a frame of the peer does, and what is written after each item (own rule).
 use Rattle.std.specs.Prelude.{ℕ, ◌==◌, Bool, true, false, not, nat_lt, if◌then◌else◌, List, [], ◌∷◌, ◌++◌, filter, Option, Some, None}
 use Rattle.h2_wire.specs.declared.setting.TheConstants.{MAX_CONCURRENT_STREAMS, MAX_HEADER_LIST_SIZE}
 use Rattle.h2_frame.specs.declared.fault.FrameFault.{FrameFault}
@@ -65,7 +65,7 @@ abbrev pub after_happenings : List Happening → Talking → Talking
 after_happenings [] t = t
 after_happenings (h ∷ hs) t = after_happenings hs (after_happening h t)
 
--- what a frame told; on a connection that has failed nothing is told
+-- what a frame told; on a connection that has failed nothing is reported
 abbrev pub after_heard : FrameResult → Talking → Talking
 after_heard h t = after_happenings h.told (record t { phase = h.after })
 
@@ -88,7 +88,7 @@ pub record Said : Type 0 where
   pub bytes : List ℕ
   pub fault : Option ConnFault
 
--- behind each item: this side's SETTINGS before all else, and what may be written now
+-- after each item: this side's SETTINGS before all else, and what may be written now
 unfoldable pub written : Option ConnFault → Talking → Said
 written fault t =
     let w = flush_of t.phase in
@@ -107,7 +107,7 @@ then_ s go_on =
 abbrev pub silent : Talking → Said
 silent t = record { after = t; bytes = []; fault = None }
 
--- a frame, and what is written behind it
+-- a frame, and what is written after it
 unfoldable pub frame_said : Frame → Talking → Said
 frame_said f t = written (frame_result t.phase f).fault (after_frame f t)
 
@@ -116,6 +116,6 @@ unfoldable pub frames_said : List Frame → Talking → Said
 frames_said [] t = silent t
 frames_said (f ∷ fs) t = then_ (frame_said f t) (frames_said fs)
 
--- bytes that are no frames, and what is written behind them
+-- bytes that are no frames, and what is written after them
 unfoldable pub break_said : FrameFault → Talking → Said
 break_said why t = written (frame_fault_on why t.phase) (record t { phase = after_frame_fault why t.phase })

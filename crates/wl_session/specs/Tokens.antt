@@ -18,7 +18,7 @@ use Rattle.wl_session.specs.Answering.{Turned, goes_on, has_ended, with_refusal,
 
 -- ---- the first of a kind
 
--- those before it, what becomes of it, and those behind it
+-- those before it, what becomes of it, and those after it
 abbrev pub change_in : (ServedCall → Phase → Turned) → List ServedCall → List ServedCall → Phase → Turned
 change_in change front [] p = record { phase = p; kept = front }
 change_in change front (c ∷ rest) p =

@@ -158,7 +158,7 @@ fn place_of(served: &[ServedCall]) -> Option<usize>
 }
 
 /// The first ask gets this outcome. Where none waits, nothing changes.
-#[tactic(auto, using(crate::proofs::Serving::first_found, crate::proofs::Serving::first_none), unfolding(crate::specs::Tokens::give_first))]
+#[tactic(auto, using(crate::proofs::ReadyCalls::first_found, crate::proofs::ReadyCalls::first_none), unfolding(crate::specs::Tokens::give_first))]
 pub fn give_first(
     alloc: Global,
     conn: &mut Conn,

@@ -38,7 +38,7 @@ pub fn turns_agree()
 
 /// Which of two calls on different streams takes its turn first decides nothing, also where each takes it on a
 /// publication of its own: what becomes of a call is the same on every connection, and the connection is the same
-/// behind both.
+/// after both.
 #[tactic(auto, using(crate::proofs::Orders::kept_alone, crate::proofs::Orders::turns_commute, crate::proofs::Orders::calls_commute))]
 pub fn turns_commute()
     ensures kept { (publication : Publication) (call : ServedCall) (one other : Phase)

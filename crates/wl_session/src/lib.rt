@@ -1,6 +1,6 @@
 //! A connection of the SPIFFE Workload API: its bytes, attested call by call, become messages.
 //!
-//! A session is fed the bytes of a peer, is told the selectors of each call that became ready, and takes its turns: a turn
+//! A session is fed the bytes of a peer, gets the selectors of each call that became ready, and takes its turns: a turn
 //! reads one publication and answers each ready call from what its own selectors are entitled to there, and from nothing
 //! else. What is written is a function of these alone.
 #![tactic(auto)]

@@ -8,7 +8,7 @@ use std::marker::Model;
 use wl_octets::{Memory, Octets, Row, Shared};
 use wl_snapshot::{Method3, View, same_view};
 
-/// The message of a method on a view, behind its gRPC prefix. It answers each streaming call of this method that has
+/// The message of a method on a view, after its gRPC prefix. It answers each streaming call of this method that has
 /// an equal view.
 #[derive(Drop)]
 pub struct MadeMessage {

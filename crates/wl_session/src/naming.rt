@@ -75,7 +75,7 @@ fn place_of(served: &[ServedCall]) -> Option<usize>
 }
 
 /// The first unnamed call takes these selectors, or ends. Where there is none, nothing changes.
-#[tactic(auto, using(crate::proofs::Serving::first_found, crate::proofs::Serving::first_none), unfolding(crate::specs::Tokens::name_first))]
+#[tactic(auto, using(crate::proofs::ReadyCalls::first_found, crate::proofs::ReadyCalls::first_none), unfolding(crate::specs::Tokens::name_first))]
 pub fn name_first(
     alloc: Global,
     conn: &mut Conn,

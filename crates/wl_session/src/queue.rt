@@ -1,4 +1,4 @@
-//! Asks that wait behind the first.
+//! Asks that wait after the first.
 
 ghost use Rattle.std.specs.Prelude.{◌≡◌};
 ghost use Rattle.wl_session.specs.Queues.{PopsFront};

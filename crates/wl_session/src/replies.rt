@@ -21,7 +21,7 @@ fn head(alloc: Global, conn: &mut Conn, stream: u32, headed: bool) -> Result<(),
     conn.head(stream, fields.as_slice())
 }
 
-/// A message that stands behind its gRPC prefix already.
+/// A message that stands after its gRPC prefix already.
 #[tactic(auto, unfolding(crate::specs::Answering::with_message))]
 pub fn framed_message(
     alloc: Global,
@@ -39,8 +39,8 @@ pub fn framed_message(
     Ok(())
 }
 
-/// A message, behind its prefix.
-#[tactic(auto, using(crate::proofs::Framing::framed_some), unfolding(crate::specs::Answering::with_message))]
+/// A message, after its prefix.
+#[tactic(auto, using(crate::proofs::FramedMessages::framed_some), unfolding(crate::specs::Answering::with_message))]
 pub fn message(
     alloc: Global,
     conn: &mut Conn,

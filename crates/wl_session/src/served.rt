@@ -160,7 +160,7 @@ fn push_last(mut served: Vec<ServedCall>, call: ServedCall) -> Result<Row<Served
 }
 
 /// One more ready call, by ascending stream.
-#[tactic(auto, using(crate::proofs::Serving::served_here, crate::proofs::Serving::served_last))]
+#[tactic(auto, using(crate::proofs::ReadyCalls::served_here, crate::proofs::ReadyCalls::served_last))]
 pub fn with_served(served: Row<ServedCall>, call: ServedCall) -> Result<Row<ServedCall>, Memory>
     ensures { IfOk result (λ r. r ≡ with_served call served) }
 {
@@ -180,7 +180,7 @@ pub fn others(served: Row<ServedCall>, stream: u32) -> Row<ServedCall>
     Row::from_vec(served)
 }
 
-/// The calls before this place, the call there, and those behind it.
+/// The calls before this place, the call there, and those after it.
 #[derive(Drop)]
 pub struct Parted {
     pub front: Vec<ServedCall>,
@@ -191,7 +191,7 @@ pub struct Parted {
 /// Takes out the call at this place.
 pub fn part_at(mut served: Vec<ServedCall>, place: usize) -> Result<Parted, Memory>
     requires { place < length served.items }
-    ensures front { IfOk result (λ p. p.front.items ≡ take place served.items) }
+    ensures prefix { IfOk result (λ p. p.front.items ≡ take place served.items) }
     ensures there { IfOk result (λ p. drop place served.items ≡ p.call ∷ p.behind.items) }
 {
     let mut behind = served.split_off(place)?;
@@ -203,7 +203,7 @@ pub fn part_at(mut served: Vec<ServedCall>, place: usize) -> Result<Parted, Memo
     })
 }
 
-/// The calls in front, what became of one, and those behind it.
+/// The calls in front, what became of one, and those after it.
 pub fn join_at(
     mut front: Vec<ServedCall>,
     stream: u32,

@@ -47,7 +47,7 @@ impl Model for Session {
 
 impl Session {
     /// A connection of which nothing came yet.
-    #[tactic(auto, using(crate::proofs::Settling::settled_fresh))]
+    #[tactic(auto, using(crate::proofs::SessionFacts::settled_fresh))]
     pub fn start(alloc: Global) -> Result<Session, Memory>
         ensures { IfOk result (λ s. s ≡ fresh_session) }
     {
@@ -61,10 +61,10 @@ impl Session {
         })
     }
 
-    /// The peer's bytes, however cut: each whole frame in turn, with what may be written behind it. At Protocol the GOAWAY
+    /// The peer's bytes, however cut: each whole frame in turn, with what may be written after it. At Protocol the GOAWAY
     /// is in `out`. After a fault or out of memory each later call that can be refused gives that answer again; out of
     /// memory, `out` gained a prefix of what was due.
-    #[tactic(auto, using(crate::proofs::Settling::settled_feed))]
+    #[tactic(auto, using(crate::proofs::SessionFacts::settled_feed))]
     pub fn feed(&mut self, piece: &[u8], out: &mut Octets) -> Result<(), SessionFault>
         ensures { Feeds piece.now self.old result out.old out.new self.new }
     {
@@ -96,7 +96,7 @@ impl Session {
 
     /// The call that `unnamed` gives takes these selectors, which are its caller's from then on; without selectors its
     /// stream ends, since its caller could not be attested.
-    #[tactic(auto, using(crate::proofs::Settling::settled_name))]
+    #[tactic(auto, using(crate::proofs::SessionFacts::settled_name))]
     pub fn name(
         &mut self,
         selectors: Option<Selectors>,
@@ -142,7 +142,7 @@ impl Session {
 
     /// The same on a publication that shows no call that was answered another view than answered it last: where no call is
     /// new it makes no view, and takes no memory.
-    #[tactic(auto, using(crate::proofs::Attested::unchanged_settles, crate::proofs::Attested::unchanged_turns))]
+    #[tactic(auto, using(crate::proofs::ViewFacts::unchanged_settles, crate::proofs::ViewFacts::unchanged_turns))]
     pub fn turn_unchanged(
         &mut self,
         snapshot: &Snapshot,
@@ -166,7 +166,7 @@ impl Session {
         Ok(())
     }
 
-    #[tactic(auto, using(crate::proofs::Settling::settled_turn, crate::proofs::Settling::stays_on))]
+    #[tactic(auto, using(crate::proofs::SessionFacts::settled_turn, crate::proofs::SessionFacts::stays_on))]
     fn turn_over(
         &mut self,
         snapshot: &Snapshot,
@@ -208,7 +208,7 @@ impl Session {
 
     /// The ask that `asks` gives gets this outcome. When all tokens of its call have come, the call's message is queued;
     /// where one cannot be had, the call ends with status 14.
-    #[tactic(auto, using(crate::proofs::Settling::settled_given))]
+    #[tactic(auto, using(crate::proofs::SessionFacts::settled_given))]
     pub fn given(&mut self, outcome: JwtOutcome, out: &mut Octets) -> Result<(), SessionFault>
         requires { IsSome (asks_in self.old) }
         ensures { GivesOutcome outcome self.old result out.old out.new self.new }
@@ -265,7 +265,7 @@ struct Heard {
 }
 
 /// The frames of these bytes, and the fault of those that are none.
-#[tactic(auto, using(crate::proofs::Feeding::open_none, crate::proofs::Feeding::fault_some))]
+#[tactic(auto, using(crate::proofs::FedBytes::open_none, crate::proofs::FedBytes::fault_some))]
 fn read(alloc: Global, parser: &mut Parser, piece: &[u8]) -> Result<Heard, Memory>
     ensures ending { OnOk result (parser.new ≡ (reading_from parser.old piece.now).ending) }
     ensures frames { IfOk result (λ heard. heard.frames ≡ (reading_from parser.old piece.now).frames) }
@@ -287,7 +287,7 @@ fn read(alloc: Global, parser: &mut Parser, piece: &[u8]) -> Result<Heard, Memor
 }
 
 /// The frames of these bytes in turn, and then the fault of bytes that are none.
-#[tactic(auto, using(crate::proofs::Feeding::said_open, crate::proofs::Feeding::said_fault, crate::proofs::Feeding::frames_front, crate::proofs::Feeding::break_front, crate::proofs::Feeding::fed_fit))]
+#[tactic(auto, using(crate::proofs::FedBytes::said_open, crate::proofs::FedBytes::said_fault, crate::proofs::FedBytes::frames_front, crate::proofs::FedBytes::break_front, crate::proofs::FedBytes::fed_fit))]
 fn advance(
     alloc: Global,
     parser: &mut Parser,
@@ -301,7 +301,7 @@ fn advance(
         (out.new ≡ out.old ++ (feed_said (reading_from parser.old piece.now) talk.old).bytes) }
     ensures fault { IfOk result
         (λ fault. fault ≡ (feed_said (reading_from parser.old piece.now) talk.old).fault) }
-    ensures front { GainsFront
+    ensures prefix { GainsFront
         (feed_said (reading_from parser.old piece.now) talk.old).bytes out.old out.new }
 {
     let Heard { frames, fault } = read(alloc, parser, piece)?;

@@ -59,7 +59,7 @@ impl Model for Talk {
 #[tactic(auto, unfolding(crate::specs::Talks::settings_bytes))]
 fn put_settings(alloc: Global, out: &mut Octets) -> Result<(), Memory>
     ensures ok { OnOk result (out.new ≡ out.old ++ settings_bytes) }
-    ensures front { GainsFront settings_bytes out.old out.new }
+    ensures prefix { GainsFront settings_bytes out.old out.new }
 {
     let mut pairs = Row::empty(alloc);
     pairs.push(Setting {
@@ -201,7 +201,7 @@ impl Talk {
         }
     }
 
-    #[tactic(auto, using(crate::proofs::Running::happened_more))]
+    #[tactic(auto, using(crate::proofs::ItemSequences::happened_more))]
     fn happenings(&mut self, told: Row<Happening>) -> Result<(), Memory>
         ensures { OnOk result (self.new ≡ after_happenings told self.old) }
     {
@@ -212,7 +212,7 @@ impl Talk {
     }
 
     /// What a frame of the peer does, and the fault with which the connection fails.
-    #[tactic(auto, unfolding(crate::specs::Talks::after_frame), using(crate::proofs::Running::faults_tell_nothing))]
+    #[tactic(auto, unfolding(crate::specs::Talks::after_frame), using(crate::proofs::ItemSequences::faults_tell_nothing))]
     fn frame(&mut self, frame: Frame) -> Result<Option<ConnFault>, Memory>
         requires { Fits frame }
         ensures after { OnOk result (self.new ≡ after_frame frame self.old) }
@@ -230,12 +230,12 @@ impl Talk {
     }
 
     /// This side's SETTINGS before all else, and then what may be written now.
-    #[tactic(auto, unfolding(crate::specs::Talks::written), using(crate::proofs::Running::greet_front, crate::proofs::Running::flush_front))]
+    #[tactic(auto, unfolding(crate::specs::Talks::written), using(crate::proofs::ItemSequences::greet_front, crate::proofs::ItemSequences::flush_front))]
     fn write(&mut self, out: &mut Octets) -> Result<(), Memory>
         ensures after { OnOk result ((fault : Option ConnFault) → self.new ≡ (written fault self.old).after) }
         ensures bytes { OnOk result
             ((fault : Option ConnFault) → out.new ≡ out.old ++ (written fault self.old).bytes) }
-        ensures front { (fault : Option ConnFault)
+        ensures prefix { (fault : Option ConnFault)
             → GainsFront (written fault self.old).bytes out.old out.new }
     {
         self.greet(out)?;
@@ -245,7 +245,7 @@ impl Talk {
     fn greet(&mut self, out: &mut Octets) -> Result<(), Memory>
         ensures after { OnOk result (self.new ≡ record self.old { greeted = true }) }
         ensures bytes { OnOk result (out.new ≡ out.old ++ greeting self.old.greeted) }
-        ensures front { GainsFront (greeting self.old.greeted) out.old out.new }
+        ensures prefix { GainsFront (greeting self.old.greeted) out.old out.new }
         ensures phase { self.new.phase ≡ self.old.phase }
     {
         if !self.greeted {
@@ -255,22 +255,22 @@ impl Talk {
         Ok(())
     }
 
-    /// A frame, and what is written behind it.
-    #[tactic(auto, unfolding(crate::specs::Talks::frame_said), using(crate::proofs::Running::written_fault))]
+    /// A frame, and what is written after it.
+    #[tactic(auto, unfolding(crate::specs::Talks::frame_said), using(crate::proofs::ItemSequences::written_fault))]
     fn step(&mut self, frame: Frame, out: &mut Octets) -> Result<Option<ConnFault>, Memory>
         requires { Fits frame }
         ensures after { OnOk result (self.new ≡ (frame_said frame self.old).after) }
         ensures bytes { OnOk result (out.new ≡ out.old ++ (frame_said frame self.old).bytes) }
         ensures fault { IfOk result (λ fault. fault ≡ (frame_said frame self.old).fault) }
-        ensures front { GainsFront (frame_said frame self.old).bytes out.old out.new }
+        ensures prefix { GainsFront (frame_said frame self.old).bytes out.old out.new }
     {
         let fault = self.frame(frame)?;
         self.write(out)?;
         Ok(fault)
     }
 
-    /// Frames in turn, each with what is written behind it, and the first fault.
-    #[tactic(auto, using(crate::proofs::Running::said_more))]
+    /// Frames in turn, each with what is written after it, and the first fault.
+    #[tactic(auto, using(crate::proofs::ItemSequences::said_more))]
     pub fn frames(
         &mut self,
         frames: Row<Frame>,
@@ -280,7 +280,7 @@ impl Talk {
         ensures after { OnOk result (self.new ≡ (frames_said frames self.old).after) }
         ensures bytes { OnOk result (out.new ≡ out.old ++ (frames_said frames self.old).bytes) }
         ensures fault { IfOk result (λ fault. fault ≡ (frames_said frames self.old).fault) }
-        ensures front { GainsFront (frames_said frames self.old).bytes out.old out.new }
+        ensures prefix { GainsFront (frames_said frames self.old).bytes out.old out.new }
     {
         let mut first = None;
         for frame in frames.into_vec() {
@@ -299,14 +299,14 @@ impl Talk {
         self.conn.fail(why)
     }
 
-    /// Bytes that are no frames, and what is written behind them.
-    #[tactic(auto, unfolding(crate::specs::Talks::break_said), using(crate::proofs::Running::written_fault))]
+    /// Bytes that are no frames, and what is written after them.
+    #[tactic(auto, unfolding(crate::specs::Talks::break_said), using(crate::proofs::ItemSequences::written_fault))]
     pub fn fail(&mut self, why: FrameFault, out: &mut Octets) -> Result<Option<ConnFault>, Memory>
         requires { why ≡ frame_faults.Memory → ⊥ }
         ensures after { OnOk result (self.new ≡ (break_said why self.old).after) }
         ensures bytes { OnOk result (out.new ≡ out.old ++ (break_said why self.old).bytes) }
         ensures fault { IfOk result (λ fault. fault ≡ (break_said why self.old).fault) }
-        ensures front { GainsFront (break_said why self.old).bytes out.old out.new }
+        ensures prefix { GainsFront (break_said why self.old).bytes out.old out.new }
     {
         let fault = self.take_fault(why)?;
         self.write(out)?;
@@ -323,7 +323,7 @@ impl Talk {
         Ok(())
     }
 
-    /// A turn on this publication, and what is written behind it.
+    /// A turn on this publication, and what is written after it.
     #[tactic(auto, unfolding(crate::specs::Sessions::turn_said))]
     pub fn turn(
         &mut self,
@@ -334,7 +334,7 @@ impl Talk {
         requires { IfSome index (λ i. i.now ≡ snapshot.now.entries) }
         ensures after { OnOk result (self.new ≡ (turn_said snapshot.now self.old).after) }
         ensures bytes { OnOk result (out.new ≡ out.old ++ (turn_said snapshot.now self.old).bytes) }
-        ensures front { GainsFront (turn_said snapshot.now self.old).bytes out.old out.new }
+        ensures prefix { GainsFront (turn_said snapshot.now self.old).bytes out.old out.new }
     {
         self.take_turn(snapshot, index)?;
         self.write(out)
@@ -354,7 +354,7 @@ impl Talk {
     pub fn name(&mut self, selectors: Option<Selectors>, out: &mut Octets) -> Result<(), Memory>
         ensures after { OnOk result (self.new ≡ (name_said selectors self.old).after) }
         ensures bytes { OnOk result (out.new ≡ out.old ++ (name_said selectors self.old).bytes) }
-        ensures front { GainsFront (name_said selectors self.old).bytes out.old out.new }
+        ensures prefix { GainsFront (name_said selectors self.old).bytes out.old out.new }
     {
         match selectors {
             Some(selectors) => self.take_name(Some(selectors)),
@@ -379,7 +379,7 @@ impl Talk {
     pub fn give(&mut self, outcome: JwtOutcome, out: &mut Octets) -> Result<(), Memory>
         ensures after { OnOk result (self.new ≡ (given_said outcome self.old).after) }
         ensures bytes { OnOk result (out.new ≡ out.old ++ (given_said outcome self.old).bytes) }
-        ensures front { GainsFront (given_said outcome self.old).bytes out.old out.new }
+        ensures prefix { GainsFront (given_said outcome self.old).bytes out.old out.new }
     {
         self.take_outcome(outcome)?;
         self.write(out)

@@ -76,8 +76,8 @@ fn was_seen(seen: &Option<Shared<View>>, view: &View) -> bool
     }
 }
 
-/// A streaming call is offered its message, which stands behind its gRPC prefix, and goes on.
-#[tactic(auto, using(crate::proofs::Framing::message_some, crate::proofs::Framing::offered_message))]
+/// A streaming call is offered its message, which stands after its gRPC prefix, and goes on.
+#[tactic(auto, using(crate::proofs::FramedMessages::message_some, crate::proofs::FramedMessages::offered_message))]
 fn answer_message(
     alloc: Global,
     conn: &mut Conn,

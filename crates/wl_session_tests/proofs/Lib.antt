@@ -1,2 +1,2 @@
-mod Holding
+mod EveryAnswer
 mod Samples

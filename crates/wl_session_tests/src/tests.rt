@@ -37,7 +37,7 @@ fn joined(alloc: Global, parts: &[&[u8]]) -> Result<Octets, Memory> {
     Ok(all)
 }
 
-/// Whether these bytes are the parts, one behind the other.
+/// Whether these bytes are the parts, one after the other.
 fn are_parts(bytes: &[u8], parts: &[&[u8]]) -> bool {
     let mut rest = bytes;
     for part in parts {
@@ -54,7 +54,7 @@ fn are_parts(bytes: &[u8], parts: &[&[u8]]) -> bool {
 }
 
 /// A session on which no turn was taken.
-#[tactic(auto, using(wl_session::proofs::Following::fresh_follows))]
+#[tactic(auto, using(wl_session::proofs::TurnPublications::fresh_follows))]
 fn fresh(alloc: Global) -> Result<Session, Stop>
     ensures { IfOk result (λ s. (x : Publication) → MayTurn x s) }
 {
@@ -63,7 +63,7 @@ fn fresh(alloc: Global) -> Result<Session, Stop>
 }
 
 /// The call that is not named, if there is one, takes its name.
-#[tactic(auto, using(wl_session::proofs::Following::names_follow))]
+#[tactic(auto, using(wl_session::proofs::TurnPublications::names_follow))]
 fn name(alloc: Global, session: &mut Session, caller: Caller, out: &mut Octets) -> Result<(), Stop>
     ensures keeps { OnOk result ((x : Publication) → MayTurn x session.old → MayTurn x session.new) }
 {
@@ -74,7 +74,7 @@ fn name(alloc: Global, session: &mut Session, caller: Caller, out: &mut Octets) 
     Ok(session.name(selectors, out)?)
 }
 
-#[tactic(auto, using(wl_session::proofs::Following::feeds_follow))]
+#[tactic(auto, using(wl_session::proofs::TurnPublications::feeds_follow))]
 fn hear(alloc: Global, session: &mut Session, parts: &[&[u8]], out: &mut Octets) -> Result<(), Stop>
     ensures keeps { OnOk result ((x : Publication) → MayTurn x session.old → MayTurn x session.new) }
 {
@@ -120,7 +120,7 @@ fn fed(alloc: Global, caller: Caller, parts: &[&[u8]]) -> Result<(Session, Octet
 }
 
 /// Whether each of two turns writes what is due: this, and then nothing.
-#[tactic(auto, using(wl_session::proofs::Following::turns_again))]
+#[tactic(auto, using(wl_session::proofs::TurnPublications::turns_again))]
 fn answers(
     alloc: Global,
     mut session: Session,
@@ -141,7 +141,7 @@ fn answers(
 }
 
 /// Whether a turn by the index of the entries writes what is due, and one on the same views nothing.
-#[tactic(auto, using(wl_session::proofs::Following::turns_again, wl_session::proofs::Attested::turns_shown))]
+#[tactic(auto, using(wl_session::proofs::TurnPublications::turns_again, wl_session::proofs::ViewFacts::turns_shown))]
 fn answers_by_index(
     alloc: Global,
     mut session: Session,
@@ -231,7 +231,7 @@ fn health_is_told(rt: HostRuntime) -> Result<(), Fail> {
     Ok(())
 }
 
-#[tactic(auto, using(wl_session::proofs::Following::turns_later))]
+#[tactic(auto, using(wl_session::proofs::TurnPublications::turns_later))]
 fn turn(session: &mut Session, snapshot: &Snapshot, out: &mut Octets) -> Result<(), Stop>
     requires follows { MayTurn snapshot.now session.old }
     requires named { unnamed_in session.old ≡ None }
@@ -257,7 +257,7 @@ fn jwt_outcome(alloc: Global, outcome: Outcome) -> Result<JwtOutcome, Memory> {
 }
 
 /// The ask that waits, if there is one, gets this outcome.
-#[tactic(auto, using(wl_session::proofs::Following::tokens_follow))]
+#[tactic(auto, using(wl_session::proofs::TurnPublications::tokens_follow))]
 fn give(
     alloc: Global,
     session: &mut Session,
@@ -367,7 +367,7 @@ fn tokens_are_handed_on(rt: HostRuntime) -> Result<(), Fail> {
 }
 
 /// Bytes that come one at a time.
-#[tactic(auto, using(wl_session::proofs::Following::feeds_follow))]
+#[tactic(auto, using(wl_session::proofs::TurnPublications::feeds_follow))]
 fn hear_singly(session: &mut Session, bytes: &[u8], out: &mut Octets) -> Result<(), Stop>
     ensures keeps { OnOk result ((x : Publication) → MayTurn x session.old → MayTurn x session.new) }
 {

@@ -2,7 +2,7 @@
 use Rattle.std.specs.Prelude.{◌≡◌, List, map}
 use Rattle.std.proofs.Common.{refl, sym, subst}
 use Rattle.list_laws.specs.Lists.{Rises}
-use Rattle.list_laws.proofs.Rising.{rises_map}
+use Rattle.list_laws.proofs.AscendingKeys.{rises_map}
 use Rattle.wl_entry.specs.Asks.{ask_of}
 use Rattle.wl_entry.specs.Keys.{entry_key}
 use Rattle.wl_entry.specs.declared.asks.Ask.{Ask}

@@ -1,7 +1,7 @@
 pub mod Asks
-pub mod Grouping
+pub mod FlightAsks
 pub mod Publications
 pub mod Sames
-pub mod Settling
-pub mod Touching
-pub mod Unmarked
+pub mod StoreSteps
+pub mod UntouchedParts
+pub mod UnmarkedFlights

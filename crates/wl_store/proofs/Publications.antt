@@ -16,7 +16,7 @@ use Rattle.wl_entry.specs.declared.signing.Svid.{Svid}
 use Rattle.wl_snapshot.specs.Snapshots.{IsPublication, IsAsked}
 use Rattle.wl_entry.specs.Keys.{ask_key}
 use Rattle.svid_cache.specs.Caches.{Cached, IsCached, is_listed}
-use Rattle.svid_cache.proofs.Finding.{passes, listed_found}
+use Rattle.svid_cache.proofs.KeyTests.{passes, listed_found}
 use Rattle.wl_store.specs.Stores.{asks_of}
 use Rattle.wl_store.specs.Steps.{IsStock}
 use Rattle.wl_store.proofs.Asks.{asks_rise}

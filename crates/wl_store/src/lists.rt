@@ -97,7 +97,7 @@ pub(crate) fn share_bundles(
 /// The index of these entries, to be shared.
 pub(crate) fn index_of(alloc: Global, entries: &[Shared<Entry>]) -> Result<Shared<Index>, Memory>
     requires rises { Rises (map entry_key entries.now) }
-    requires few { length entries.now ≤ 10000 }
+    requires at_most { length entries.now ≤ 10000 }
     ensures { IfOk result (λ x. x ≡ entries.now) }
 {
     let index = Index::build(alloc, entries)?;
@@ -107,7 +107,7 @@ pub(crate) fn index_of(alloc: Global, entries: &[Shared<Entry>]) -> Result<Share
 /// The timetable of the asks of these entries, without SVIDs.
 pub(crate) fn table_of(alloc: Global, entries: &[Entry]) -> Result<Shared<Timetable>, Memory>
     requires rises { Rises (map entry_key entries.now) }
-    requires few { length entries.now ≤ 10000 }
+    requires at_most { length entries.now ≤ 10000 }
     ensures asks { IfOk result (λ t. t.asks ≡ asks_of entries.now) }
     ensures about { IfOk result (λ t. IsAbout t []) }
 {

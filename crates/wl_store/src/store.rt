@@ -202,7 +202,7 @@ impl<V: Voucher> Store<V> {
     }
 
     /// Whether a ticket of this number is in flight. It takes no memory.
-    #[tactic(auto, using(crate::proofs::Unmarked::any_found))]
+    #[tactic(auto, using(crate::proofs::UnmarkedFlights::any_found))]
     pub fn in_flight(&self, number: u64) -> bool
         ensures { result ≡ list_any (λ f. f.number == number) self.now.store.in_flight }
     {

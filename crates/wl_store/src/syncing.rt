@@ -31,7 +31,7 @@ impl<V: Voucher> Store<V> {
     /// The cache with the asks of these entries.
     fn cache_for(&self, alloc: Global, entries: &Row<Entry>) -> Result<KeptSvids, Memory>
         requires rises { Rises (map entry_key entries.now) }
-        requires few { length entries.now ≤ 10000 }
+        requires at_most { length entries.now ≤ 10000 }
         ensures value { IfOk result (λ c. c ≡ with_asks (asks_of entries.now) (cached_of self.now.store)) }
         ensures trusted { IfOk result (λ c. AllTrusted V.signed self.now.store.strict c.svids) }
     {
@@ -84,7 +84,7 @@ impl<V: Voucher> Store<V> {
         is_same: bool,
     ) -> Result<Shared<Index>, Memory>
         requires rises { Rises (map entry_key entries.now) }
-        requires few { length entries.now ≤ 10000 }
+        requires at_most { length entries.now ≤ 10000 }
         requires same { is_same ≡ pointwise same_entry self.now.published.entries entries.now }
         ensures { IfOk result (λ x. x ≡ entries.now) }
     {

@@ -93,7 +93,7 @@ unfolding is_filed
 filed_at old new k v up n has =
     subst (λ (o : Option (List ℕ)). has_number (unwrap_or o []) n ≡ true) (sym (up k ∙ ap (λ b. cond b (Some v) (get (slice_cmp nat_cmp) old k)) (text_at k))) has
 
--- they become others, which have those that were there but for one
+-- they become others, which have those that were there except for one
 pub filed_taken : (old new : BTreeMap (List ℕ) (List ℕ)) (k v : List ℕ) (number : ℕ) → PutsAt old new k (Some v) → ((n : ℕ) → (n == number) ≡ false → has_number (numbers_at old k) n ≡ true → has_number v n ≡ true)
     → (text : List ℕ) (n : ℕ) → (n == number) ≡ false → is_filed old text n ≡ true → is_filed new text n ≡ true
 filed_taken old new k v number up grows text n other was = changed old new k (Some v) up text n (grows n other) was

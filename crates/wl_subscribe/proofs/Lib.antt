@@ -1,7 +1,7 @@
 mod Bundles
 mod ByKey
-mod Untouched
+mod EqualKeys
 mod Filings
-mod Numbering
+mod MemberNumbers
 mod Reasons
 mod Samples

@@ -12,7 +12,7 @@ use Rattle.std.proofs.lemmas.Bool.{and_parts}
 use Rattle.std.proofs.lemmas.Bool.Decides.{nat_tests}
 use Rattle.list_laws.specs.Keys.{item_at}
 use Rattle.list_laws.proofs.Equality.{bytes_are, same_bytes}
-use Rattle.list_laws.proofs.Rising.{rises_filter}
+use Rattle.list_laws.proofs.AscendingKeys.{rises_filter}
 use Rattle.wl_selector.specs.Selectors.{has_text}
 use Rattle.wl_entry.specs.Entitled.{is_entitled}
 use Rattle.wl_entry.specs.Keys.{entry_key, svid_key, bundle_key}
@@ -23,11 +23,11 @@ use Rattle.wl_entry.specs.declared.bundles.Bundle.{Bundle}
 use Rattle.wl_entry.proofs.Sames.{entry_is, svid_is, bundle_is, entry_self, svid_self, bundle_self}
 use Rattle.wl_snapshot.specs.declared.views.Held.{Held}
 use Rattle.wl_snapshot.specs.Snapshots.{Publication, IsPublication}
-use Rattle.wl_snapshot.specs.Same.{same_sight}
-use Rattle.wl_snapshot.specs.Views.{Sight, held_of, held_key, is_federated, is_seen, sight_of, view_in}
+use Rattle.wl_snapshot.specs.Same.{same_view_model}
+use Rattle.wl_snapshot.specs.Views.{ViewModel, held_of, held_key, is_federated, is_seen, view_model_of, view_in}
 use Rattle.wl_snapshot.proofs.Choices.{chosen_by}
-use Rattle.wl_snapshot.proofs.Sights.{sight_holds}
-use Rattle.wl_snapshot.proofs.Equalities.{sight_is, sight_self}
+use Rattle.wl_snapshot.proofs.ViewModels.{view_model_holds}
+use Rattle.wl_snapshot.proofs.Equalities.{view_model_is, view_model_self}
 use Rattle.wl_subscribe.specs.Subscribed.{Subscribed, views_differ, affected_numbers}
 use Rattle.wl_snapshot.specs.Untouched.{SameBut}
 use Rattle.wl_subscribe.specs.Differing.{is_same_at, entries_differing, is_other_bundle, federates_anew, all_differ, reasons}
@@ -178,9 +178,9 @@ module _ (p q : Publication) (sel : List (List ℕ)) where
   helds_agree ids but out id false at = same_there id (but.entries id at) (but.svids id at)
 
   same_helds : IsPublication p → IsPublication q → (ids : List (List ℕ)) → SameBut ids p q → list_any ent (flat_map (entries_differing p q) ids) ≡ false → helds p ≡ helds q
-  unfolding sight_of
+  unfolding view_model_of
   same_helds is_p is_q ids but out =
-      lists_same held_key (helds p) (helds q) (sight_holds p (chosen p) is_p (chosen_by p ent is_p)).held (sight_holds q (chosen q) is_q (chosen_by q ent is_q)).held
+      lists_same held_key (helds p) (helds q) (view_model_holds p (chosen p) is_p (chosen_by p ent is_p)).held (view_model_holds q (chosen q) is_q (chosen_by q ent is_q)).held
       (λ id. held_at p is_p id ∙ helds_agree ids but out id (has_text ids id) refl ∙ sym (held_at q is_q id))
 
   same_chosen : helds p ≡ helds q → chosen p ≡ chosen q
@@ -252,7 +252,7 @@ module _ (p q : Publication) (sel : List (List ℕ)) where
       (λ domain. item_filter bundle_key t p.bundles domain is_p.bundles ∙ bundle_agree domain (is_other_bundle p q domain) refl own out ∙ sym (item_filter bundle_key t q.bundles domain is_q.bundles))
 
   same_view : IsPublication p → IsPublication q → (ids : List (List ℕ)) → SameBut ids p q → all_differ p q ≡ false → list_any ent (reasons ids p q) ≡ false → view_in p sel ≡ view_in q sel
-  unfolding view_in sight_of reasons
+  unfolding view_in view_model_of reasons
   same_view is_p is_q ids but own out =
       let parts = either _ _ (sym (any_append ent (flat_map (entries_differing p q) ids) (filter (federates_anew p q) q.entries)) ∙ out) in
       let helds_are = same_helds is_p is_q ids but parts.0 in
@@ -342,11 +342,11 @@ module _ (p q : Publication) (sel : List (List ℕ)) where
   none_federated (e ∷ es) each = none_federated_go e es (ent e) (list_any (is_other_bundle p q) e.federates_with) refl refl each (none_federated es)
 
   view_seen : IsPublication p → IsPublication q → (ids : List (List ℕ)) → view_in p sel ≡ view_in q sel → (all_differ p q ≡ false) × (list_any ent (reasons ids p q) ≡ false)
-  unfolding view_in sight_of reasons all_differ
+  unfolding view_in view_model_of reasons all_differ
   view_seen is_p is_q ids same =
-      let domains : p.domain ≡ q.domain = ap (λ (v : Sight). v.domain) same in
-      let helds_are : helds p ≡ helds q = ap (λ (v : Sight). v.held) same in
-      let shown_are : shown p (chosen p) ≡ shown q (chosen q) = ap (λ (v : Sight). v.bundles) same in
+      let domains : p.domain ≡ q.domain = ap (λ (v : ViewModel). v.domain) same in
+      let helds_are : helds p ≡ helds q = ap (λ (v : ViewModel). v.held) same in
+      let shown_are : shown p (chosen p) ≡ shown q (chosen q) = ap (λ (v : ViewModel). v.bundles) same in
       let at_q : filter (is_seen q.domain (chosen q)) p.bundles ≡ filter (is_seen q.domain (chosen q)) q.bundles =
       sym (ap (λ (d : List ℕ). filter (is_seen d (chosen p)) p.bundles) domains ∙ ap (λ (es : List Entry). filter (is_seen q.domain es) p.bundles) (same_chosen helds_are)) ∙ shown_are in
       let each = bundles_seen is_p is_q (chosen q) at_q in (
@@ -357,19 +357,19 @@ module _ (p q : Publication) (sel : List (List ℕ)) where
 
   -- ---- both ways
 
-  differ_by : IsPublication p → IsPublication q → (ids : List (List ℕ)) → SameBut ids p q → (b c : Bool) → same_sight (view_in p sel) (view_in q sel) ≡ b → (all_differ p q || list_any ent (reasons ids p q)) ≡ c → not b ≡ c
+  differ_by : IsPublication p → IsPublication q → (ids : List (List ℕ)) → SameBut ids p q → (b c : Bool) → same_view_model (view_in p sel) (view_in q sel) ≡ b → (all_differ p q || list_any ent (reasons ids p q)) ≡ c → not b ≡ c
   differ_by is_p is_q ids but true true same hit =
-      let none = view_seen is_p is_q ids (sight_is (view_in p sel) (view_in q sel) same) in cc (sym (neither _ _ none.0 none.1) ∙ hit)
+      let none = view_seen is_p is_q ids (view_model_is (view_in p sel) (view_in q sel) same) in cc (sym (neither _ _ none.0 none.1) ∙ hit)
   differ_by is_p is_q ids but true false same hit = refl
   differ_by is_p is_q ids but false true same hit = refl
   differ_by is_p is_q ids but false false same hit =
       let parts = either (all_differ p q) (list_any ent (reasons ids p q)) hit in
-      let on : same_sight (view_in p sel) (view_in q sel) ≡ true = subst (λ v. same_sight (view_in p sel) v ≡ true) (same_view is_p is_q ids but parts.0 parts.1) (sight_self (view_in p sel)) in
+      let on : same_view_model (view_in p sel) (view_in q sel) ≡ true = subst (λ v. same_view_model (view_in p sel) v ≡ true) (same_view is_p is_q ids but parts.0 parts.1) (view_model_self (view_in p sel)) in
       cc (sym same ∙ on)
 
   pub differ_for : IsPublication p → IsPublication q → (ids : List (List ℕ)) → SameBut ids p q → views_differ p q sel ≡ (all_differ p q || list_any (is_entitled sel) (reasons ids p q))
   unfolding views_differ
-  differ_for is_p is_q ids but = differ_by is_p is_q ids but (same_sight (view_in p sel) (view_in q sel)) (all_differ p q || list_any ent (reasons ids p q)) refl refl
+  differ_for is_p is_q ids but = differ_by is_p is_q ids but (same_view_model (view_in p sel) (view_in q sel)) (all_differ p q || list_any ent (reasons ids p q)) refl refl
 
 -- ---- all subscribers
 

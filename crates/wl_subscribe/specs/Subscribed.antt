@@ -1,6 +1,6 @@
 -- Who is subscribed, and who sees something else in one publication than in another (own rule).
 use Rattle.std.specs.Prelude.{ℕ, ◌+◌, ◌==◌, Bool, not, if◌then◌else◌, List, [], ◌∷◌, ◌++◌, map, filter}
-use Rattle.wl_snapshot.specs.Same.{same_sight}
+use Rattle.wl_snapshot.specs.Same.{same_view_model}
 use Rattle.wl_snapshot.specs.Snapshots.{Publication}
 use Rattle.wl_snapshot.specs.Views.{view_in}
 
@@ -26,7 +26,7 @@ without_member number s = record { next = s.next; members = members_without numb
 
 -- a caller with these selectors sees something else in the one publication than in the other
 unfoldable pub views_differ : Publication → Publication → List (List ℕ) → Bool
-views_differ old new selectors = not (same_sight (view_in old selectors) (view_in new selectors))
+views_differ old new selectors = not (same_view_model (view_in old selectors) (view_in new selectors))
 
 -- the numbers, ascending, of the subscribers whose views differ
 unfoldable pub affected_numbers : Publication → Publication → Subscribed → List ℕ

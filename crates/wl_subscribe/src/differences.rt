@@ -94,7 +94,7 @@ fn push_new<T: Keyed>(
 }
 
 /// The ids at which entries or SVIDs of two snapshots differ, some perhaps twice.
-#[tactic(auto, using(crate::proofs::Untouched::same_but))]
+#[tactic(auto, using(crate::proofs::EqualKeys::same_but))]
 pub fn differing_ids(alloc: Global, old: &Snapshot, new: &Snapshot) -> Result<Row<Octets>, Memory>
     ensures { IfOk result (λ ids. SameBut ids old.now new.now) }
 {

@@ -85,7 +85,7 @@ pub const OTHER_NEXT_RESPONSE: &[u8] =
 pub const DENIED_ONLY_3: &[u8] =
     b"\x00\x00D\x01\x05\x00\x00\x00\x03\x88\x0f\x10\x10application/grpc\x00\x0bgrpc-status\x017\x00\x0cgrpc-message\x12no identity issued";
 
-/// Status 7 behind a response head.
+/// Status 7 after a response head.
 pub const DENIED_TRAILERS: &[u8] =
     b"\x00\x000\x01\x05\x00\x00\x00\x01\x00\x0bgrpc-status\x017\x00\x0cgrpc-message\x12no identity issued";
 

@@ -32,7 +32,7 @@ fn selectors(alloc: Global, selector: &[u8]) -> Result<Selectors, Fail> {
     Ok(Selectors::from_list(alloc, items, 64)?)
 }
 
-/// These bytes, one part behind the other.
+/// These bytes, one part after the other.
 pub fn joined(alloc: Global, parts: &[&[u8]]) -> Result<Octets, Fail> {
     let mut bytes = Octets::empty(alloc);
     for part in parts {

@@ -131,7 +131,7 @@ fn changes_the_ask<R: Wait>(rt: &R, alloc: Global, desk: &mut Desk<Free>) -> Res
 fn number_read(passes: Row<Pass<Free>>) -> Option<u64> {
     let mut pass = passes.into_vec().pop()?;
     match pass.read() {
-        Ok(edition) => Some(edition.snapshot().number),
+        Ok(published_snapshot) => Some(published_snapshot.snapshot().number),
         Err(Memory) => None,
     }
 }

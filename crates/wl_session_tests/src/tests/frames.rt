@@ -195,7 +195,7 @@ pub const BAD_ID_ONLY: &[u8] =
 pub const UNSIGNED_ONLY: &[u8] =
     b"\0\0L\x01\x05\0\0\0\x01\x88\x0f\x10\x10application/grpc\0\x0bgrpc-status\x0214\0\x0cgrpc-message\x19jwt-svid cannot be signed";
 
-// Trailers behind a response head.
+// Trailers after a response head.
 pub const DENIED_TRAILERS: &[u8] =
     b"\0\00\x01\x05\0\0\0\x01\0\x0bgrpc-status\x017\0\x0cgrpc-message\x12no identity issued";
 

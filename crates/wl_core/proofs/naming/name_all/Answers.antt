@@ -2,7 +2,7 @@ use Rattle.std.proofs.Common.{ℕ, ◌<◌, ◌++◌, List, Option, is_some, sym
 use Rattle.std.proofs.lemmas.List.{append-nil}
 use Rattle.std.specs.Prelude.{IsSome}
 use Rattle.wl_session.specs.Sessions.{unnamed_in}
-use Rattle.wl_session.proofs.Attesting.{IsNamedOn, IsNamed, left_in, named_on, named_all, none_of}
+use Rattle.wl_session.proofs.Attestations.{IsNamedOn, IsNamed, left_in, named_on, named_all, none_of}
 use Rattle.wl_core.proofs.naming.name_all.Goals as goal
 
 -- one was named, and the others are left

@@ -1,6 +1,6 @@
 use Rattle.std.proofs.Common.{◌≡◌, ◌++◌}
 use Rattle.wl_session.specs.Steps.{names_told}
-use Rattle.wl_session.proofs.Attesting.{left_in}
+use Rattle.wl_session.proofs.Attestations.{left_in}
 use Rattle.wl_core.proofs.naming.name_all.Given as goal
 
 -- what is left to be named, after what was, is what all were

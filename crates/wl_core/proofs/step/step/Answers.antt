@@ -1,7 +1,7 @@
 use Rattle.std.proofs.Common.{◌≡◌, List, ℕ, refl, sym, ap, ◌∙◌}
 use Rattle.wl_core.specs.declared.events.Event.TheVariants as events
-use Rattle.wl_core.proofs.Holding.{steps_of, sync_steps, claim_steps, signed_steps, failed_steps, join_steps, name_steps, feed_steps, turn_steps, token_steps, close_steps}
-use Rattle.wl_core.proofs.Standing.{has_memory}
+use Rattle.wl_core.proofs.AfterEvents.{steps_of, sync_steps, claim_steps, signed_steps, failed_steps, join_steps, name_steps, feed_steps, turn_steps, token_steps, close_steps}
+use Rattle.wl_core.proofs.WorldEvents.{has_memory}
 use Rattle.wl_core.proofs.step.step.Goals as goal
 
 pub returns-in_ok-stepped-in-Sync-clause-steps : goal.returns-in_ok-stepped-in-Sync-clause-steps

@@ -1,7 +1,7 @@
 use Rattle.std.proofs.Common.{ap, ◌∙◌}
 use Rattle.wl_core.specs.Marks.{marked_after}
 use Rattle.wl_core.proofs.Readiness.{works_after}
-use Rattle.wl_core.proofs.Marking.{follows_after, turn_shown}
+use Rattle.wl_core.proofs.MarkLaws.{follows_after, turn_shown}
 use Rattle.wl_core.proofs.world.take.Goals as goal
 
 pub step-requires-clause-shown : goal.step-requires-clause-shown

@@ -1,7 +1,7 @@
 use Rattle.std.proofs.Common.{◌≡◌, ◌<◌, length, ap, refl, arith}
 use Rattle.wl_selector.specs.Selectors.{has_text}
 use Rattle.jwt_cache.specs.Rings.{tokens_for}
-use Rattle.wl_manager.proofs.Forgetting.{forgotten_more}
+use Rattle.wl_manager.proofs.DroppedTokens.{forgotten_more}
 use Rattle.wl_manager.proofs.dropping.forget_all.Goals as goal
 
 pub loop-id-init : goal.loop-id-init

@@ -3,4 +3,4 @@ use Rattle.wl_publish.proofs.Keeps.{reads}
 use Rattle.wl_publish.proofs.steps.read.Goals as goal
 
 pub enter_as-requires : goal.enter_as-requires
-enter_as-requires g c = reads g.V.Voucher.signed (λ (x : Current). x.prefix.store) (λ (x : Current). x.prefix.list) (λ (x : Current). x.edition) _ _
+enter_as-requires g c = reads g.V.Voucher.signed (λ (x : Current). x.prefix.store) (λ (x : Current). x.prefix.list) (λ (x : Current). x.published_snapshot) _ _

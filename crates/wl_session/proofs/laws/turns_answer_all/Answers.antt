@@ -1,4 +1,4 @@
-use Rattle.wl_session.proofs.Answered.{fresh_complete, feed_keeps, name_keeps, token_keeps, turn_answers}
+use Rattle.wl_session.proofs.PeerAnswers.{fresh_complete, feed_keeps, name_keeps, token_keeps, turn_answers}
 use Rattle.wl_session.proofs.laws.turns_answer_all.Goals as goal
 
 pub returns : goal.returns

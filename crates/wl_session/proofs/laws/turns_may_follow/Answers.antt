@@ -1,4 +1,4 @@
-use Rattle.wl_session.proofs.Following.{first_may, feed_keeps, name_keeps, token_keeps, turn_may}
+use Rattle.wl_session.proofs.TurnPublications.{first_may, feed_keeps, name_keeps, token_keeps, turn_may}
 use Rattle.wl_session.proofs.laws.turns_may_follow.Goals as goal
 
 pub returns : goal.returns

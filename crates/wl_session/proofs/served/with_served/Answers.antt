@@ -1,7 +1,7 @@
 use Rattle.std.proofs.Common.{◌≡◌, List, None, position, nat_lt, IfOk, subst, sym, ◌∙◌, ap}
 use Rattle.wl_session.specs.Talks.{with_served}
 use Rattle.wl_session.specs.declared.served.ServedCall.{ServedCall}
-use Rattle.wl_session.proofs.Serving.{served_last}
+use Rattle.wl_session.proofs.ReadyCalls.{served_last}
 use Rattle.wl_session.proofs.served.with_served.Goals as goal
 
 -- src/served.rt:121:1

@@ -3,7 +3,7 @@ use Rattle.wl_session.specs.declared.served.ServedCall.{ServedCall}
 use Rattle.wl_session.specs.Answering.{calls_turn}
 use Rattle.wl_session.specs.Agreeing.{HaveSeen}
 use Rattle.wl_session.proofs.Agreements.{so_far_seen}
-use Rattle.wl_session.proofs.Turning.{turned_one}
+use Rattle.wl_session.proofs.TurnSequences.{turned_one}
 use Rattle.wl_session.proofs.turn.turn_all.Goals as goal
 
 pub loop-call-init : goal.loop-call-init

@@ -1,4 +1,4 @@
-use Rattle.wl_session_tests.proofs.Holding.{always}
+use Rattle.wl_session_tests.proofs.EveryAnswer.{always}
 use Rattle.wl_session_tests.proofs.tests.feed_singly.Goals as goal
 
 pub returns-clause-keeps : goal.returns-clause-keeps

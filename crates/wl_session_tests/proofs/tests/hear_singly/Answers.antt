@@ -1,4 +1,4 @@
-use Rattle.wl_session.proofs.Following.{feeds_follow}
+use Rattle.wl_session.proofs.TurnPublications.{feeds_follow}
 use Rattle.wl_session_tests.proofs.tests.hear_singly.Goals as goal
 
 pub loop-byte-preserved : goal.loop-byte-preserved

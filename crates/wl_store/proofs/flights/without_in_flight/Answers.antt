@@ -2,7 +2,7 @@ use Rattle.std.proofs.Common.{◌≡◌, ◌∙◌, Bool, true, false, ap, sym, 
 use Rattle.std.specs.List.{list_any}
 use Rattle.wl_entry.specs.Same.{same_ask}
 use Rattle.wl_store.specs.Stores.{is_in_flight}
-use Rattle.wl_store.proofs.Grouping.{in_flight_under, without_in_flight_more}
+use Rattle.wl_store.proofs.FlightAsks.{in_flight_under, without_in_flight_more}
 use Rattle.wl_store.proofs.flights.without_in_flight.Goals as goal
 use Rattle.wl_store.proofs.flights.without_in_flight.Goals.{then-not-has_flight+in_ok-copy+in_ok-push, else-not-has_flight}
 

@@ -1,6 +1,6 @@
 use Rattle.std.proofs.Common.{◌∙◌, refl, sym}
 use Rattle.wl_store.specs.Groups.{asks_under}
-use Rattle.wl_store.proofs.Grouping.{asks_more}
+use Rattle.wl_store.proofs.FlightAsks.{asks_more}
 use Rattle.wl_store.proofs.groups.group_all.Goals as goal
 
 pub loop-flight-init : goal.loop-flight-init

@@ -3,7 +3,7 @@ use Rattle.std.specs.Map.{lookup}
 use Rattle.std.specs.BTreeMap.{is_at, get}
 use Rattle.std.specs.Ordering.{nat_cmp}
 use Rattle.std.specs.Cmp.Lexicographic.{slice_cmp}
-use Rattle.wl_store.proofs.Grouping.{group_step}
+use Rattle.wl_store.proofs.FlightAsks.{group_step}
 use Rattle.wl_store.proofs.groups.group_one.Goals as goal
 
 pub returns : goal.returns

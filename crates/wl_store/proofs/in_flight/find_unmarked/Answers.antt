@@ -1,6 +1,6 @@
 use Rattle.std.proofs.Common.{◌==◌, sym, ◌∙◌, ap}
 use Rattle.std.specs.Prelude.{find}
-use Rattle.wl_store.proofs.Unmarked.{at_marked, at_unmarked, find_past, other_number}
+use Rattle.wl_store.proofs.UnmarkedFlights.{at_marked, at_unmarked, find_past, other_number}
 use Rattle.wl_store.proofs.in_flight.find_unmarked.Goals as goal
 use Rattle.wl_store.proofs.in_flight.find_unmarked.Goals.{else-not-marks-i-via-then-not-marks-i+else-all-i, else-not-marks-i-via-else-not-marks-i}
 

@@ -1,7 +1,7 @@
 use Rattle.std.proofs.Common.{◌==◌, ◌&&◌, sym, ◌∙◌, ap}
 use Rattle.wl_entry.specs.Same.{same_ask}
 use Rattle.wl_store.specs.Stores.{has_ticket}
-use Rattle.wl_store.proofs.Unmarked.{at_marked, at_unmarked, any_past}
+use Rattle.wl_store.proofs.UnmarkedFlights.{at_marked, at_unmarked, any_past}
 use Rattle.wl_store.proofs.in_flight.is_unmarked.Goals as goal
 use Rattle.wl_store.proofs.in_flight.is_unmarked.Goals.{else-not-marks-i-via-then-not-marks-i+else-is_of, else-not-marks-i-via-else-not-marks-i}
 

@@ -3,7 +3,7 @@ use Rattle.std.specs.Prelude.{slice_set, slice_index_or, false, [], ◌∷◌}
 use Rattle.std.proofs.lemmas.List.{append_assoc}
 use Rattle.wl_store.specs.Flights.{unmarked}
 use Rattle.wl_store.specs.Stores.{without_flight}
-use Rattle.wl_store.proofs.Unmarked.{at_marked, at_unmarked, so_far_marked, so_far_unmarked, unmarked_set, left_out, left_past, its_number, other_number}
+use Rattle.wl_store.proofs.UnmarkedFlights.{at_marked, at_unmarked, so_far_marked, so_far_unmarked, unmarked_set, left_out, left_past, its_number, other_number}
 use Rattle.wl_store.proofs.in_flight.mark_first.Goals as goal
 use Rattle.wl_store.proofs.in_flight.mark_first.Goals.{else-not-marks-i-via-then-not-marks-i+else-all-i, else-not-marks-i-via-else-not-marks-i}
 

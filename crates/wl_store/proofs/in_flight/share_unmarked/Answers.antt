@@ -1,5 +1,5 @@
 use Rattle.std.proofs.Common.{◌∙◌}
-use Rattle.wl_store.proofs.Unmarked.{so_far_marked, so_far_unmarked}
+use Rattle.wl_store.proofs.UnmarkedFlights.{so_far_marked, so_far_unmarked}
 use Rattle.wl_store.proofs.in_flight.share_unmarked.Goals as goal
 use Rattle.wl_store.proofs.in_flight.share_unmarked.Goals.{then-not-marks-i+in_ok-share+in_ok-push, else-not-marks-i}
 

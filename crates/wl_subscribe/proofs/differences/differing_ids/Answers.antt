@@ -2,7 +2,7 @@ use Rattle.std.proofs.Common.{◌≡◌, ◌++◌, ◌∙◌}
 use Rattle.wl_entry.specs.Keys.{entry_key, svid_key}
 use Rattle.wl_entry.specs.Same.{same_entry, same_svid}
 use Rattle.wl_subscribe.specs.Differing.{keys_gone, keys_new}
-use Rattle.wl_subscribe.proofs.Untouched.{same_but}
+use Rattle.wl_subscribe.proofs.EqualKeys.{same_but}
 use Rattle.wl_subscribe.proofs.differences.differing_ids.Goals as goal
 
 pub returns : goal.returns

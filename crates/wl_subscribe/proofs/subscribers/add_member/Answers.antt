@@ -1,5 +1,5 @@
 use Rattle.std.proofs.Common.{refl}
-use Rattle.wl_subscribe.proofs.Numbering.{kept_still}
+use Rattle.wl_subscribe.proofs.MemberNumbers.{kept_still}
 use Rattle.wl_subscribe.proofs.subscribers.add_member.Goals as goal
 
 pub returns-in-Err-clause-still : goal.returns-in-Err-clause-still

@@ -1,5 +1,5 @@
 use Rattle.std.proofs.Common.{◌∙◌}
-use Rattle.wl_subscribe.proofs.Numbering.{inserted_last, kept_more}
+use Rattle.wl_subscribe.proofs.MemberNumbers.{inserted_last, kept_more}
 use Rattle.wl_subscribe.proofs.subscribers.insert_member.Goals as goal
 
 pub returns-in-Ok-clause-ok : goal.returns-in-Ok-clause-ok

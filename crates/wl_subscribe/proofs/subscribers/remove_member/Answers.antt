@@ -1,5 +1,5 @@
 use Rattle.std.proofs.Common.{◌∙◌}
-use Rattle.wl_subscribe.proofs.Numbering.{removed, kept_less}
+use Rattle.wl_subscribe.proofs.MemberNumbers.{removed, kept_less}
 use Rattle.wl_subscribe.proofs.subscribers.remove_member.Goals as goal
 
 pub returns-in-Some-clause-members : goal.returns-in-Some-clause-members

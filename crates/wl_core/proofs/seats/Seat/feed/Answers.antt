@@ -3,7 +3,7 @@ use Rattle.wl_session.specs.declared.asks.SessionFault.{SessionFault}
 use Rattle.wl_session.specs.Sessions.{SessionState, Feeds}
 use Rattle.wl_session.specs.Steps.{IsTold}
 use Rattle.wl_core.specs.Seats.{feed_seat}
-use Rattle.wl_core.proofs.Telling.{fed_well, fed_badly}
+use Rattle.wl_core.proofs.CallAnswers.{fed_well, fed_badly}
 use Rattle.wl_core.proofs.seats.Seat.feed.Goals as goal
 
 pub returns-in_ok-name_all-in-Ok-clause-told : goal.returns-in_ok-name_all-in-Ok-clause-told

@@ -1,4 +1,4 @@
-use Rattle.wl_core.proofs.Telling.{given_well}
+use Rattle.wl_core.proofs.CallAnswers.{given_well}
 use Rattle.wl_core.proofs.seats.Seat.give.Goals as goal
 
 pub returns-in-Ok-clause-told : goal.returns-in-Ok-clause-told

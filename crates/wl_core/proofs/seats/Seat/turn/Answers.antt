@@ -1,4 +1,4 @@
-use Rattle.wl_core.proofs.Telling.{turned_well}
+use Rattle.wl_core.proofs.CallAnswers.{turned_well}
 use Rattle.wl_core.proofs.seats.Seat.turn.Goals as goal
 
 pub returns-in-Ok-clause-told : goal.returns-in-Ok-clause-told

@@ -2,8 +2,8 @@ use Rattle.std.proofs.Common.{List, Option, sym, subst}
 use Rattle.wl_core.specs.declared.seats.Seat.{Seat}
 use Rattle.wl_core.specs.Worlds.{WorksOn}
 use Rattle.wl_core.specs.Marks.{Marked, Follows, none_marked}
-use Rattle.wl_core.proofs.Holding.{begins_well}
-use Rattle.wl_core.proofs.Marking.{none_follows}
+use Rattle.wl_core.proofs.AfterEvents.{begins_well}
+use Rattle.wl_core.proofs.MarkLaws.{none_follows}
 use Rattle.wl_core.proofs.world.World.begin.Goals as goal
 
 pub invariant_of-result : goal.invariant_of-result

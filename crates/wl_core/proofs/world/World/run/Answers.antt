@@ -3,7 +3,7 @@ use Rattle.std.proofs.lemmas.List.{append_assoc}
 use Rattle.std.specs.List.{AllByRecursion}
 use Rattle.wl_core.specs.Events.{IsWithin}
 use Rattle.wl_core.specs.Lines.{says, transcript, onto}
-use Rattle.wl_core.proofs.Standing.{Saying, says_more, says_a_front}
+use Rattle.wl_core.proofs.WorldEvents.{Saying, says_more, says_a_front}
 use Rattle.wl_core.proofs.world.World.run.Goals as goal
 
 pub loop-event-preserved : goal.loop-event-preserved
@@ -27,8 +27,8 @@ loop-event-preserved c =
           );
     }
 
-pub returns-in_err-apply-clause-front : goal.returns-in_err-apply-clause-front
-returns-in_err-apply-clause-front c d past stands =
+pub returns-in_err-apply-clause-prefix : goal.returns-in_err-apply-clause-prefix
+returns-in_err-apply-clause-prefix c d past stands =
     let i = c.loop-event.invariant.says d past stands in
     says_a_front d past c.args.events c.args.said.now i.0 c.in-Some.event c.next.new.self.rest.items c.loop-event.said c.apply.new.said
-    (subst (λ es. Saying d past c.args.events c.args.said.now i.0 es c.loop-event.said) c.in-Some.ensures.steps.0 i.2) (c.in_err-apply.ensures.front d i.0 i.1)
+    (subst (λ es. Saying d past c.args.events c.args.said.now i.0 es c.loop-event.said) c.in-Some.ensures.steps.0 i.2) (c.in_err-apply.ensures.prefix d i.0 i.1)

@@ -6,7 +6,7 @@ use Rattle.wl_core.specs.Events.{IsWithin}
 use Rattle.wl_core.specs.Moments.{Beginning}
 use Rattle.wl_core.specs.Lines.{transcript, onto}
 use Rattle.wl_core.specs.Worlds.{StandsFor}
-use Rattle.wl_core.proofs.Standing.{Saying}
+use Rattle.wl_core.proofs.WorldEvents.{Saying}
 use Rattle.wl_core.proofs.world.World.run.Given as goal
 
 -- the world stands for some events, and what is left on top of them is what all were on top of the first

@@ -1,6 +1,6 @@
 use Rattle.std.proofs.Common.{sym, subst}
 use Rattle.jwt_cache.specs.Rings.{StandsFor}
-use Rattle.wl_manager.proofs.Forgetting.{stands_without}
+use Rattle.wl_manager.proofs.DroppedTokens.{stands_without}
 use Rattle.wl_manager.proofs.manager.Manager.adopt.Goals as goal
 
 pub returns-clause-history : goal.returns-clause-history

@@ -1,5 +1,5 @@
 use Rattle.wl_selector.specs.Selectors.{sorted_texts}
-use Rattle.wl_manager.proofs.Vouching.{found_vouched}
+use Rattle.wl_manager.proofs.Vouchers.{found_vouched}
 use Rattle.wl_manager.proofs.manager.Manager.token.Goals as goal
 
 pub returns-clause-vouched : goal.returns-clause-vouched

@@ -1,5 +1,5 @@
 use Rattle.std.proofs.Common.{sym, ◌∙◌, ap}
-use Rattle.wl_publish.proofs.Adding.{adds_moves}
+use Rattle.wl_publish.proofs.Additions.{adds_moves}
 use Rattle.wl_publish.proofs.book.Prefix.add.Goals as goal
 
 pub compare_exchange-found-requires : goal.compare_exchange-found-requires

@@ -1,6 +1,6 @@
 use Rattle.std.proofs.Common.{◌≡◌, sym, ap, subst, ℕ, true, option_map}
 use Rattle.wl_session.specs.Settled.{is_number}
-use Rattle.wl_session.proofs.Settling.{stays_here}
+use Rattle.wl_session.proofs.SessionFacts.{stays_here}
 use Rattle.wl_session.proofs.session.Session.turn_over.Goals as goal
 
 pub returns-then-not-has_new : goal.returns-then-not-has_new

@@ -4,14 +4,14 @@ use Rattle.h2_conn.specs.Conns.{frame_fault_on}
 use Rattle.wl_session.specs.Talks.{Talking, written, break_said}
 use Rattle.wl_session.proofs.talk.Talk.fail.Goals as goal
 
-pub returns-in_err-write-clause-front : goal.returns-in_err-write-clause-front
+pub returns-in_err-write-clause-prefix : goal.returns-in_err-write-clause-prefix
 unfolding break_said
-returns-in_err-write-clause-front c =
+returns-in_err-write-clause-prefix c =
     let fault = frame_fault_on c.args.why c.args.self.now.phase in
-    subst (λ (t : Talking). GainsFront (written fault t).bytes c.args.out.now c.write.new.out) c.in_ok-fault.ensures.after (c.write.ensures.front fault)
+    subst (λ (t : Talking). GainsFront (written fault t).bytes c.args.out.now c.write.new.out) c.in_ok-fault.ensures.after (c.write.ensures.prefix fault)
 
-pub returns-clause-front : goal.returns-clause-front
+pub returns-clause-prefix : goal.returns-clause-prefix
 unfolding break_said
-returns-clause-front c =
+returns-clause-prefix c =
     let fault = frame_fault_on c.args.why c.args.self.now.phase in
-    subst (λ (t : Talking). GainsFront (written fault t).bytes c.args.out.now c.write.new.out) c.in_ok-fault.ensures.after (c.write.ensures.front fault)
+    subst (λ (t : Talking). GainsFront (written fault t).bytes c.args.out.now c.write.new.out) c.in_ok-fault.ensures.after (c.write.ensures.prefix fault)

@@ -4,17 +4,17 @@ use Rattle.list_laws.specs.Lists.{GainsFront}
 use Rattle.h2_frame.specs.declared.frame.Frame.{Frame}
 use Rattle.h2_conn.specs.declared.fault.ConnFault.{ConnFault}
 use Rattle.wl_session.specs.Talks.{Talking, Said, first_of, frame_said, frames_said}
-use Rattle.wl_session.proofs.Running.{said_more, part_said}
+use Rattle.wl_session.proofs.ItemSequences.{said_more, part_said}
 use Rattle.wl_session.proofs.talk.Talk.frames.Goals as goal
 
 pub loop-frame-init : goal.loop-frame-init
 unfolding frames_said
 loop-frame-init c = record { whole = sym (c.into_iter-frame-iterator.ensures.into_iter_gives.0 ∙ c.into_vec-frame-items.ensures); after = refl; bytes = sym (append-nil c.args.out.now); fault = refl }
 
-pub returns-in_err-step-clause-front : goal.returns-in_err-step-clause-front
-returns-in_err-step-clause-front c =
+pub returns-in_err-step-clause-prefix : goal.returns-in_err-step-clause-prefix
+returns-in_err-step-clause-prefix c =
     let front : GainsFront (frame_said c.in-Some.frame (frames_said c.loop-frame.yielded c.args.self.now).after).bytes c.loop-frame.out c.step.new.out =
-    subst (λ (t : Talking). GainsFront (frame_said c.in-Some.frame t).bytes c.loop-frame.out c.step.new.out) c.loop-frame.invariant.after c.step.ensures.front in
+    subst (λ (t : Talking). GainsFront (frame_said c.in-Some.frame t).bytes c.loop-frame.out c.step.new.out) c.loop-frame.invariant.after c.step.ensures.prefix in
     let whole : c.args.frames ≡ c.loop-frame.yielded ++ c.in-Some.frame ∷ c.next.new.self.rest.items = c.loop-frame.invariant.whole ∙ ap (λ (fs : List Frame). c.loop-frame.yielded ++ fs) c.in-Some.ensures.steps.0 in
     rw whole (part_said c.loop-frame.yielded c.in-Some.frame c.next.new.self.rest.items c.args.self.now c.args.out.now c.loop-frame.out c.step.new.out c.loop-frame.invariant.bytes front)
 

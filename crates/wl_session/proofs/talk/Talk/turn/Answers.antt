@@ -4,6 +4,6 @@ use Rattle.wl_session.specs.Talks.{Talking, written}
 use Rattle.wl_session.specs.Sessions.{turn_said}
 use Rattle.wl_session.proofs.talk.Talk.turn.Goals as goal
 
-pub returns-clause-front : goal.returns-clause-front
+pub returns-clause-prefix : goal.returns-clause-prefix
 unfolding turn_said
-returns-clause-front c = subst (λ (t : Talking). GainsFront (written None t).bytes c.args.out.now c.write.new.out) c.in_ok-take_turn.ensures (c.write.ensures.front None)
+returns-clause-prefix c = subst (λ (t : Talking). GainsFront (written None t).bytes c.args.out.now c.write.new.out) c.in_ok-take_turn.ensures (c.write.ensures.prefix None)

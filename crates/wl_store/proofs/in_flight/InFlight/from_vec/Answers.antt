@@ -1,5 +1,5 @@
 use Rattle.std.proofs.Common.{length, ◌∙◌, ap}
-use Rattle.wl_store.proofs.Unmarked.{all_unmarked}
+use Rattle.wl_store.proofs.UnmarkedFlights.{all_unmarked}
 use Rattle.wl_store.proofs.in_flight.InFlight.from_vec.Goals as goal
 
 pub returns : goal.returns

@@ -3,7 +3,7 @@ use Rattle.svid_cache.specs.Caches.{is_listed}
 use Rattle.wl_store.specs.Stores.{asks_of}
 use Rattle.wl_store.specs.Steps.{AllTrusted}
 use Rattle.wl_store.proofs.Asks.{asks_rise}
-use Rattle.wl_store.proofs.Settling.{still_trusted}
+use Rattle.wl_store.proofs.StoreSteps.{still_trusted}
 use Rattle.wl_store.proofs.store.Store.cache_for.Goals as goal
 
 pub prepare_sync-requires-clause-rises : goal.prepare_sync-requires-clause-rises

@@ -1,7 +1,7 @@
 use Rattle.std.proofs.Common.{◌≡◌, false, refl, sym, ◌∙◌, ap}
 use Rattle.svid_cache.specs.Caches.{has_ended}
 use Rattle.svid_cache.specs.Timetables.{cached_by}
-use Rattle.wl_store.proofs.Touching.{none_ended}
+use Rattle.wl_store.proofs.UntouchedParts.{none_ended}
 use Rattle.wl_store.proofs.store.Store.ids_swept.Goals as goal
 
 pub returns : goal.returns

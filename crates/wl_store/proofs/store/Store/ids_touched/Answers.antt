@@ -5,7 +5,7 @@ use Rattle.wl_entry.specs.Keys.{entry_key}
 use Rattle.wl_entry.proofs.Sames.{entries_are}
 use Rattle.wl_snapshot.specs.Snapshots.{IsPublication}
 use Rattle.wl_store.specs.Touched.{ids_gone, ids_new}
-use Rattle.wl_store.proofs.Touching.{entries_untouched, svids_untouched}
+use Rattle.wl_store.proofs.UntouchedParts.{entries_untouched, svids_untouched}
 use Rattle.wl_store.proofs.store.Store.ids_touched.Goals as goal
 
 pub returns-then-is_same-clause-entries : goal.returns-then-is_same-clause-entries

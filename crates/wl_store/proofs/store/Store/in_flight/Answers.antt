@@ -1,5 +1,5 @@
 use Rattle.std.proofs.Common.{◌==◌, arith}
-use Rattle.wl_store.proofs.Unmarked.{any_found}
+use Rattle.wl_store.proofs.UnmarkedFlights.{any_found}
 use Rattle.wl_store.proofs.store.Store.in_flight.Goals as goal
 
 pub returns : goal.returns

@@ -3,7 +3,7 @@ use Rattle.svid_cache.specs.Caches as caches
 use Rattle.svid_cache.specs.Timetables.{cached_by}
 use Rattle.wl_store.specs.Stores.{cached_of}
 use Rattle.wl_store.specs.Steps.{kept_after}
-use Rattle.wl_store.proofs.Settling.{cache_installs}
+use Rattle.wl_store.proofs.StoreSteps.{cache_installs}
 use Rattle.wl_store.proofs.store.Store.install_cache.Goals as goal
 
 pub returns-clause-answer : goal.returns-clause-answer

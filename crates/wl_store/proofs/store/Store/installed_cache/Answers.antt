@@ -1,7 +1,7 @@
 use Rattle.std.proofs.Common.{◌≡◌, Some, None, refl, sym, ◌∙◌, ap, subst}
 use Rattle.wl_store.specs.Stores.{refusal, cached_of}
 use Rattle.wl_store.specs.Steps.{AllTrusted, Trusted, kept_after}
-use Rattle.wl_store.proofs.Settling.{refusal_is, refusal_installs, refusal_gives, install_gives}
+use Rattle.wl_store.proofs.StoreSteps.{refusal_is, refusal_installs, refusal_gives, install_gives}
 use Rattle.wl_store.proofs.store.Store.installed_cache.Goals as goal
 
 pub returns-in-Some-clause-answer : goal.returns-in-Some-clause-answer

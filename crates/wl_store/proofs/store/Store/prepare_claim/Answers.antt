@@ -2,7 +2,7 @@ use Rattle.std.proofs.Common.{◌≡◌, ◌+◌, ◌++◌, length, refl, sym, �
 use Rattle.wl_store.specs.Stores.{flights_from}
 use Rattle.wl_store.specs.Steps.{with_parts, kept_after}
 use Rattle.wl_snapshot.specs.Untouched.{SameBut}
-use Rattle.wl_store.proofs.Touching.{claim_touches}
+use Rattle.wl_store.proofs.UntouchedParts.{claim_touches}
 use Rattle.wl_store.proofs.store.Store.prepare_claim.Goals as goal
 
 pub returns-clause-touched : goal.returns-clause-touched

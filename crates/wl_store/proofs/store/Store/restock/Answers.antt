@@ -3,8 +3,8 @@ use Rattle.svid_cache.specs.Caches.{is_listed}
 use Rattle.wl_store.specs.Stores.{Store, asks_of}
 use Rattle.wl_store.specs.Steps.{stored_after, change_to, with_parts, kept_after}
 use Rattle.wl_snapshot.specs.Untouched.{SameBut}
-use Rattle.wl_store.proofs.Settling.{synced_parts}
-use Rattle.wl_store.proofs.Touching.{sync_touches}
+use Rattle.wl_store.proofs.StoreSteps.{synced_parts}
+use Rattle.wl_store.proofs.UntouchedParts.{sync_touches}
 use Rattle.wl_store.proofs.store.Store.restock.Goals as goal
 
 pub returns-clause-next : goal.returns-clause-next

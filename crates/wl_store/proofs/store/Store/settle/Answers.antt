@@ -2,7 +2,7 @@ use Rattle.std.proofs.Common.{◌≡◌, ◌+◌, sym, ◌∙◌, ap, subst}
 use Rattle.std.specs.Prelude.{is_none}
 use Rattle.wl_store.specs.Stores.{publish, shows_parts}
 use Rattle.wl_store.specs.Steps.{with_parts, kept_after, stored_of}
-use Rattle.wl_store.proofs.Settling.{settled_same, settled_new, change_same, change_new}
+use Rattle.wl_store.proofs.StoreSteps.{settled_same, settled_new, change_same, change_new}
 use Rattle.wl_store.proofs.store.Store.settle.Goals as goal
 
 pub returns-in_ok-next-in-None-clause-next : goal.returns-in_ok-next-in-None-clause-next

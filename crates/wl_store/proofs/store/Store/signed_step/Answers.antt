@@ -1,9 +1,9 @@
 use Rattle.std.proofs.Common.{◌≡◌, [], ◌∷◌, if◌then◌else◌, Some, refl, sym, ◌∙◌, ap, subst}
 use Rattle.wl_store.specs.Stores.{Store, without_flight}
 use Rattle.wl_store.specs.Steps.{stored_after, change_to, with_parts, kept_after}
-use Rattle.wl_store.proofs.Settling.{signed_parts}
+use Rattle.wl_store.proofs.StoreSteps.{signed_parts}
 use Rattle.wl_snapshot.specs.Untouched.{SameBut}
-use Rattle.wl_store.proofs.Touching.{signed_touches}
+use Rattle.wl_store.proofs.UntouchedParts.{signed_touches}
 use Rattle.wl_store.proofs.store.Store.signed_step.Goals as goal
 
 pub returns-clause-next : goal.returns-clause-next

@@ -4,7 +4,7 @@ use Rattle.wl_entry.specs.Same.{same_svid}
 use Rattle.svid_cache.specs.Caches.{lasts, has_ended, without_ended}
 use Rattle.svid_cache.specs.Timetables.{cached_by}
 use Rattle.wl_store.specs.Steps.{AllTrusted}
-use Rattle.wl_store.proofs.Settling.{still_trusted, ended_differs, all_same}
+use Rattle.wl_store.proofs.StoreSteps.{still_trusted, ended_differs, all_same}
 use Rattle.wl_store.proofs.store.Store.swept.Goals as goal
 
 pub returns-then-has_ended-clause-trusted : goal.returns-then-has_ended-clause-trusted

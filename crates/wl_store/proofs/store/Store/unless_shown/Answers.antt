@@ -1,6 +1,6 @@
 use Rattle.std.proofs.Common.{◌≡◌, refl, sym, ◌∙◌, subst}
 use Rattle.wl_store.specs.Stores.{cached_of, asks_of}
-use Rattle.wl_store.proofs.Settling.{shown_cached}
+use Rattle.wl_store.proofs.StoreSteps.{shown_cached}
 use Rattle.wl_store.proofs.store.Store.unless_shown.Goals as goal
 
 pub returns-then-is_same-clause-kept : goal.returns-then-is_same-clause-kept

@@ -168,7 +168,7 @@ pub none_of : (o : Option ℕ) → is_some o ≡ false → o ≡ None
 none_of None is = refl
 none_of (Some n) is = absurd (cc is)
 
--- behind all names no call is left
+-- after all names no call is left
 pub some_call : (cs : List ServedCall) (o : Option ℕ) (n : ℕ) → first_unnamed cs ≡ o → left_among cs ≡ suc n → (m : ℕ) × (first_unnamed cs ≡ Some m)
 some_call cs None n is count = absurd (omega (arith, none_left cs is, count))
 some_call cs (Some m) n is count = (m, is)

@@ -67,7 +67,7 @@ first_none test change cs p is =
     let n = position_or_len test cs in
     rw (take_all n cs beyond, drop_all n cs beyond) refl
 
--- where one is found, it changes, and those before and behind it stay
+-- where one is found, it changes, and those before and after it stay
 pub first_found : (test : ServedCall → Bool) (change : ServedCall → Phase → Turned) (cs : List ServedCall) (p q : Phase) (n : ℕ) (c : ServedCall) (rest : List ServedCall) (kept : List ServedCall)
     → position test cs ≡ Some n → drop n cs ≡ c ∷ rest → change c p ≡ record { phase = q; kept = kept } → change_first test change cs p ≡ record { phase = q; kept = take n cs ++ (kept ++ rest) }
 unfolding change_first

@@ -6,7 +6,7 @@ use Rattle.wl_entry.specs.declared.tokens.JwtToken.{JwtToken}
 use Rattle.jwt_cache.specs.declared.rings.CachedToken.{CachedToken}
 use Rattle.wl_session.specs.declared.asks.JwtAsk.{JwtAsk}
 use Rattle.wl_session.specs.Sessions.{SessionState, Running, Fallen, OutOfMemory, fresh_session, asks_in, failure_in}
-use Rattle.wl_session.proofs.Settling.{settled_fresh}
+use Rattle.wl_session.proofs.SessionFacts.{settled_fresh}
 use Rattle.wl_core.specs.declared.events.TheConstants.{CONNS}
 use Rattle.wl_core.specs.declared.events.Event.{Event}
 use Rattle.wl_core.specs.declared.events.Event.TheVariants as events
@@ -23,7 +23,7 @@ use Rattle.wl_session.specs.Items.{Item, items_said, talk, feed_items, turn_item
 use Rattle.wl_core.specs.Traces.{ask_items, gain, joined_trace, trace_after, trace, told_from, told_to}
 use Rattle.wl_core.proofs.Readiness.{room_after}
 use Rattle.wl_session.proofs.Traces.{Follows, FollowsOn, stays, feed_follows, turn_follows, outcome_follows}
-use Rattle.wl_core.proofs.Transcribing.{told_append, reading_tell, claim_tell, identity_tell, no_identity_tell, name_tell, close_tell, idle_tell, session_here, session_elsewhere}
+use Rattle.wl_core.proofs.Transcripts.{told_append, reading_tell, claim_tell, identity_tell, no_identity_tell, name_tell, close_tell, idle_tell, session_here, session_elsewhere}
 
 -- a session, its trace, and what was written to it
 abbrev pub Along : Option Seat → Option (List Item) → List ℕ → Type 0
@@ -44,7 +44,7 @@ set_here seats k conn o is within = ap (λ (n : ℕ). seat_at (slice_set seats n
 set_there : (seats : List (Option Seat)) (k conn : ℕ) (o : Option Seat) → (k == conn) ≡ false → seat_at (slice_set seats k o) conn ≡ seat_at seats conn
 set_there seats k conn o is = get_or-set_other seats k conn o None (other_conn k conn is)
 
--- ---- a session does as it is told
+-- ---- a session does what it is to do
 
 told_here : (conn : ℕ) (before : List ℕ) (tell : Seat → Told) (more : Seat → List Item → List Item) (say : Option Seat → List Line)
     → ((seat : Seat) → told_from conn before (say (Some seat)) ≡ before ++ (tell seat).bytes)
@@ -162,7 +162,7 @@ close_along conn k before seats tr false is within along =
 
 -- ---- an event
 
--- what is told does not hang on how it is said
+-- what is reported doesn't depend on how it is said
 telling : (o : Option Seat) (tr : Option (List Item)) (before now : List ℕ) → now ≡ before → Along o tr before → Along o tr now
 telling o tr before now is along = subst (λ (bytes : List ℕ). Along o tr bytes) (sym is) along
 

@@ -18,8 +18,8 @@ use Rattle.wl_entry.specs.declared.signing.Svid.{Svid}
 use Rattle.wl_entry.proofs.Sames.{entry_is}
 use Rattle.wl_snapshot.specs.Snapshots.{Publication, IsPublication, IsAsked}
 use Rattle.svid_cache.specs.Caches.{is_listed, is_refused, lasts, has_ended, with_svid, Cached}
-use Rattle.svid_cache.proofs.Filing.{find_put}
-use Rattle.svid_cache.proofs.Finding.{passes, listed_found}
+use Rattle.svid_cache.proofs.AskBlocks.{find_put}
+use Rattle.svid_cache.proofs.KeyTests.{passes, listed_found}
 use Rattle.svid_cache.specs.declared.install.Installed.{Installed}
 use Rattle.svid_cache.specs.declared.install.Installed.TheVariants as installed
 use Rattle.wl_store.specs.Stores.{Store, svids_after, asks_of, publish, next_publication, shows}

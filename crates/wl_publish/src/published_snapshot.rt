@@ -28,14 +28,14 @@ impl Model for Parts {
 
 /// A publication with the index of its entries. A contract sees the publication.
 ///
-/// Both are shared with every edition of that publication. How many owners an edition has is counted apart for each that
+/// Both are shared with every published snapshot of that publication. How many owners an published snapshot has is counted apart for each that
 /// `new` and `copy` make, so threads with copies of their own do not write to one count.
 #[derive(Drop)]
-pub struct Edition {
+pub struct PublishedSnapshot {
     parts: Shared<Parts>,
 }
 
-impl Model for Edition {
+impl Model for PublishedSnapshot {
     ghost use Rattle.wl_snapshot.specs.Snapshots.{Publication};
 
     ghost Value = { Publication };
@@ -43,18 +43,18 @@ impl Model for Edition {
     ghost view = { λ e. e.parts };
 }
 
-impl Edition {
+impl PublishedSnapshot {
     /// A publication with the index of its entries.
     pub fn new(
         alloc: Global,
         snapshot: Shared<Snapshot>,
         index: Shared<Index>,
-    ) -> Result<Edition, Memory>
+    ) -> Result<PublishedSnapshot, Memory>
         requires { index ≡ snapshot.entries }
         ensures { IfOk result (λ e. e ≡ snapshot) }
     {
         match Shared::new(alloc, Parts { snapshot, index }) {
-            Ok(parts) => Ok(Edition { parts }),
+            Ok(parts) => Ok(PublishedSnapshot { parts }),
             Err((_, Memory)) => Err(Memory),
         }
     }
@@ -73,23 +73,23 @@ impl Edition {
         self.parts.part().index.part()
     }
 
-    /// One more owner of this edition.
-    pub fn share(&self) -> Result<Edition, Memory>
+    /// One more owner of this published snapshot.
+    pub fn share(&self) -> Result<PublishedSnapshot, Memory>
         ensures { IfOk result (λ e. e ≡ self.now) }
     {
-        Ok(Edition {
+        Ok(PublishedSnapshot {
             parts: self.parts.share()?,
         })
     }
 
-    /// An edition of the same publication and index, whose owners are counted apart.
-    pub fn copy(&self, alloc: Global) -> Result<Edition, Memory>
+    /// An published snapshot of the same publication and index, whose owners are counted apart.
+    pub fn copy(&self, alloc: Global) -> Result<PublishedSnapshot, Memory>
         ensures { IfOk result (λ e. e ≡ self.now) }
     {
         let parts = self.parts.part();
         let snapshot = parts.snapshot.share()?;
         let index = parts.index.share()?;
-        let copy = Edition::new(alloc, snapshot, index)?;
+        let copy = PublishedSnapshot::new(alloc, snapshot, index)?;
         Ok(copy)
     }
 }

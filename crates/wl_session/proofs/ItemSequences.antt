@@ -49,7 +49,7 @@ first_bytes : (f : Frame) (fs : List Frame) (t : Talking) → (frames_said (f �
 unfolding frames_said
 first_bytes f fs t = refl
 
--- part of what a frame is due to write, behind what those before it wrote, is part of what all are due to write
+-- part of what a frame is due to write, after what those before it wrote, is part of what all are due to write
 pub part_said : (fs : List Frame) (f : Frame) (rest : List Frame) (t : Talking) (old mid new : List ℕ) → mid ≡ old ++ (frames_said fs t).bytes → GainsFront (frame_said f (frames_said fs t).after).bytes mid new → GainsFront (frames_said (fs ++ f ∷ rest) t).bytes old new
 part_said fs f rest t old mid new came gained =
     let u = (frames_said fs t).after in
@@ -81,7 +81,7 @@ pub greet_front : (fault : Option ConnFault) (t : Talking) (old new : List ℕ) 
 unfolding written
 greet_front fault t old new gained = gains_before (greeting t.greeted) (flush_of t.phase).bytes old new gained
 
--- part of what may be written, behind the greeting, is part of what is due
+-- part of what may be written, after the greeting, is part of what is due
 pub flush_front : (fault : Option ConnFault) (t : Talking) (old mid new : List ℕ) → mid ≡ old ++ greeting t.greeted → GainsFront (flush_of t.phase).bytes mid new → GainsFront (written fault t).bytes old new
 unfolding written
 flush_front fault t old mid new came gained = gains_after (greeting t.greeted) (flush_of t.phase).bytes old mid new came gained

@@ -9,10 +9,10 @@ use Rattle.wl_document.specs.States.{State}
 use Rattle.wl_entry.specs.declared.signing.Signed.{Signed}
 use Rattle.wl_entry.specs.declared.tokens.JwtToken.{JwtToken}
 use Rattle.jwt_cache.specs.declared.rings.CachedToken.{CachedToken}
-use Rattle.wl_snapshot.specs.Same.{same_sight}
+use Rattle.wl_snapshot.specs.Same.{same_view_model}
 use Rattle.wl_snapshot.specs.Snapshots.{Publication}
 use Rattle.wl_snapshot.specs.Views.{view_in}
-use Rattle.wl_snapshot.proofs.Equalities.{sight_is}
+use Rattle.wl_snapshot.proofs.Equalities.{view_model_is}
 use Rattle.wl_store.specs.declared.tickets.Flight.{Flight}
 use Rattle.wl_store.specs.Stores.{Store, shows, publish, next_publication, after_claim}
 use Rattle.wl_store.specs.Steps.{Stored}
@@ -21,7 +21,7 @@ use Rattle.wl_subscribe.specs.Filed.{has_number}
 use Rattle.wl_subscribe.specs.Subscribed.{Subscribed, members_without, without_member, views_differ, affected_numbers}
 use Rattle.wl_session.specs.declared.asks.JwtAsk.{JwtAsk}
 use Rattle.wl_session.specs.Sessions.{fresh_session, asks_in}
-use Rattle.wl_session.proofs.Attested.{NewIs, fed_each, turned_each, outcome_each, fed_shown, outcome_shown, turned_shown, shown_on, weaker}
+use Rattle.wl_session.proofs.ViewFacts.{NewIs, fed_each, turned_each, outcome_each, fed_shown, outcome_shown, turned_shown, shown_on, weaker}
 use Rattle.wl_core.specs.declared.events.Event.{Event}
 use Rattle.wl_core.specs.declared.events.Event.TheVariants as events
 use Rattle.wl_core.specs.declared.events.TheConstants.{CONNS}
@@ -159,7 +159,7 @@ same_by false is = absurd (cc is)
 
 views_same : (p q : Publication) (sel : List (List ℕ)) → views_differ p q sel ≡ false → view_in p sel ≡ view_in q sel
 unfolding views_differ
-views_same p q sel is = sight_is (view_in p sel) (view_in q sel) (same_by (same_sight (view_in p sel) (view_in q sel)) is)
+views_same p q sel is = view_model_is (view_in p sel) (view_in q sel) (same_by (same_view_model (view_in p sel) (view_in q sel)) is)
 
 view_go : (p q : Publication) (s : Subscribed) (ids : List ℕ) (sel : List (List ℕ)) (b : Bool) → views_differ p q sel ≡ b → list_any (has_number (affected_numbers p q s)) ids ≡ false
     → IsSubscribed s.members ids sel → view_in p sel ≡ view_in q sel

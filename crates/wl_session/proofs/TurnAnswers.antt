@@ -8,7 +8,7 @@ use Rattle.h2_conn.specs.Peer.{goes}
 use Rattle.h2_conn.specs.Conns.{withdraws, flush_of}
 use Rattle.h2_conn.specs.Sound.{SoundPhase}
 use Rattle.h2_conn.specs.Holding.{IsHeld, IsSilent}
-use Rattle.h2_conn.proofs.Holding.{held_lasts, silent_lasts, withdrawn_here}
+use Rattle.h2_conn.proofs.OfferedMessages.{held_lasts, silent_lasts, withdrawn_here}
 use Rattle.grpc_wire.specs.Messages.{framed}
 use Rattle.grpc_wire.specs.declared.refusal.Refusal.{Refusal}
 use Rattle.grpc_wire.specs.declared.refusal.Refusal.TheVariants.{NoIdentity, LongResponse, UnknownService, Unsigned, Unattested}
@@ -17,7 +17,7 @@ use Rattle.workload_proto.specs.declared.message.JwtItem.{JwtItem}
 use Rattle.workload_proto.specs.Spelling.{spell_jwt, capped}
 use Rattle.wl_health.specs.Messages.{spell_state}
 use Rattle.wl_snapshot.specs.Snapshots.{Publication}
-use Rattle.wl_snapshot.specs.Views.{Sight, view_in}
+use Rattle.wl_snapshot.specs.Views.{ViewModel, view_in}
 use Rattle.wl_snapshot.specs.Answers.{answer_of, asks_of}
 use Rattle.wl_snapshot.specs.declared.answers.Answer.{Answer}
 use Rattle.wl_snapshot.specs.declared.answers.Answer.TheVariants.{Denied, Wait, TooLong, Message}
@@ -37,7 +37,7 @@ use Rattle.wl_session.specs.Tokens.{change_in, change_first, is_unnamed, name_ca
 use Rattle.wl_session.specs.Talks.{Talking, others, written}
 use Rattle.wl_session.specs.Sessions.{with_turned, turn_said, name_said, given_said}
 use Rattle.wl_session.specs.Completing.{HasAnswer, HasAnswerOn, HasLastAnswer, ShowsStage, CameOn, Shows, AreApart, IsComplete}
-use Rattle.wl_session.proofs.Serving.{place_here, place_later}
+use Rattle.wl_session.proofs.ReadyCalls.{place_here, place_later}
 use Rattle.wl_session.proofs.Streams.{Keeps, keeps_itself, keeps_both, Stands, stands_itself, stands_both, flush_stands, flush_keeps, withdrawal_stands, withdrawal_keeps, refusal_stands, refusal_keeps, answer_stands, answer_keeps, answer_held, last_answer_stands, last_answer_keeps}
 
 -- ---- what a stream has, where nothing is done on it
@@ -48,13 +48,13 @@ has_kept n Wait p r k h = k.claims IsSilent silent_lasts h
 has_kept n (TooLong size) p r k h = tt
 has_kept n (Message m) p r k h = k.claims (IsHeld (framed m)) (held_lasts (framed m)) h
 
-on_kept : (n : ℕ) (kind : CallKind) (v : Sight) (p r : Phase) → Keeps n p r → HasAnswerOn n kind v p → HasAnswerOn n kind v r
+on_kept : (n : ℕ) (kind : CallKind) (v : ViewModel) (p r : Phase) → Keeps n p r → HasAnswerOn n kind v p → HasAnswerOn n kind v r
 on_kept n (Stream method) v p r k h = has_kept n (answer_of method v) p r k h
 on_kept n (Tokens audience id) v p r k h = tt
 on_kept n (Check service) v p r k h = tt
 on_kept n (Watch service) v p r k h = k.claims (IsHeld (framed (spell_state (health_of service v)))) (held_lasts (framed (spell_state (health_of service v)))) h
 
-last_kept : (n : ℕ) (kind : CallKind) (seen : Option Sight) (p r : Phase) → Keeps n p r → HasLastAnswer n kind seen p → HasLastAnswer n kind seen r
+last_kept : (n : ℕ) (kind : CallKind) (seen : Option ViewModel) (p r : Phase) → Keeps n p r → HasLastAnswer n kind seen p → HasLastAnswer n kind seen r
 last_kept n kind None p r k h = tt
 last_kept n kind (Some v) p r k h = on_kept n kind v p r k h
 
@@ -96,7 +96,7 @@ refuses n headed r p = over (with_refusal n headed r p) (refusal_stands n headed
 ends_well : (n : ℕ) (headed : Bool) (m : List ℕ) (p : Phase) → Done n p (has_ended (with_last_message n headed m p))
 ends_well n headed m p = over (with_last_message n headed m p) (last_answer_stands n headed m p) (λ k other. last_answer_keeps k n headed m p other)
 
-stream_done : (n : ℕ) (method : Method3) (sel : List (List ℕ)) (v : Sight) (headed : Bool) (a : Answer) (p : Phase) → SoundPhase p → answer_of method v ≡ a → Done n p (stream_answer n method sel v headed a p)
+stream_done : (n : ℕ) (method : Method3) (sel : List (List ℕ)) (v : ViewModel) (headed : Bool) (a : Answer) (p : Phase) → SoundPhase p → answer_of method v ≡ a → Done n p (stream_answer n method sel v headed a p)
 stream_done n method sel v headed Denied p sound is = refuses n headed NoIdentity p
 stream_done n method sel v headed Wait p sound is =
     on (Ready (Stream method) sel (Some v) headed) (withdraws n p) (withdrawal_stands n p) (λ m other. withdrawal_keeps m n p other)
@@ -114,7 +114,7 @@ check_done : (n : ℕ) (headed : Bool) (state : ℕ) (p : Phase) (b : Bool) → 
 check_done n headed state p true = refuses n headed UnknownService p
 check_done n headed state p false = ends_well n headed (spell_state state) p
 
-answer_done : (n : ℕ) (kind : CallKind) (sel : List (List ℕ)) (headed : Bool) (v : Sight) (p : Phase) → SoundPhase p → Done n p (call_answer n kind sel headed v p)
+answer_done : (n : ℕ) (kind : CallKind) (sel : List (List ℕ)) (headed : Bool) (v : ViewModel) (p : Phase) → SoundPhase p → Done n p (call_answer n kind sel headed v p)
 unfolding call_answer
 answer_done n (Stream method) sel headed v p sound = stream_done n method sel v headed (answer_of method v) p sound refl
 answer_done n (Tokens audience id) sel headed v p sound = token_done n headed audience (asks_of id v) p
@@ -123,7 +123,7 @@ answer_done n (Watch service) sel headed v p sound =
     on (Ready (Watch service) sel (Some v) true) (with_message n headed (spell_state (health_of service v)) p) (answer_stands n headed (spell_state (health_of service v)) p) (λ k other. answer_keeps k n headed (spell_state (health_of service v)) p other)
     (answer_held n headed (spell_state (health_of service v)) p sound)
 
-new_done : (n : ℕ) (kind : CallKind) (sel : List (List ℕ)) (seen : Option Sight) (headed : Bool) (v : Sight) (p : Phase) (b : Bool) → SoundPhase p → HasLastAnswer n kind seen p → Done n p (if b then goes_on n (Ready kind sel seen headed) p else call_answer n kind sel headed v p)
+new_done : (n : ℕ) (kind : CallKind) (sel : List (List ℕ)) (seen : Option ViewModel) (headed : Bool) (v : ViewModel) (p : Phase) (b : Bool) → SoundPhase p → HasLastAnswer n kind seen p → Done n p (if b then goes_on n (Ready kind sel seen headed) p else call_answer n kind sel headed v p)
 new_done n kind sel seen headed v p true sound h = stays_on n (Ready kind sel seen headed) p h
 new_done n kind sel seen headed v p false sound h = answer_done n kind sel headed v p sound
 
@@ -188,7 +188,7 @@ flip n m other e = other (sym e)
 rest_shows : (n : ℕ) (p q : Phase) (cs : List ServedCall) → ((m : ℕ) → (n ≡ m → ⊥) → Keeps m p q) → AllByRecursion (λ d. d.stream ≡ n → ⊥) cs → AllByRecursion (Shows p) cs → AllByRecursion (Shows q) cs
 rest_shows n p q cs keeps apart h = all_kept (λ d. d.stream ≡ n → ⊥) p q (λ c other. keeps c.stream (flip n c.stream other)) cs apart h
 
--- one call, and then those behind it
+-- one call, and then those after it
 before_done : (n : ℕ) (c : ServedCall) (cs : List ServedCall) (p : Phase) (first : Turned) (go_on : Phase → Turned) → n ≡ c.stream → Done n p first → CameOn n p → AllByRecursion (λ d. d.stream ≡ n → ⊥) cs
     → AllDone cs first.phase (go_on first.phase) → AllDone (c ∷ cs) p (turn_before first go_on)
 before_done n c cs p _ go_on same (over q stands keeps) came apart rest = record {

@@ -82,7 +82,7 @@ frame_were : (x : Publication) (f : Frame) (t : Talking) → WereSeen x t.served
 unfolding after_frame
 frame_were x f t were = happenings_were x (frame_result t.phase f).told (record t { phase = (frame_result t.phase f).after }) were
 
--- what is written behind an item leaves nothing to be written
+-- what is written after an item leaves nothing to be written
 pub settled_writing : (shown : Option Publication) (number : Option ℕ) (fault : Option ConnFault) (old t : Talking) → SettledOn shown number old → ((x : Publication) → WereSeen x old.served → WereSeen x t.served) → SettledOn shown number (written fault t).after
 unfolding written
 settled_writing None number fault old t settled were = (settled.0, (written_quiet fault t).quiet)

@@ -1,5 +1,5 @@
 use Rattle.std.specs.List.Sorted.{IsStrictlySortedBy}
-use Rattle.wl_publish_tests.proofs.tests.edition.Goals as goal
+use Rattle.wl_publish_tests.proofs.tests.published_snapshot.Goals as goal
 
 pub build-requires-clause-rises : goal.build-requires-clause-rises
 unfolding IsStrictlySortedBy

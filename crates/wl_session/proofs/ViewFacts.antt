@@ -20,7 +20,7 @@ use Rattle.grpc_wire.specs.declared.refusal.Refusal.TheVariants.{LongResponse}
 use Rattle.workload_proto.specs.declared.message.JwtItem.{JwtItem}
 use Rattle.workload_proto.specs.Spelling.{spell_jwt, capped}
 use Rattle.wl_snapshot.specs.Snapshots.{Publication}
-use Rattle.wl_snapshot.specs.Views.{Sight, view_in}
+use Rattle.wl_snapshot.specs.Views.{ViewModel, view_in}
 use Rattle.wl_snapshot.specs.Answers.{answer_of, asks_of}
 use Rattle.wl_snapshot.specs.declared.answers.Answer.{Answer}
 use Rattle.wl_snapshot.specs.declared.answers.Answer.TheVariants.{Denied, Wait, TooLong, Message}
@@ -44,10 +44,10 @@ use Rattle.wl_session.specs.Sessions.{SessionState, Running, Fallen, OutOfMemory
 use Rattle.wl_session.specs.Steps.{unnamed_count, names_said, fed_by, feed_told, turn_told, outcome_told}
 use Rattle.wl_session.specs.Settled.{is_new, WasSeenOn, WasSeen, WereSeen, SettledOn, IsSettled, StageIs, EachIs, EachIsIn, IsShownBy, IsShown}
 use Rattle.wl_session.proofs.Agreements.{again, calls_seen}
-use Rattle.wl_session.proofs.Settling.{seen_were, were_have}
+use Rattle.wl_session.proofs.SessionFacts.{seen_were, were_have}
 
 abbrev pub Rule : Type 1
-Rule = List (List ℕ) → Option Sight → Type 0
+Rule = List (List ℕ) → Option ViewModel → Type 0
 
 -- ---- the ready calls
 
@@ -196,9 +196,9 @@ each_given r o t is = each_first r is_asking (give_on o) t.served t.phase (λ c 
 
 -- it stays so of a call that is answered on this publication
 abbrev pub AnswerKeeps : Rule → Publication → Type 0
-AnswerKeeps r x = (sel : List (List ℕ)) (seen : Option Sight) → r sel seen → r sel (Some (view_in x sel))
+AnswerKeeps r x = (sel : List (List ℕ)) (seen : Option ViewModel) → r sel seen → r sel (Some (view_in x sel))
 
-each_streamed : (r : Rule) (n : ℕ) (method : Method3) (sel : List (List ℕ)) (v : Sight) (headed : Bool) (a : Answer) (p : Phase) → r sel (Some v) → EachIs r (stream_answer n method sel v headed a p).kept
+each_streamed : (r : Rule) (n : ℕ) (method : Method3) (sel : List (List ℕ)) (v : ViewModel) (headed : Bool) (a : Answer) (p : Phase) → r sel (Some v) → EachIs r (stream_answer n method sel v headed a p).kept
 each_streamed r n method sel v headed Denied p is = tt
 each_streamed r n method sel v headed Wait p is = (is, tt)
 each_streamed r n method sel v headed (TooLong size) p is = tt
@@ -212,14 +212,14 @@ each_either : (r : Rule) (b : Bool) (p q : Phase) → EachIs r (if b then has_en
 each_either r true p q = tt
 each_either r false p q = tt
 
-each_answered : (r : Rule) (n : ℕ) (kind : CallKind) (sel : List (List ℕ)) (headed : Bool) (v : Sight) (p : Phase) → r sel (Some v) → EachIs r (call_answer n kind sel headed v p).kept
+each_answered : (r : Rule) (n : ℕ) (kind : CallKind) (sel : List (List ℕ)) (headed : Bool) (v : ViewModel) (p : Phase) → r sel (Some v) → EachIs r (call_answer n kind sel headed v p).kept
 unfolding call_answer
 each_answered r n (Stream method) sel headed v p is = each_streamed r n method sel v headed (answer_of method v) p is
 each_answered r n (Tokens audience id) sel headed v p is = each_asked r n headed audience (asks_of id v) p
 each_answered r n (Check service) sel headed v p is = each_either r _ _ _
 each_answered r n (Watch service) sel headed v p is = (is, tt)
 
-each_new : (r : Rule) (b : Bool) (n : ℕ) (kind : CallKind) (sel : List (List ℕ)) (seen : Option Sight) (headed : Bool) (v : Sight) (p : Phase) → r sel seen → r sel (Some v)
+each_new : (r : Rule) (b : Bool) (n : ℕ) (kind : CallKind) (sel : List (List ℕ)) (seen : Option ViewModel) (headed : Bool) (v : ViewModel) (p : Phase) → r sel seen → r sel (Some v)
     → EachIs r (if b then goes_on n (Ready kind sel seen headed) p else call_answer n kind sel headed v p).kept
 each_new r true n kind sel seen headed v p was is = (was, tt)
 each_new r false n kind sel seen headed v p was is = each_answered r n kind sel headed v p is
@@ -333,7 +333,7 @@ turns_shown x OutOfMemory r old now new turns = subst (λ (s : SessionState). Is
 shown_stage : (P : List (List ℕ) → Type 0) (x y : Publication) (s : Stage) → ((sel : List (List ℕ)) → P sel → view_in x sel ≡ view_in y sel)
     → StageIs (λ sel seen. P sel) s → StageIs (Shows x) s → StageIs (Shows y) s
 shown_stage P x y (Unnamed kind) same are is = tt
-shown_stage P x y (Ready kind sel seen headed) same are is = subst (λ (v : Sight). WasSeenOn v seen) (same sel are) is
+shown_stage P x y (Ready kind sel seen headed) same are is = subst (λ (v : ViewModel). WasSeenOn v seen) (same sel are) is
 shown_stage P x y (Asking first rest got) same are is = tt
 
 shown_each : (P : List (List ℕ) → Type 0) (x y : Publication) (cs : List ServedCall) → ((sel : List (List ℕ)) → P sel → view_in x sel ≡ view_in y sel)
@@ -354,16 +354,16 @@ shown_on P x y (Fallen f begun) same are is = tt
 shown_on P x y OutOfMemory same are is = tt
 
 -- a rule that says less
-stage_weaker : (q r : Rule) (s : Stage) → ((sel : List (List ℕ)) (seen : Option Sight) → q sel seen → r sel seen) → StageIs q s → StageIs r s
+stage_weaker : (q r : Rule) (s : Stage) → ((sel : List (List ℕ)) (seen : Option ViewModel) → q sel seen → r sel seen) → StageIs q s → StageIs r s
 stage_weaker q r (Unnamed kind) less is = tt
 stage_weaker q r (Ready kind sel seen headed) less is = less sel seen is
 stage_weaker q r (Asking first rest got) less is = tt
 
-each_weaker : (q r : Rule) (cs : List ServedCall) → ((sel : List (List ℕ)) (seen : Option Sight) → q sel seen → r sel seen) → EachIs q cs → EachIs r cs
+each_weaker : (q r : Rule) (cs : List ServedCall) → ((sel : List (List ℕ)) (seen : Option ViewModel) → q sel seen → r sel seen) → EachIs q cs → EachIs r cs
 each_weaker q r [] less is = tt
 each_weaker q r (c ∷ cs) less is = (stage_weaker q r c.stage less is.0, each_weaker q r cs less is.1)
 
-pub weaker : (q r : Rule) (s : SessionState) → ((sel : List (List ℕ)) (seen : Option Sight) → q sel seen → r sel seen) → EachIsIn q s → EachIsIn r s
+pub weaker : (q r : Rule) (s : SessionState) → ((sel : List (List ℕ)) (seen : Option ViewModel) → q sel seen → r sel seen) → EachIsIn q s → EachIsIn r s
 weaker q r (Running e t shown) less is = each_weaker q r t.served less is
 weaker q r (Fallen f begun) less is = tt
 weaker q r OutOfMemory less is = tt

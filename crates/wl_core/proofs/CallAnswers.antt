@@ -1,4 +1,4 @@
--- What the calls of a session give is what it is told.
+-- What the calls of a session give is what it is to do.
 use Rattle.std.proofs.Common.{◌≡◌, ℕ, List, [], ◌++◌, Option, Some, None, Ok, Err, slice_set, sym, ap, ◌∙◌, append_assoc}
 use Rattle.std.proofs.lemmas.List.{append-nil, set-set}
 use Rattle.std.specs.Prelude.{IsSome}

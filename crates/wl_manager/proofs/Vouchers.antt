@@ -7,7 +7,7 @@ use Rattle.wl_entry.specs.declared.tokens.JwtToken.{JwtToken}
 use Rattle.jwt_cache.specs.declared.rings.CachedToken.{CachedToken}
 use Rattle.jwt_cache.specs.History.{last_of, is_of, cached_token_of, find_among}
 use Rattle.jwt_cache.specs.Rings.{tokens_for}
-use Rattle.jwt_cache.proofs.Holding.{last_holds, found_holds}
+use Rattle.jwt_cache.proofs.EachKeep.{last_holds, found_holds}
 use Rattle.wl_manager.specs.Managers.{Vouched, AllVouched}
 
 none_or : (P : CachedToken → Type 0) (b : Bool) (history : List CachedToken) → AllByRecursion P history → AllByRecursion P (if b then [] else history)

@@ -13,7 +13,7 @@ use Rattle.wl_core.specs.declared.lines.Line.{Line}
 use Rattle.wl_core.specs.Lines.{lines_at, says, says_all, transcript}
 use Rattle.wl_core.specs.Counts.{counted, octets_of, responses, counts_of}
 use Rattle.wl_core.specs.Worlds.{WorldState, Holds, StandsFor, WorksOn}
-use Rattle.wl_core.proofs.Counting.{octets_more}
+use Rattle.wl_core.proofs.WideCounts.{octets_more}
 use Rattle.wl_snapshot.specs.Snapshots.{Publication}
 use Rattle.wl_store.specs.Steps.{Stored}
 

@@ -1,8 +1,8 @@
--- Messages behind their gRPC prefix.
+-- Messages after their gRPC prefix.
 use Rattle.std.proofs.Common.{◌≡◌, ℕ, ◌<◌, Bool, true, List, [], length, Some, arith, sym, ap, subst}
 use Rattle.grpc_wire.specs.Messages.{framed}
 use Rattle.h2_conn.specs.declared.phase.Phase.{Phase}
-use Rattle.wl_snapshot.specs.Views.{Sight}
+use Rattle.wl_snapshot.specs.Views.{ViewModel}
 use Rattle.wl_snapshot.specs.Answers.{answer_of, with_prefix}
 use Rattle.wl_snapshot.specs.declared.answers.Answer.{Answer}
 use Rattle.wl_snapshot.specs.declared.answers.Answer.TheVariants.{Denied, Wait, TooLong, Message}
@@ -31,11 +31,11 @@ answered_some (TooLong n) m is = grind (arith, is)
 answered_some (Message bare) m is = subst (λ (xs : List ℕ). 0 < length xs) (ap message_in is) (framed_some bare)
 
 -- the message of a method on a view is not empty
-pub message_some : (method : Method3) (v : Sight) (m : List ℕ) → IsMessageOf method v m → 0 < length m
+pub message_some : (method : Method3) (v : ViewModel) (m : List ℕ) → IsMessageOf method v m → 0 < length m
 message_some method v m is = answered_some (answer_of method v) m is
 
 -- a call whose answer is this message was offered it, and goes on
-pub offered_message : (n : ℕ) (method : Method3) (sel : List (List ℕ)) (v : Sight) (headed : Bool) (a : Answer) (m : List ℕ) (p q : Phase)
+pub offered_message : (n : ℕ) (method : Method3) (sel : List (List ℕ)) (v : ViewModel) (headed : Bool) (a : Answer) (m : List ℕ) (p q : Phase)
     → with_prefix a ≡ Message m → ((bare : List ℕ) → m ≡ framed bare → q ≡ with_message n headed bare p)
     → stream_answer n method sel v headed a p ≡ record { phase = q; kept = kept_of n (Some (Ready (Stream method) sel (Some v) true)) }
 offered_message n method sel v headed Denied m p q is goes = grind (arith, is)

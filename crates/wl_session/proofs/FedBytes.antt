@@ -7,7 +7,7 @@ use Rattle.h2_frame.specs.declared.fault.FrameFault.{FrameFault}
 use Rattle.h2_frame.specs.declared.frame.Frame.{Frame}
 use Rattle.h2_frame.specs.Reading.{End, Opening, Rest, Fault, IsOpen, Reading, reading_from}
 use Rattle.h2_conn.specs.Kinds.{Fits}
-use Rattle.h2_conn.proofs.Fitting.{frames_fit}
+use Rattle.h2_conn.proofs.FrameDemands.{frames_fit}
 use Rattle.wl_session.specs.Talks.{Talking, Said, then_, frames_said, break_said}
 use Rattle.wl_session.specs.Sessions.{fault_in, ended_by, feed_said}
 
@@ -52,7 +52,7 @@ pub frames_front : (r : Reading) (t : Talking) (old new : List ℕ) → GainsFro
 unfolding feed_said
 frames_front r t old new gained = ended_front r.ending (frames_said r.frames t) old new gained
 
--- and so is part of what the fault is, behind the frames
+-- and so is part of what the fault is, after the frames
 pub break_front : (r : Reading) (t : Talking) (why : FrameFault) (old mid new : List ℕ) → fault_in r.ending ≡ Some why → mid ≡ old ++ (frames_said r.frames t).bytes
     → GainsFront (break_said why (frames_said r.frames t).after).bytes mid new → GainsFront (feed_said r t).bytes old new
 break_front r t why old mid new is came gained =
@@ -61,7 +61,7 @@ break_front r t why old mid new is came gained =
 pub fed_fit : (e : End) (bytes : List ℕ) (frames : List Frame) → frames ≡ (reading_from e bytes).frames → AllByRecursion Fits frames
 fed_fit e bytes frames is = rw is (frames_fit e bytes)
 
--- what the fault writes stands behind what the frames wrote
+-- what the fault writes stands after what the frames wrote
 pub broke_bytes : (r : Reading) (t u : Talking) (frames : List Frame) (seen : Option FrameFault) (why : FrameFault) (old mid new : List ℕ) → frames ≡ r.frames → seen ≡ fault_in r.ending → seen ≡ Some why
     → u ≡ (frames_said frames t).after → mid ≡ old ++ (frames_said frames t).bytes → new ≡ mid ++ (break_said why u).bytes → new ≡ old ++ (feed_said r t).bytes
 broke_bytes r t u frames seen why old mid new same saw is came before after =

@@ -23,8 +23,8 @@ use Rattle.h2_conn.specs.Conns.{on_open, after_reset, told_list, result_of, fram
 use Rattle.h2_conn.specs.Sound.{number_of, Sound, SoundPhase}
 use Rattle.h2_conn.specs.Holding.{OpensNot}
 use Rattle.h2_conn.specs.Telling.{TellsStreams}
-use Rattle.h2_conn.proofs.Fitting.{frames_fit}
-use Rattle.h2_conn.proofs.Holding.{framed_claim}
+use Rattle.h2_conn.proofs.FrameDemands.{frames_fit}
+use Rattle.h2_conn.proofs.OfferedMessages.{framed_claim}
 use Rattle.h2_conn.proofs.Sounds.{peer_sound, peer_names}
 use Rattle.h2_conn.proofs.Tellings.{frame_tells}
 use Rattle.grpc_conn.specs.declared.event.CallEvent.{CallEvent}
@@ -34,8 +34,8 @@ use Rattle.grpc_conn.specs.declared.standing.Standing.{Standing}
 use Rattle.grpc_conn.specs.Verdicts.{verdict}
 use Rattle.grpc_conn.specs.Calls.{standing_of_head, standing_at, event_at, calls_after, with_call, without}
 use Rattle.wl_snapshot.specs.Snapshots.{Publication}
-use Rattle.wl_snapshot.specs.Views.{Sight, view_in}
-use Rattle.wl_snapshot.proofs.Equalities.{sight_is}
+use Rattle.wl_snapshot.specs.Views.{ViewModel, view_in}
+use Rattle.wl_snapshot.proofs.Equalities.{view_model_is}
 use Rattle.wl_session.specs.declared.asks.SessionFault.{SessionFault}
 use Rattle.wl_session.specs.declared.asks.SessionFault.TheVariants as faults
 use Rattle.wl_session.specs.declared.served.CallKind.{CallKind}
@@ -50,7 +50,7 @@ use Rattle.wl_session.specs.Agreeing.{HasSeen, HaveSeen}
 use Rattle.wl_session.specs.Completing.{HasAnswerOn, HasLastAnswer, ShowsStage, CameOn, Shows, AreApart, IsDecided, IsComplete, IsCompleteIn, IsAnsweredOn, IsAnswered, AllAnswered, FeedKeepsComplete, NameKeepsComplete, TokenKeepsComplete, TurnAnswersAll}
 use Rattle.wl_session.proofs.Agreements.{calls_seen}
 use Rattle.wl_session.proofs.Streams.{Keeps, reset_stands, reset_keeps, refusal_stands, refusal_keeps}
-use Rattle.wl_session.proofs.Completing.{all_kept, Any, any_all, flip, written_complete, turn_complete, named_complete, given_complete}
+use Rattle.wl_session.proofs.TurnAnswers.{all_kept, Any, any_all, flip, written_complete, turn_complete, named_complete, given_complete}
 
 -- ---- calls that wait for their verdict
 
@@ -368,9 +368,9 @@ token_keeps o Exhausted new r before after there gives h = absurd (cc there)
 
 -- ---- a turn answers all
 
-seen_on : (x : Publication) (n : ℕ) (kind : CallKind) (sel : List (List ℕ)) (seen : Option Sight) (p : Phase) → was_seen seen (view_in x sel) ≡ true → HasLastAnswer n kind seen p → HasAnswerOn n kind (view_in x sel) p
+seen_on : (x : Publication) (n : ℕ) (kind : CallKind) (sel : List (List ℕ)) (seen : Option ViewModel) (p : Phase) → was_seen seen (view_in x sel) ≡ true → HasLastAnswer n kind seen p → HasAnswerOn n kind (view_in x sel) p
 seen_on x n kind sel None p seen h = absurd (cc seen)
-seen_on x n kind sel (Some v) p seen h = subst (λ (w : Sight). HasAnswerOn n kind w p) (sight_is v (view_in x sel) seen) h
+seen_on x n kind sel (Some v) p seen h = subst (λ (w : ViewModel). HasAnswerOn n kind w p) (view_model_is v (view_in x sel) seen) h
 
 stage_answered : (x : Publication) (n : ℕ) (s : Stage) (p : Phase) → HasSeen x s → ShowsStage n s p → IsAnsweredOn x n s p
 stage_answered x n (Unnamed kind) p seen h = tt

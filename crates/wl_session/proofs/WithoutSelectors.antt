@@ -19,7 +19,7 @@ use Rattle.workload_proto.specs.declared.message.JwtItem.{JwtItem}
 use Rattle.workload_proto.specs.Spelling.{spell_jwt, capped}
 use Rattle.wl_health.specs.Messages.{spell_state}
 use Rattle.wl_snapshot.specs.Snapshots.{Publication}
-use Rattle.wl_snapshot.specs.Views.{Sight, view_in}
+use Rattle.wl_snapshot.specs.Views.{ViewModel, view_in}
 use Rattle.wl_snapshot.specs.Answers.{answer_of, asks_of}
 use Rattle.wl_snapshot.specs.declared.answers.Answer.{Answer}
 use Rattle.wl_snapshot.specs.declared.answers.Answer.TheVariants.{Denied, Wait, TooLong, Message}
@@ -38,10 +38,10 @@ use Rattle.wl_session.specs.Answering.{Turned, goes_on, has_ended, with_refusal,
 use Rattle.wl_session.specs.Tokens.{change_first, is_unnamed, is_unnamed_stage, name_stage, name_on, name_first, is_asking, is_asking_stage, item_for, next_ask, give_call, give_stage, give_on, give_first}
 use Rattle.wl_session.specs.Talks.{Talking, Said, first_of, then_, silent, written, with_served, others, after_event, after_body, after_happening, after_happenings, after_frame, frame_said, frames_said, break_said}
 use Rattle.wl_session.specs.Sessions.{with_turned, ended_by, feed_said, turn_said, name_said, given_said}
-use Rattle.wl_session.proofs.Running.{then_assoc, then_silent}
+use Rattle.wl_session.proofs.ItemSequences.{then_assoc, then_silent}
 use Rattle.wl_session.specs.Steps.{names_said}
 use Rattle.wl_session.specs.Items.{Item, FrameItem, BrokenItem, answered_where, calls_on, views_said, item_said, items_said, attestation, broken_items, reading_items, stage_view, call_view}
-use Rattle.wl_session.proofs.Attesting.{first_here, first_later, first_of_none}
+use Rattle.wl_session.proofs.Attestations.{first_here, first_later, first_of_none}
 
 -- ---- without what callers are attested as
 
@@ -124,7 +124,7 @@ break_said_blind why t = written_blind (frame_fault_on why t.phase) (record t { 
 
 -- ---- a turn
 
-pub stream_blind : (n : ℕ) (method : Method3) (sel : List (List ℕ)) (v : Sight) (headed : Bool) (a : Answer) (p : Phase)
+pub stream_blind : (n : ℕ) (method : Method3) (sel : List (List ℕ)) (v : ViewModel) (headed : Bool) (a : Answer) (p : Phase)
     → stream_answer n method [] v headed a p ≡ blind_turned (stream_answer n method sel v headed a p)
 stream_blind n method sel v headed Denied p = refl
 stream_blind n method sel v headed Wait p = refl
@@ -140,7 +140,7 @@ pub ended_blind : (b : Bool) (p q : Phase) → (if b then has_ended p else has_e
 ended_blind true p q = refl
 ended_blind false p q = refl
 
-pub answer_blind : (n : ℕ) (kind : CallKind) (sel : List (List ℕ)) (headed : Bool) (v : Sight) (p : Phase)
+pub answer_blind : (n : ℕ) (kind : CallKind) (sel : List (List ℕ)) (headed : Bool) (v : ViewModel) (p : Phase)
     → call_answer n kind [] headed v p ≡ blind_turned (call_answer n kind sel headed v p)
 unfolding call_answer
 answer_blind n (Stream method) sel headed v p = stream_blind n method sel v headed (answer_of method v) p
@@ -149,7 +149,7 @@ answer_blind n (Check service) sel headed v p =
     ended_blind (health_of service v == 3) (with_refusal n headed UnknownService p) (with_last_message n headed (spell_state (health_of service v)) p)
 answer_blind n (Watch service) sel headed v p = refl
 
-pub new_blind : (b : Bool) (n : ℕ) (kind : CallKind) (sel : List (List ℕ)) (seen : Option Sight) (headed : Bool) (v : Sight) (p : Phase)
+pub new_blind : (b : Bool) (n : ℕ) (kind : CallKind) (sel : List (List ℕ)) (seen : Option ViewModel) (headed : Bool) (v : ViewModel) (p : Phase)
     → answered_where (if b then None else Some v) (record { stream = n; stage = Ready kind [] seen headed }) p
     ≡ blind_turned (if b then goes_on n (Ready kind sel seen headed) p else call_answer n kind sel headed v p)
 new_blind true n kind sel seen headed v p = refl
