@@ -1,6 +1,4 @@
 pub mod Views
 pub mod Found
 pub mod Steps
-pub mod Agreeing
-pub mod Complete
-pub mod Served
+pub mod Agreement

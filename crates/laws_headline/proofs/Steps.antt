@@ -14,16 +14,16 @@ use Rattle.wl_entry.specs.declared.asks.Ask.{Ask}
 use Rattle.wl_entry.specs.declared.entries.Entry.{Entry}
 use Rattle.wl_entry.specs.declared.signing.Svid.{Svid}
 use Rattle.wl_snapshot.specs.Snapshots.{Publication, IsPublication}
-use Rattle.wl_snapshot.specs.Views.{IsAskedFor, held_of, sight_of}
+use Rattle.wl_snapshot.specs.Views.{IsAskedFor, held_of, view_model_of}
 use Rattle.wl_snapshot.proofs.Choices.{chosen_by}
-use Rattle.wl_snapshot.proofs.Sights.{sight_holds}
+use Rattle.wl_snapshot.proofs.ViewModels.{view_model_holds}
 use Rattle.svid_cache.specs.Caches.{is_listed, lasts}
 use Rattle.svid_cache.specs.declared.install.Installed.{Installed}
 use Rattle.svid_cache.specs.declared.install.Installed.TheVariants as installed
 use Rattle.wl_store.specs.Stores.{Store, asks_of, svids_after, install, with_entries, after_claim, after_signed}
 use Rattle.wl_store.specs.Steps.{Stored, stored_of, stored_after}
-use Rattle.wl_store.proofs.Touching.{svid_put}
-use Rattle.wl_secrets.proofs.Sights.{shown_after, domain_after}
+use Rattle.wl_store.proofs.UntouchedParts.{svid_put}
+use Rattle.wl_secrets.proofs.ViewModels.{shown_after, domain_after}
 use Rattle.laws_headline.specs.Own.{own_entries, own_bundles, HaveSameSvids}
 use Rattle.laws_headline.specs.Changes.{PublishesNothingNew, NoneHas, ForeignSyncs, ForeignClaims, ForeignSignings, ForeignFailures}
 use Rattle.laws_headline.proofs.Found.{found_kept, IsAmong, all_among, any_filtered, any_map}
@@ -58,9 +58,9 @@ asked_held svids (e ∷ es) all = (all.0, asked_held svids es all.1)
 -- each own SVID is the one that is asked for by its entry
 own_asked : (selectors : List (List ℕ)) (p : Publication) → IsPublication p
     → AllByRecursion (λ (e : Entry). IfSome (item_at svid_key p.svids e.id) (λ v. is_ask_of e v.ask ≡ true)) (own_entries selectors p.entries)
-unfolding sight_of
+unfolding view_model_of
 own_asked selectors p is =
-    asked_held p.svids (own_entries selectors p.entries) (sight_holds p (own_entries selectors p.entries) is (chosen_by p (is_entitled selectors) is)).asked
+    asked_held p.svids (own_entries selectors p.entries) (view_model_holds p (own_entries selectors p.entries) is (chosen_by p (is_entitled selectors) is)).asked
 
 -- the ask of an own entry is one of a document's asks
 listed : (selectors : List (List ℕ)) (own es : List Entry) (e : Entry) (a : Ask) → own ≡ own_entries selectors es → IsAmong own e → is_ask_of e a ≡ true → is_listed (asks_of es) a ≡ true

@@ -3,7 +3,7 @@ use Rattle.std.proofs.Common.{◌≡◌, ℕ, List, [], ◌∷◌, map, filter, 
 use Rattle.wl_entry.specs.Entitled.{is_entitled}
 use Rattle.wl_entry.specs.declared.entries.Entry.{Entry}
 use Rattle.wl_entry.specs.declared.signing.Svid.{Svid}
-use Rattle.wl_snapshot.specs.Views.{held_of, is_seen, sight_of, view_in}
+use Rattle.wl_snapshot.specs.Views.{held_of, is_seen, view_model_of, view_in}
 use Rattle.laws_headline.specs.Own.{own_entries, own_bundles, HaveSameSvids, OwnDecidesViews, OwnIsShared}
 
 held_alike : (xs ys : List Svid) (es : List Entry) → HaveSameSvids xs ys es → map (held_of xs) es ≡ map (held_of ys) es
@@ -12,7 +12,7 @@ held_alike xs ys [] same = refl
 held_alike xs ys (e ∷ es) same = λ i. record { entry = e; svid = same.0 i } ∷ held_alike xs ys es same.1 i
 
 pub own_views : OwnDecidesViews
-unfolding view_in sight_of
+unfolding view_in view_model_of
 own_views selectors p q same =
     let held : map (held_of p.svids) (filter (is_entitled selectors) p.entries) ≡ map (held_of q.svids) (filter (is_entitled selectors) q.entries) =
     held_alike p.svids q.svids (filter (is_entitled selectors) p.entries) same.svids ∙ ap (map (held_of q.svids)) same.entries in

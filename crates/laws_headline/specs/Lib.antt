@@ -1,4 +1,4 @@
 pub mod Own
 pub mod Changes
 pub mod Agreeing
-pub mod Served
+pub mod Headline

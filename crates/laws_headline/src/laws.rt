@@ -4,10 +4,12 @@ ghost use Rattle.laws_headline.specs.Own.{OwnDecidesViews, OwnIsShared};
 ghost use Rattle.laws_headline.specs.Changes.{ForeignEntryAdded, ForeignEntryChanged, ForeignBundleAdded, ForeignBundleChanged};
 ghost use Rattle.laws_headline.specs.Changes.{ForeignSyncs, ForeignClaims, ForeignSignings, ForeignFailures};
 ghost use Rattle.laws_headline.specs.Agreeing.{RunsOnSameData, ServedOnSameData};
-ghost use Rattle.laws_headline.specs.Served.{ServedGiveStatuses, ServedAreAnswered, ServedAreWritten, ServedAreHeldBack, ServedAwaitAsks, ServedAsksStay, ServedTakeOutcomes};
+ghost use Rattle.laws_headline.specs.Headline.{HeadlineLaws};
 
-use wl_served::{runs_that_agree_write_the_same, served_connections_are_isolated};
-use wl_session::turns_answer_all;
+use wl_served::{
+    runs_that_agree_write_the_same, served_connections_are_complete,
+    served_connections_are_isolated,
+};
 
 /// Two publications that agree on what is a caller's own show it the same view.
 pub fn own_data_decide_views()
@@ -41,17 +43,13 @@ pub fn data_that_agree_are_written_alike()
     served_connections_are_isolated();
 }
 
-/// Each call of a served connection has its status, by its verdict, the attestor's answer, its view and its tokens. After each turn
-/// each ready call, Watch included, has its message of the publication that was read, or waits for its tokens, and all that may be
-/// written is due to the link.
-pub fn served_connections_are_complete()
-    ensures statuses { ServedGiveStatuses }
-    ensures answered { ServedAreAnswered }
-    ensures written { ServedAreWritten }
-    ensures held_back { ServedAreHeldBack }
-    ensures asks { ServedAwaitAsks }
-    ensures stay { ServedAsksStay }
-    ensures outcomes { ServedTakeOutcomes }
+/// All laws of the headline as one: what `run` and `serve` say beside what became of their own connections.
+pub fn headline_holds()
+    ensures { HeadlineLaws }
 {
-    turns_answer_all();
+    own_data_decide_views();
+    foreign_items_change_nothing();
+    foreign_changes_stay_unseen();
+    data_that_agree_are_written_alike();
+    served_connections_are_complete();
 }

@@ -6,5 +6,5 @@ mod laws;
 
 pub use laws::{
     data_that_agree_are_written_alike, foreign_changes_stay_unseen, foreign_items_change_nothing,
-    own_data_decide_views, served_connections_are_complete,
+    headline_holds, own_data_decide_views,
 };

@@ -31,7 +31,7 @@ use Rattle.wl_client.specs.Openings.{call_stream}
 use Rattle.wl_heard.specs.Calls.{IsCallBody, IsOfOneCall}
 use Rattle.wl_heard.proofs.Found.{Holds, holds_both, holds_spelled, holds_ping}
 use Rattle.wl_heard.proofs.Given.{OnlyOf}
-use Rattle.wl_heard.proofs.Coming.{IsNone}
+use Rattle.wl_heard.proofs.PeerFrames.{IsNone}
 use Rattle.wl_heard.proofs.Queues.{KeepsQueue, step_keeps}
 
 -- ---- what is queued

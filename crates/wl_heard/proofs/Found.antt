@@ -8,12 +8,12 @@ use Rattle.h2_frame.specs.declared.frame.Frame.{Frame}
 use Rattle.h2_frame.specs.Reading.{whole, first_frame, Rest, Reading, frames_in, frames_of}
 use Rattle.h2_frame.specs.Writing.{payload_of, frame_encoding, IsWritable}
 use Rattle.h2_frame.proofs.Cuts.{frames_step}
-use Rattle.h2_frame.proofs.Spelled.{read_again}
+use Rattle.h2_frame.proofs.FrameRoundTrip.{read_again}
 use Rattle.h2_flow.specs.Streams.{Sent, headers, content, sent_bytes}
 use Rattle.h2_flow.specs.Pulls.{bytes_of}
 use Rattle.wl_heard.specs.Written.{frame_of}
 
--- frames in front of what is read behind them
+-- frames in front of what is read after them
 abbrev pub behind : List Frame → Reading → Reading
 behind fs r = record { frames = fs ++ r.frames; ending = r.ending }
 

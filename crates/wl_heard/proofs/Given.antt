@@ -20,7 +20,7 @@ use Rattle.wl_client.specs.declared.listener.Stage.{Stage}
 use Rattle.wl_client.specs.Openings.{call_stream}
 use Rattle.wl_heard.proofs.Lists.{IsLate, head_block, last_block, late_block, whole_block}
 use Rattle.wl_heard.proofs.Marks.{Mark, Bare, Headed, Closing, Alone, At}
-use Rattle.wl_heard.proofs.Serving.{Lasts, l_head, l_message}
+use Rattle.wl_heard.proofs.ConnectionFacts.{Lasts, l_head, l_message}
 
 -- ---- the one stream
 
@@ -126,7 +126,7 @@ abbrev pub mark_end : Bool → Mark
 mark_end true = Closing
 mark_end false = Alone
 
--- what is refused behind the head says a status there
+-- what is refused after the head says a status there
 abbrev pub LateIf : Bool → Refusal → Type 0
 LateIf true r = IsLate r
 LateIf false r = Unit {0}

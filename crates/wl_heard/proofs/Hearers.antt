@@ -31,7 +31,7 @@ use Rattle.wl_session.specs.Sessions.{with_turned, turn_said, name_said, given_s
 use Rattle.wl_responses.specs.Steps.{Step, FrameCame, BytesBroke, CallAttested, TurnTaken, OutcomeCame, step_said, talk_after, FitsStep, AllFit, unwritten, frames_due, frames_of, control_due}
 use Rattle.wl_responses.specs.Moves.{Move, bytes_after, steps_of, replies_in}
 use Rattle.wl_responses.proofs.Asides.{first_none}
-use Rattle.wl_responses.proofs.Moving.{steps_fit}
+use Rattle.wl_responses.proofs.MoveSteps.{steps_fit}
 use Rattle.wl_client.specs.declared.fault.ClientFault.{ClientFault}
 use Rattle.wl_client.specs.declared.fault.ClientFault.TheVariants as faults
 use Rattle.wl_client.specs.declared.listener.Stage.{Stage}
@@ -46,19 +46,19 @@ use Rattle.wl_heard.specs.Written.{frame_of, IsControlBody, IsControl, settings_
 use Rattle.list_laws.specs.Lists.{BeginsWith}
 use Rattle.wl_heard.specs.Clients.{messages_told, whole_messages, HasHeardAll, IsOfContent, FailsByContent}
 use Rattle.wl_heard.specs.Calls.{ComesOfOneCall, MakesOneCall, IsSaidOfCall, FailsAsSaid, CallsAreHeard}
-use Rattle.wl_heard.proofs.Reading.{control_is_read, data_both, sents_data, step_data, written_data}
-use Rattle.wl_heard.proofs.Hearing.{told_both, Knows, IfKnows, frames_go, fresh_knows, clients_hear_sessions}
+use Rattle.wl_heard.proofs.FramesInBytes.{control_is_read, data_both, sents_data, step_data, written_data}
+use Rattle.wl_heard.proofs.ClientMessages.{told_both, Knows, IfKnows, frames_go, fresh_knows, clients_hear_sessions}
 use Rattle.wl_heard.proofs.Found.{Holds, holds_none, found_all, nothing_read}
 use Rattle.wl_heard.proofs.Clean.{IsMildBody, IsMild, CleanState}
 use Rattle.wl_heard.proofs.Neat.{NeatState, Neat, unwritten_neat}
 use Rattle.wl_heard.proofs.Opens.{IsFirst}
 use Rattle.wl_client.proofs.Hearings.{heard_two, then_ok, then_err}
-use Rattle.wl_heard.proofs.Serving.{l_turns, l_names, l_gives}
+use Rattle.wl_heard.proofs.ConnectionFacts.{l_turns, l_names, l_gives}
 use Rattle.wl_heard.proofs.Marks.{Mark, Bare, Headed, Closing, Alone, At, Kept, Lands, Ready, kept_weaker, lands_kept, lands_weaker, lands_none, lands_first, lands_one, lands_both}
 use Rattle.wl_heard.proofs.Turns.{Only, next_mark, IsSilent, pull_heard, over_parts}
 use Rattle.wl_heard.proofs.Given.{OnlyOf, OnlyOn, pulled_only, FirstOn, first_lasts, CameHere, came_lasts, flush_last}
-use Rattle.wl_heard.proofs.Owned.{StageAt, Owned, Before, turns_owned, names_owned, gives_owned}
-use Rattle.wl_heard.proofs.Coming.{CallsAt, IsNone, Unborn, Told, after_told, break_told}
+use Rattle.wl_heard.proofs.OneCall.{StageAt, Owned, Before, turns_owned, names_owned, gives_owned}
+use Rattle.wl_heard.proofs.PeerFrames.{CallsAt, IsNone, Unborn, Told, after_told, break_told}
 
 -- ---- turns, names and tokens
 
@@ -90,7 +90,7 @@ turned_told g t [] (c ∷ cs) x same nobody idle go keeps first h at =
 turned_told g t (k ∷ []) (c ∷ cs) x same nobody idle go keeps first h at = absurd at
 turned_told g t (k ∷ l ∷ ks) (c ∷ cs) x same nobody idle go keeps first h at = absurd at
 
--- ---- the talk behind a step, before anything is written
+-- ---- the talk after a step, before anything is written
 
 abbrev reached : Step → Talking → Talking
 reached (FrameCame f) t = after_frame f t
@@ -472,8 +472,8 @@ fresh_follows = record {
 abbrev HasTold : List Frame → Type 0
 HasTold fs = messages_told (frames_heard fs fresh_listener).told ≡ whole_messages (data_in call_stream fs)
 
--- so it has where it goes on, and where it has failed but for a fault of messages
-abbrev Exact : List Step → Type 0
+-- so it has where it goes on, and where it has failed except for a fault of messages
+abbrev pub Exact : List Step → Type 0
 Exact steps = HasTold (frames_written steps) × Told Ended (talk_after steps)
 
 nothing_more : (xs ys : List (List ℕ)) → BeginsWith xs (xs ++ ys) → ys ≡ []
@@ -501,7 +501,7 @@ silent_part fs gs k is none =
     ∙ (knows.heard
     ∙ ap whole_messages (sym same)))))
 
--- nor does one behind a fault
+-- nor does one after a fault
 behind_fault : (fs gs : List Frame) (fault : ClientFault) → (frames_heard fs fresh_listener).after ≡ Err fault → data_in call_stream gs ≡ [] → HasTold fs → HasTold (fs ++ gs)
 behind_fault fs gs fault is none h =
     let r = frames_heard fs fresh_listener in
@@ -523,7 +523,7 @@ next_heard step before (Err fault) is fit own h =
     subst (λ (x : Hearing). Lands (Exact (step ∷ before)) (Follows (step_said step (talk_after before)).after) x.after) (sym same)
     (rw is (kept_weaker (Exact before) (Exact (step ∷ before)) (λ e. let q = quiet_more step before fit own e.1 in (behind_fault fs gs fault is q.0 e.0, q.1)) fault h))
 
-steps_heard : (steps : List Step) → AllFit steps → MakesOneCall steps → Lands (Exact steps) (Follows (talk_after steps)) (frames_heard (frames_written steps) fresh_listener).after
+pub steps_heard : (steps : List Step) → AllFit steps → MakesOneCall steps → Lands (Exact steps) (Follows (talk_after steps)) (frames_heard (frames_written steps) fresh_listener).after
 steps_heard [] fit own = lands_none _ (Follows fresh_talk) fresh_listener fresh_follows
 steps_heard (step ∷ before) fit own = next_heard step before (frames_heard (frames_written before) fresh_listener).after refl fit own.1 (steps_heard before fit.0 own.0)
 
@@ -532,7 +532,7 @@ steps_heard (step ∷ before) fit own = next_heard step before (frames_heard (fr
 said_of : (E : Type 0) (fault : ClientFault) → Kept E fault → IsOfContent fault → IsSaidOfCall fault × E
 said_of E (faults.Frame fault) said content = absurd content
 said_of E (faults.Message fault) said content = absurd content
-said_of E (faults.HttpStatus number) said content = (tt, said)
+said_of E (faults.HttpStatus number) said content = (tt, said.0)
 said_of E (faults.Reset code) said content = (tt, said)
 said_of E (faults.GoAway code) said content = (tt, said)
 said_of E (faults.Header fault) said content = absurd said

@@ -1,5 +1,5 @@
 -- What the header lists of answers say to a client, and that each block of them is decoded.
-use Rattle.std.proofs.Common.{◌≡◌, ℕ, ◌≤◌, true, false, List, ◌∷◌, ◌++◌, [], Some, None, Result, Ok, refl}
+use Rattle.std.proofs.Common.{◌≡◌, ℕ, ◌<◌, ◌≤◌, true, false, List, ◌∷◌, ◌++◌, [], Some, None, Result, Ok, refl, arith}
 use Rattle.std.specs.Fmt.{digits}
 use Rattle.wl_octets.specs.declared.header.Header.{Header}
 use Rattle.hpack.specs.declared.fault.HpackFault.{HpackFault}
@@ -8,7 +8,7 @@ use Rattle.hpack.specs.Tables.{Table, list_size, with_maximum}
 use Rattle.hpack.specs.Reading.{block_of, headers_of, block_in, representation_at, integer_at}
 use Rattle.hpack.specs.Decoding.{Standing, Good, Broken, decode_block}
 use Rattle.hpack.specs.Writing.{block_bytes}
-use Rattle.hpack.proofs.Spelling.{block_again}
+use Rattle.hpack.proofs.WrittenBlocks.{block_again}
 use Rattle.h2_flow.specs.declared.flow.TableSizeUpdate.{TableSizeUpdate}
 use Rattle.h2_flow.specs.declared.flow.TableSizeUpdate.TheVariants.{Unasked, Due, Written}
 use Rattle.h2_flow.specs.Streams.{size_update_bytes}
@@ -20,15 +20,16 @@ use Rattle.wl_heard.proofs.Blocks.{head_size, last_size, refusal_size}
 
 -- ---- lists
 
--- a list that opens an answer, one that ends it behind its head, and one that is all of it
+-- a list that opens an answer, one that ends it after its head, and one that is all of it
 abbrev pub IsHead : List Header → Type 0
 IsHead hs = http_fault hs ≡ None
 
 abbrev pub IsEnd : List Header → Type 0
 IsEnd hs = (code : ℕ) × (grpc_code hs ≡ Some code)
 
+-- where it is refused by HTTP it says by which number
 abbrev pub IsWhole : List Header → Type 0
-IsWhole hs = http_fault hs ≡ None → IsEnd hs
+IsWhole hs = (http_fault hs ≡ None → IsEnd hs) × (http_fault hs ≡ Some 0 → ⊥)
 
 head_says : IsHead response_fields
 unfolding response_fields http_fault_of
@@ -38,7 +39,7 @@ last_says : IsEnd (trailer_fields 0 [] false)
 unfolding trailer_fields digits
 last_says = (0, refl)
 
--- the refusals that come behind a head, too
+-- the refusals that come after a head, too
 abbrev pub IsLate : Refusal → Type 0
 IsLate r = IsEnd (refused_fields r false)
 
@@ -57,24 +58,30 @@ late_service = (5, refl)
 some_none : {n : ℕ} → Some n ≡ None → ⊥
 some_none e = absurd (cc e)
 
+none_some : {n : ℕ} → None ≡ Some n → ⊥
+none_some e = absurd (cc e)
+
+not_none : (n : ℕ) → 0 < n → Some n ≡ Some 0 → ⊥
+not_none n some e = let same : n ≡ 0 = cc in absurd (omega (arith, some, same))
+
 whole_says : (r : Refusal) → IsWhole (refused_fields r true)
 unfolding refused_fields trailer_fields response_fields percent_encoded http_fault_of digits
-whole_says BadMethod = λ e. absurd (some_none e)
-whole_says BadContent = λ e. absurd (some_none e)
-whole_says UnknownPath = λ e. (12, refl)
-whole_says Compressed = λ e. (12, refl)
-whole_says Insecure = λ e. (3, refl)
-whole_says Flag = λ e. (13, refl)
-whole_says LongRequest = λ e. (8, refl)
-whole_says Count = λ e. (13, refl)
-whole_says Undecodable = λ e. (13, refl)
-whole_says NoAudience = λ e. (3, refl)
-whole_says BadId = λ e. (3, refl)
-whole_says NoIdentity = λ e. (7, refl)
-whole_says LongResponse = λ e. (8, refl)
-whole_says Unsigned = λ e. (14, refl)
-whole_says Unattested = λ e. (14, refl)
-whole_says UnknownService = λ e. (5, refl)
+whole_says BadMethod = (λ e. absurd (some_none e), not_none 405 (omega arith))
+whole_says BadContent = (λ e. absurd (some_none e), not_none 415 (omega arith))
+whole_says UnknownPath = (λ e. (12, refl), none_some)
+whole_says Compressed = (λ e. (12, refl), none_some)
+whole_says Insecure = (λ e. (3, refl), none_some)
+whole_says Flag = (λ e. (13, refl), none_some)
+whole_says LongRequest = (λ e. (8, refl), none_some)
+whole_says Count = (λ e. (13, refl), none_some)
+whole_says Undecodable = (λ e. (13, refl), none_some)
+whole_says NoAudience = (λ e. (3, refl), none_some)
+whole_says BadId = (λ e. (3, refl), none_some)
+whole_says NoIdentity = (λ e. (7, refl), none_some)
+whole_says LongResponse = (λ e. (8, refl), none_some)
+whole_says Unsigned = (λ e. (14, refl), none_some)
+whole_says Unattested = (λ e. (14, refl), none_some)
+whole_says UnknownService = (λ e. (5, refl), none_some)
 
 -- ---- blocks
 
@@ -94,7 +101,7 @@ update_read : (table : Table) (block : List ℕ) → block_of table (32 ∷ bloc
 unfolding headers_of block_in representation_at integer_at
 update_read table block = refl
 
--- what a block gives behind a size update, or without one
+-- what a block gives after a size update, or without one
 pub record Decoded (list : List Header) (r : Result (List Header) HpackFault × Standing) : Type 0 where
   pub found : r.0 ≡ Ok list
   pub goes_on : IsGood r.1

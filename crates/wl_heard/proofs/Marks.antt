@@ -15,7 +15,7 @@ use Rattle.wl_heard.proofs.Lists.{IsHead, IsEnd, IsWhole, BlockOf, IsGood}
 
 -- ---- what was given to the stream
 
--- nothing, its head, its last block behind the head, or its only block
+-- nothing, its head, its last block after the head, or its only block
 pub data Mark : Type 0 where
   Bare : Mark
   Headed : Mark
@@ -45,7 +45,7 @@ pub record IsHeaded (g : Stage) (s : Stream) : Type 0 where
   pub trailers : s.trailers ≡ None
   pub finished : s.finished ≡ false
 
--- the last block is due behind the head
+-- the last block is due after the head
 pub record IsEnding (g : Stage) (s : Stream) : Type 0 where
   pub head : HeadAt g s.head
   pub trailers : HasBlock IsEnd s.trailers
@@ -77,10 +77,10 @@ At Alone g s = IsAlone g s
 
 -- ---- what the client makes of frames
 
--- a fault of messages, or one behind which this holds
+-- a fault of messages, or one after which this holds; a refusal by HTTP has a number
 abbrev pub Kept : Type 0 → ClientFault → Type 0
 Kept E (faults.Message fault) = Unit {0}
-Kept E (faults.HttpStatus number) = E
+Kept E (faults.HttpStatus number) = E × (number ≡ 0 → ⊥)
 Kept E (faults.Reset code) = E
 Kept E (faults.GoAway code) = E
 Kept E fault = ⊥
@@ -97,7 +97,7 @@ pub record Ready (l : Listener) : Type 0 where
 
 pub kept_weaker : (E D : Type 0) → (E → D) → (fault : ClientFault) → Kept E fault → Kept D fault
 kept_weaker E D go (faults.Message fault) h = tt
-kept_weaker E D go (faults.HttpStatus number) h = go h
+kept_weaker E D go (faults.HttpStatus number) h = (go h.0, h.1)
 kept_weaker E D go (faults.Reset code) h = go h
 kept_weaker E D go (faults.GoAway code) h = go h
 kept_weaker E D go (faults.Frame fault) h = absurd h

@@ -33,9 +33,9 @@ use Rattle.wl_heard.specs.Calls.{ComesOfOneCall, IsOfOneCall}
 use Rattle.wl_heard.proofs.Found.{Holds, holds_both, holds_spelled}
 use Rattle.wl_heard.proofs.Opens.{IsFirst, frame_opens}
 use Rattle.wl_heard.proofs.Given.{OnlyOf, only_filter, sound_lasts, FirstOn, first_lasts}
-use Rattle.wl_heard.proofs.Serving.{Lasts, l_refusal, l_turns, l_names, l_gives}
+use Rattle.wl_heard.proofs.ConnectionFacts.{Lasts, l_refusal, l_turns, l_names, l_gives}
 use Rattle.wl_heard.proofs.Tidy.{live_below}
-use Rattle.wl_heard.proofs.Coming.{IsNone, Kind, head, other, kind_of, only_of, old_streams}
+use Rattle.wl_heard.proofs.PeerFrames.{IsNone, Kind, head, other, kind_of, only_of, old_streams}
 use Rattle.wl_heard.proofs.Clean.{IsMild, IsAny, Tame, CleanState, none_left, frame_clean}
 
 -- ---- a connection

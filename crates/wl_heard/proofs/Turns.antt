@@ -39,7 +39,7 @@ Only m g (s ∷ []) = (s.number ≡ call_stream) × At m g s
 Only m g (s ∷ t ∷ ss) = ⊥
 
 module _ (E : Type 0) where
-  -- a block that is whole, behind a size update or not
+  -- a block that is whole, after a size update or not
   block_taken : (P : Listener → Type 0) (ended : Bool) (bytes : List ℕ) (list : List Header) (l : Listener) → l.block ≡ None → is_ended l.stage ≡ false → Decoded list (decode_block l.decoder bytes)
       → ((d : Standing) → IsGood d → Lands E P (list_heard l.stage ended list (record l { decoder = d; block = None })).after) → Lands E P (frame_heard (frame_of (headers call_stream bytes ended)) l).after
   unfolding frame_heard is_in_place body_heard block_heard
@@ -48,9 +48,9 @@ module _ (E : Type 0) where
   status_taken : (list : List Header) (l : Listener) → l.block ≡ None → IsGood l.decoder → IsEnd list → Lands E (ReadyAt Ended) (status_heard (grpc_code list) list l).after
   status_taken list l shut good e = rw e.1 (record { block = shut; decoder = good; stage = refl })
 
-  whole_taken : E → (fault : Option ℕ) (list : List Header) (l : Listener) → l.block ≡ None → IsGood l.decoder → (fault ≡ None → IsEnd list) → Lands E (ReadyAt Ended) (first_heard fault true list l).after
-  whole_taken http (Some number) list l shut good e = http
-  whole_taken http None list l shut good e = status_taken list l shut good (e refl)
+  whole_taken : E → (fault : Option ℕ) (list : List Header) (l : Listener) → l.block ≡ None → IsGood l.decoder → (fault ≡ None → IsEnd list) → (fault ≡ Some 0 → ⊥) → Lands E (ReadyAt Ended) (first_heard fault true list l).after
+  whole_taken http (Some number) list l shut good e some = (http, λ none. some (ap (λ (n : ℕ). Some n) none))
+  whole_taken http None list l shut good e some = status_taken list l shut good (e refl)
 
   cut_taken : (told : List Heard) (ending : End) (size : ℕ) (l : Listener) → ReadyAt Answering l → Lands E (ReadyAt Answering) (cut_heard told ending size l).after
   cut_taken told (Rest rest) size l r = record { block = r.block; decoder = r.decoder; stage = r.stage }
@@ -105,7 +105,7 @@ module _ (E : Type 0) where
       (block_taken (λ k. Answers P k t) false (size_update_bytes f.update ++ block) b.list l r.block (rw r.stage refl) (block_decoded l.decoder f.update block r.decoder b)
       (λ d good. rw (r.stage, b.right) (record { block = refl; decoder = good; stage = refl }, h)))
 
-  -- the last block behind the head, and the only one
+  -- the last block after the head, and the only one
   abbrev Ends : (Stream → Type 0) → Listener → Stream → Type 0
   Ends P l s = ReadyAt Ended l × P s
 
@@ -121,7 +121,7 @@ module _ (E : Type 0) where
       let t : Stream = record s { written = true } in
       headers_lands (Ends P) f s block true l own
       (block_taken (λ k. Ends P k t) true (size_update_bytes f.update ++ block) b.list l r.block (rw r.stage refl) (block_decoded l.decoder f.update block r.decoder b)
-      (λ d good. rw r.stage (lands_weaker E (ReadyAt Ended) (λ k. Ends P k t) (λ k a. (a, h)) _ (whole_taken http (http_fault b.list) b.list _ refl good b.right))))
+      (λ d good. rw r.stage (lands_weaker E (ReadyAt Ended) (λ k. Ends P k t) (λ k a. (a, h)) _ (whole_taken http (http_fault b.list) b.list _ refl good b.right.0 b.right.1))))
 
   -- ---- the turn of each mark
 
@@ -142,7 +142,7 @@ module _ (E : Type 0) where
   unfolding turn body_turn next_turn last_turn
   over_idle f s g b = rw (b.head, b.sent, b.waiting, b.trailers) refl
 
-  -- behind the head no last block is due
+  -- after the head no last block is due
   abbrev Goes : Stream → Type 0
   Goes s = (s.head ≡ None) × (s.trailers ≡ None) × (s.finished ≡ false)
 
@@ -173,7 +173,7 @@ module _ (E : Type 0) where
   headed_head f s (Some block) Answering l own r is at none more = absurd (cc at)
   headed_head f s h Ended l own r is at none more = absurd at
 
-  -- behind the head the last block is due
+  -- after the head the last block is due
   abbrev Ending : Stream → Type 0
   Ending s = (s.head ≡ None) × HasBlock IsEnd s.trailers × (s.finished ≡ true)
 
@@ -276,7 +276,7 @@ alone_is : (f : Flow) (s : Stream) (g : Stage) → IsAlone g s → turn f s ≡ 
 unfolding turn body_turn next_turn
 alone_is f s g b = rw (b.head, none_left ⊥ s b.last, b.waiting) refl
 
--- the only block, and nothing behind it
+-- the only block, and nothing after it
 alone_rounds : (n : ℕ) (f : Flow) (s : Stream) (block : List ℕ) → IsAlone Opening s → s.trailers ≡ Some block
     → ((rounds (suc n) f (s ∷ [])).sent ≡ headers s.number (size_update_bytes f.update ++ block) true ∷ []) × ((rounds (suc n) f (s ∷ [])).streams ≡ record s { trailers = None; written = true } ∷ [])
 unfolding rounds round last_turn headers_turn

@@ -40,7 +40,7 @@ abbrev pub FailsByContent : ClientState → Type 0
 FailsByContent (Listening ending l) = Unit {0}
 FailsByContent (Failed fault) = IsOfContent fault
 
--- Of a session's bytes: a client finds the frames that were written and nothing behind them, and has no fault of frames or
+-- Of a session's bytes: a client finds the frames that were written and nothing after them, and has no fault of frames or
 -- of messages. The messages that it hears are the first of those that were written on its stream, in their order; where
 -- it goes on, they are all that were written in full.
 pub record HearsSession (moves : List Move) : Type 0 where

@@ -1,3 +1,4 @@
 pub mod Written
 pub mod Clients
 pub mod Calls
+pub mod Statuses

@@ -50,7 +50,7 @@ control_frames step t = (reader.frames_of (control_due (unwritten step t))).fram
 abbrev pub due_frames : Step → Talking → List Frame
 due_frames step t = greeting_frames t.greeted ++ (control_frames step t ++ map frame_of (frames_of step t))
 
--- behind selectors nothing is written
+-- after selectors nothing is written
 abbrev pub step_frames : Step → Talking → List Frame
 step_frames (FrameCame f) t = due_frames (FrameCame f) t
 step_frames (BytesBroke why) t = due_frames (BytesBroke why) t
@@ -78,7 +78,7 @@ data_in n frames = flat_map (data_on n) frames
 
 -- ---- laws
 
--- a reader without a preface finds in the bytes of a talk the frames that were written, and nothing behind them
+-- a reader without a preface finds in the bytes of a talk the frames that were written, and nothing after them
 abbrev pub TalksAreRead : Type 0
 TalksAreRead = (steps : List Step) → AllFit steps → reader.frames_of (bytes_of_steps steps) ≡ record { frames = frames_written steps; ending = Rest [] }
 

@@ -2,6 +2,7 @@
 
 ghost use Rattle.wl_heard.specs.Calls.{CallsAreHeard, ClientsAreAnswered};
 ghost use Rattle.wl_heard.specs.Clients.{ClientsHearSessions};
+ghost use Rattle.wl_heard.specs.Statuses.{HeadersAreRead, SessionHeadersAreRead, StatusesAreHeard, HttpRefusalsAreHeard};
 ghost use Rattle.wl_heard.specs.Written.{TalksAreRead, ControlIsRead, DataIsRead, SessionsAreRead, SessionDataIsRead};
 
 /// A reader of HTTP/2 that awaits no preface finds in the bytes of a talk exactly the frames that were written, in their
@@ -35,4 +36,20 @@ pub fn clients_hear_sessions()
 pub fn calls_are_heard()
     ensures calls { CallsAreHeard }
     ensures clients { ClientsAreAnswered }
+{}
+
+/// A reader of HTTP/2 with a decoder of RFC 7541 decodes each header block in the bytes of a talk. On a stream, each header
+/// list with END_STREAM is that of an ending that the call there was given, by its verdict, the attestor, its view or its
+/// tokens: Trailers, Trailers-Only, or the refusal by HTTP. Each other one is Response-Headers.
+pub fn headers_are_read()
+    ensures talks { HeadersAreRead }
+    ensures sessions { SessionHeadersAreRead }
+{}
+
+/// The grpc-status and grpc-message that a client hears are those of an ending that its call was given, and nothing is heard
+/// after them. Where the session ended the client's stream, a client that goes on has heard them. Where the peer makes one
+/// call, a status of HTTP in place of 200 is that of the refusal that the call was given.
+pub fn statuses_are_heard()
+    ensures status { StatusesAreHeard }
+    ensures http { HttpRefusalsAreHeard }
 {}

@@ -2,9 +2,8 @@
 #![tactic(auto)]
 
 mod laws;
-#[cfg(test)]
-mod tests;
 
 pub use laws::{
-    calls_are_heard, clients_hear_sessions, data_is_read, sessions_are_read, talks_are_read,
+    calls_are_heard, clients_hear_sessions, data_is_read, headers_are_read, sessions_are_read,
+    statuses_are_heard, talks_are_read,
 };

@@ -14,7 +14,7 @@ use Rattle.workload_proto.specs.declared.message.JwtItem.{JwtItem}
 use Rattle.workload_proto.specs.Spelling.{spell_jwt, capped}
 use Rattle.wl_health.specs.Messages.{spell_state}
 use Rattle.wl_snapshot.specs.Snapshots.{Publication}
-use Rattle.wl_snapshot.specs.Views.{Sight, view_in}
+use Rattle.wl_snapshot.specs.Views.{ViewModel, view_in}
 use Rattle.wl_snapshot.specs.Answers.{answer_of, asks_of}
 use Rattle.wl_snapshot.specs.declared.answers.Answer.{Answer}
 use Rattle.wl_snapshot.specs.declared.answers.Answer.TheVariants.{Denied, Wait, TooLong, Message}
@@ -31,10 +31,10 @@ use Rattle.wl_session.specs.declared.served.ServedCall.{ServedCall}
 use Rattle.wl_session.specs.Kinds.{was_seen}
 use Rattle.wl_session.specs.Answering.{Turned, goes_on, has_ended, with_head, with_refusal, with_message, with_last_message, stream_answer, health_of, token_answer, call_answer, stage_turn, call_turn, turn_before, calls_turn}
 use Rattle.wl_session.specs.Tokens.{change_in, change_first, is_unnamed, name_call, name_stage, name_on, name_first, is_asking, item_for, token_message, next_ask, give_call, give_stage, give_on, give_first}
-use Rattle.wl_session.proofs.Serving.{place_here, place_later}
-use Rattle.wl_responses.proofs.Opened.{Stands, stands_itself, stands_both, withdrawal_stands, refusal_stands, answer_stands, last_answer_stands}
+use Rattle.wl_session.proofs.ReadyCalls.{place_here, place_later}
+use Rattle.wl_responses.proofs.OpenedStreams.{Stands, stands_itself, stands_both, withdrawal_stands, refusal_stands, answer_stands, last_answer_stands}
 use Rattle.wl_responses.specs.Statuses.{OnPhase}
-use Rattle.wl_responses.proofs.Outgoing.{head_other, trailers_other, message_other, withdrawn_other}
+use Rattle.wl_responses.proofs.OutboxStreams.{head_other, trailers_other, message_other, withdrawn_other}
 
 -- no call is on this stream
 abbrev pub NoneOn : ℕ → List ServedCall → Type 0
@@ -82,7 +82,7 @@ refused k headed r p = over (with_refusal k headed r p) (refusal_stands k headed
 ends_well : (k : ℕ) (headed : Bool) (m : List ℕ) (p : Phase) → Aside k p (has_ended (with_last_message k headed m p))
 ends_well k headed m p = over (with_last_message k headed m p) (last_answer_stands k headed m p) (last_apart k headed m p)
 
-stream_aside : (k : ℕ) (method : Method3) (sel : List (List ℕ)) (v : Sight) (headed : Bool) (a : Answer) (p : Phase) → Aside k p (stream_answer k method sel v headed a p)
+stream_aside : (k : ℕ) (method : Method3) (sel : List (List ℕ)) (v : ViewModel) (headed : Bool) (a : Answer) (p : Phase) → Aside k p (stream_answer k method sel v headed a p)
 stream_aside k method sel v headed Denied p = refused k headed NoIdentity p
 stream_aside k method sel v headed Wait p = on (Ready (Stream method) sel (Some v) headed) (withdraws k p) (withdrawal_stands k p) (λ n other P h. withdrawn_other n k P other p h)
 stream_aside k method sel v headed (TooLong size) p = refused k headed LongResponse p
@@ -96,7 +96,7 @@ check_aside : (k : ℕ) (headed : Bool) (state : ℕ) (p : Phase) (b : Bool) →
 check_aside k headed state p true = refused k headed UnknownService p
 check_aside k headed state p false = ends_well k headed (spell_state state) p
 
-answer_aside : (k : ℕ) (kind : CallKind) (sel : List (List ℕ)) (headed : Bool) (v : Sight) (p : Phase) → Aside k p (call_answer k kind sel headed v p)
+answer_aside : (k : ℕ) (kind : CallKind) (sel : List (List ℕ)) (headed : Bool) (v : ViewModel) (p : Phase) → Aside k p (call_answer k kind sel headed v p)
 unfolding call_answer
 answer_aside k (Stream method) sel headed v p = stream_aside k method sel v headed (answer_of method v) p
 answer_aside k (Tokens audience id) sel headed v p = token_aside k headed audience (asks_of id v) p
@@ -104,7 +104,7 @@ answer_aside k (Check service) sel headed v p = check_aside k headed (health_of 
 answer_aside k (Watch service) sel headed v p =
     on (Ready (Watch service) sel (Some v) true) (with_message k headed (spell_state (health_of service v)) p) (answer_stands k headed (spell_state (health_of service v)) p) (message_apart k headed (spell_state (health_of service v)) p)
 
-new_aside : (k : ℕ) (kind : CallKind) (sel : List (List ℕ)) (seen : Option Sight) (headed : Bool) (v : Sight) (p : Phase) (b : Bool) → Aside k p (if b then goes_on k (Ready kind sel seen headed) p else call_answer k kind sel headed v p)
+new_aside : (k : ℕ) (kind : CallKind) (sel : List (List ℕ)) (seen : Option ViewModel) (headed : Bool) (v : ViewModel) (p : Phase) (b : Bool) → Aside k p (if b then goes_on k (Ready kind sel seen headed) p else call_answer k kind sel headed v p)
 new_aside k kind sel seen headed v p true = stays_on k (Ready kind sel seen headed) p
 new_aside k kind sel seen headed v p false = answer_aside k kind sel headed v p
 

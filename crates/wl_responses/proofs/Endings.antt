@@ -20,13 +20,13 @@ use Rattle.workload_proto.specs.declared.message.JwtItem.{JwtItem}
 use Rattle.workload_proto.specs.Spelling.{spell_jwt, capped}
 use Rattle.wl_health.specs.Messages.{spell_state}
 use Rattle.wl_snapshot.specs.Snapshots.{Publication}
-use Rattle.wl_snapshot.specs.Views.{Sight, view_in}
+use Rattle.wl_snapshot.specs.Views.{ViewModel, view_in}
 use Rattle.wl_snapshot.specs.Answers.{answer_of, asks_of}
 use Rattle.wl_snapshot.specs.declared.answers.Answer.{Answer}
 use Rattle.wl_snapshot.specs.declared.answers.Answer.TheVariants.{Denied, Wait, TooLong, Message}
 use Rattle.wl_snapshot.specs.declared.answers.Method3.{Method3}
 use Rattle.wl_snapshot.specs.declared.token_asks.Wanted.{Wanted}
-use Rattle.wl_snapshot.proofs.Equalities.{sight_is}
+use Rattle.wl_snapshot.proofs.Equalities.{view_model_is}
 use Rattle.wl_session.specs.declared.asks.JwtAsk.{JwtAsk}
 use Rattle.wl_session.specs.declared.asks.JwtOutcome.{JwtOutcome}
 use Rattle.wl_session.specs.declared.asks.JwtOutcome.TheVariants as outcomes
@@ -43,12 +43,12 @@ use Rattle.wl_session.specs.Talks.{Talking}
 use Rattle.wl_responses.specs.Steps.{talk_after}
 use Rattle.wl_responses.specs.Replies.{stage_on}
 use Rattle.wl_responses.specs.Statuses.{On, OnPhase, IsUnfinished, Ending, GoesOn, IsRefused, IsAnswered, HasEnding, unrefused, refused_or, ending_on, ending_at, is_headed, ending_named, ending_after, ending_given, NoStatusBefore, TurnsGiveStatuses, DeniedWhereNothingIsSeen, UnknownWhereAsked, NamesGiveStatuses, TokensGiveStatuses}
-use Rattle.wl_responses.proofs.Outgoing.{differ, withdrawn_on, message_here, withdrawn_here, trailers_here}
-use Rattle.wl_responses.proofs.Opened.{withdrawal_stands, first_stands, answer_stands}
+use Rattle.wl_responses.proofs.OutboxStreams.{differ, withdrawn_on, message_here, withdrawn_here, trailers_here}
+use Rattle.wl_responses.proofs.OpenedStreams.{withdrawal_stands, first_stands, answer_stands}
 use Rattle.wl_responses.proofs.Asides.{NoneOn, Aside, over, on, turn_aside, calls_aside, name_aside, give_aside, first_here, first_later}
-use Rattle.wl_responses.proofs.Owning.{OneOn, head_here, answer_unfinished}
-use Rattle.wl_responses.proofs.Going.{IsKept, StageGoes, CallGoes, AllGo, all_go}
-use Rattle.wl_responses.proofs.Replying.{steps_go}
+use Rattle.wl_responses.proofs.WaitingAnswers.{OneOn, head_here, answer_unfinished}
+use Rattle.wl_responses.proofs.OngoingCalls.{IsKept, StageGoes, CallGoes, AllGo, all_go}
+use Rattle.wl_responses.proofs.StreamReplies.{steps_go}
 
 -- ---- the last block
 
@@ -103,7 +103,7 @@ message_ends n headed m p h =
 abbrev Ends : ℕ → Bool → Ending → Phase → Type 0
 Ends n headed e p = OnPhase n (HasEnding headed e) p
 
-stream_ends : (n : ℕ) (method : Method3) (sel : List (List ℕ)) (v : Sight) (headed : Bool) (a : Answer) (p : Phase) → Stood n p → Ends n headed (refused_or (stream_refusal a) GoesOn) (stream_answer n method sel v headed a p).phase
+stream_ends : (n : ℕ) (method : Method3) (sel : List (List ℕ)) (v : ViewModel) (headed : Bool) (a : Answer) (p : Phase) → Stood n p → Ends n headed (refused_or (stream_refusal a) GoesOn) (stream_answer n method sel v headed a p).phase
 stream_ends n method sel v headed Denied p h = refusal_ends n headed NoIdentity p h
 stream_ends n method sel v headed Wait p h = withdrawn_on n n IsUnfinished (λ s u. u) p h.unfinished
 stream_ends n method sel v headed (TooLong size) p h = refusal_ends n headed LongResponse p h
@@ -118,7 +118,7 @@ check_ends : (n : ℕ) (headed : Bool) (state : ℕ) (p : Phase) (b : Bool) → 
 check_ends n headed state p true h = refusal_ends n headed UnknownService p h
 check_ends n headed state p false h = message_ends n headed (spell_state state) p h
 
-answer_ends : (n : ℕ) (kind : CallKind) (sel : List (List ℕ)) (headed : Bool) (v : Sight) (p : Phase) → Stood n p → Ends n headed (ending_on kind v) (call_answer n kind sel headed v p).phase
+answer_ends : (n : ℕ) (kind : CallKind) (sel : List (List ℕ)) (headed : Bool) (v : ViewModel) (p : Phase) → Stood n p → Ends n headed (ending_on kind v) (call_answer n kind sel headed v p).phase
 unfolding call_answer
 answer_ends n (Stream method) sel headed v p h = stream_ends n method sel v headed (answer_of method v) p h
 answer_ends n (Tokens audience id) sel headed v p h = token_ends n headed audience (asks_of id v) p h
@@ -126,11 +126,11 @@ answer_ends n (Check service) sel headed v p h = check_ends n headed (health_of 
 answer_ends n (Watch service) sel headed v p h = answer_unfinished n headed (spell_state (health_of service v)) p h.unfinished
 
 -- a call on an equal view goes on
-new_ends : (n : ℕ) (kind : CallKind) (sel : List (List ℕ)) (seen : Option Sight) (headed : Bool) (v : Sight) (p : Phase) (b : Bool) → was_seen seen v ≡ b → IsKept kind seen → Stood n p
+new_ends : (n : ℕ) (kind : CallKind) (sel : List (List ℕ)) (seen : Option ViewModel) (headed : Bool) (v : ViewModel) (p : Phase) (b : Bool) → was_seen seen v ≡ b → IsKept kind seen → Stood n p
     → Ends n headed (ending_on kind v) (if b then goes_on n (Ready kind sel seen headed) p else call_answer n kind sel headed v p).phase
 new_ends n kind sel None headed v p true is kept h = absurd (cc is)
 new_ends n kind sel (Some old) headed v p true is kept h =
-    let goes : ending_on kind v ≡ GoesOn = subst (λ (u : Sight). ending_on kind u ≡ GoesOn) (sight_is old v is) kept in
+    let goes : ending_on kind v ≡ GoesOn = subst (λ (u : ViewModel). ending_on kind u ≡ GoesOn) (view_model_is old v is) kept in
     subst (λ (e : Ending). Ends n headed e p) (sym goes) h.unfinished
 new_ends n kind sel seen headed v p false is kept h = answer_ends n kind sel headed v p h
 
@@ -244,14 +244,14 @@ found_has test (d ∷ cs) c is =
 
 -- ---- the status at a turn
 
-refused_so : (kind : CallKind) (v : Sight) (r : Refusal) (o : Option Refusal) → refused_or o (unrefused kind v) ≡ IsRefused r → o ≡ Some r
+refused_so : (kind : CallKind) (v : ViewModel) (r : Refusal) (o : Option Refusal) → refused_or o (unrefused kind v) ≡ IsRefused r → o ≡ Some r
 refused_so kind v r (Some why) is = let same : why ≡ r = cc is in ap (λ (w : Refusal). Some w) same
 refused_so (Stream method) v r None is = absurd (cc is)
 refused_so (Tokens audience id) v r None is = absurd (cc is)
 refused_so (Check service) v r None is = absurd (cc is)
 refused_so (Watch service) v r None is = absurd (cc is)
 
-ended_so : (kind : CallKind) (v : Sight) (r : Refusal) → refusal_on kind v ≡ Some r → ending_on kind v ≡ IsRefused r
+ended_so : (kind : CallKind) (v : ViewModel) (r : Refusal) → refusal_on kind v ≡ Some r → ending_on kind v ≡ IsRefused r
 ended_so kind v r is = ap (λ (o : Option Refusal). refused_or o (unrefused kind v)) is
 
 goes_so : {P : Type 0} (r : Refusal) → GoesOn ≡ IsRefused r → P

@@ -17,12 +17,12 @@ use Rattle.wl_session.specs.Answering.{with_refusal}
 use Rattle.wl_session.specs.Talks.{Talking, with_served, after_event}
 use Rattle.wl_session.specs.Completing.{CameOn}
 use Rattle.wl_responses.specs.Replies.{AnsweringTurn, Replies, no_replies}
-use Rattle.wl_responses.proofs.Opened.{Stands, stands_itself, reset_stands, refusal_stands}
+use Rattle.wl_responses.proofs.OpenedStreams.{Stands, stands_itself, reset_stands, refusal_stands}
 use Rattle.wl_responses.specs.Statuses.{OnPhase, IsUnfinished}
-use Rattle.wl_responses.proofs.Outgoing.{reset_on}
-use Rattle.wl_responses.proofs.Writing.{Matches}
+use Rattle.wl_responses.proofs.OutboxStreams.{reset_on}
+use Rattle.wl_responses.proofs.StreamFlushes.{Matches}
 use Rattle.wl_responses.proofs.Asides.{NoneOn, Leaves, refusal_apart}
-use Rattle.wl_responses.proofs.Owning.{StageFits, OneOn, Serves, none_one, none_fits, refusal_here}
+use Rattle.wl_responses.proofs.WaitingAnswers.{StageFits, OneOn, Serves, none_one, none_fits, refusal_here}
 
 -- ---- what is known of one stream
 

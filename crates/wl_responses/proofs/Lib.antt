@@ -1,24 +1,24 @@
 pub mod Bytes
 mod Sizes
-mod Outgoing
-mod Writing
-mod Opened
+pub mod OutboxStreams
+mod StreamFlushes
+mod OpenedStreams
 pub mod Asides
-mod Owning
-mod Serving
+mod WaitingAnswers
+mod TurnsOnStreams
 mod Frames
 mod Peers
-mod Replying
-mod Going
+mod StreamReplies
+mod OngoingCalls
 pub mod Endings
-pub mod Deciding
-mod Falling
-mod Taking
-mod Attesting
-mod Cutting
-pub mod Moving
-pub mod Waiting
-pub mod Awaiting
-mod Running
-mod Living
-pub mod Turning
+pub mod Verdicts
+mod PublicationOrder
+mod ResponseTurns
+mod CallSelectors
+mod MessageCuts
+pub mod MoveSteps
+pub mod WindowWaits
+pub mod TokenAsks
+mod Runs
+mod SessionMoves
+pub mod AfterTurns

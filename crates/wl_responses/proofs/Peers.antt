@@ -33,11 +33,11 @@ use Rattle.wl_session.specs.declared.served.ServedCall.{ServedCall}
 use Rattle.wl_session.specs.Talks.{Talking, others, after_event, after_body, after_happening, after_happenings, after_frame}
 use Rattle.wl_session.specs.Completing.{CameOn}
 use Rattle.wl_responses.specs.Replies.{AnsweringTurn, Replies}
-use Rattle.wl_responses.proofs.Opened.{stands_itself}
+use Rattle.wl_responses.proofs.OpenedStreams.{stands_itself}
 use Rattle.wl_responses.specs.Statuses.{On, OnPhase, IsUnfinished}
-use Rattle.wl_responses.proofs.Writing.{Matches}
+use Rattle.wl_responses.proofs.StreamFlushes.{Matches}
 use Rattle.wl_responses.proofs.Asides.{NoneOn}
-use Rattle.wl_responses.proofs.Owning.{StageFits, Serves}
+use Rattle.wl_responses.proofs.WaitingAnswers.{StageFits, Serves}
 use Rattle.wl_responses.proofs.Frames.{Unborn, Undecided, Speaks, none_with, none_without, none_after, one_filter, none_filter, moved, event_other, event_own}
 
 -- ---- a happening
@@ -139,7 +139,7 @@ told_speaks : (n : ℕ) (told : Option Happening) (turn : Option AnsweringTurn) 
 told_speaks n None turn r t new h = h
 told_speaks n (Some g) turn r t new h = happening_speaks n g turn r t new h
 
--- ---- the streams behind a frame
+-- ---- the streams after a frame
 
 -- what is said hangs neither on the credit nor on which stream it is
 abbrev IsFree : (Stream → Type 0) → Type 0
@@ -220,7 +220,7 @@ there_then n f old new told turn r t so due names (inr u) h =
     fresh : (k : ℕ) → Matches turn r (new_stream k)
     fresh k = rw u.1 (refl, refl, tt)
 
--- what is known of the calls once the frame was read, before it is told
+-- what is known of the calls once the frame was read, before it is reported
 pub read_speaks : (n : ℕ) (f : Frame) (old new : State) (told : Option Happening) (turn : Option AnsweringTurn) (r : Replies) (t : Talking) → f.stream < 2 ^ 31 → t.phase ≡ Open old → peer old f ≡ goes new told → Speaks n turn r t
     → IfTold n turn (record t { phase = Open new }) told × Speaks n turn r (record t { phase = Open new })
 read_speaks n f old new told turn r t low is due h =

@@ -11,7 +11,7 @@ use Rattle.wl_entry.specs.declared.tokens.JwtToken.{JwtToken}
 use Rattle.wl_health.specs.declared.health.TheConstants.{SERVING, NOT_SERVING, SERVICE_UNKNOWN}
 use Rattle.wl_health.specs.Health.{workload_api}
 use Rattle.wl_health.specs.Messages.{spell_state}
-use Rattle.wl_snapshot.specs.Views.{Sight, view_in, is_whole}
+use Rattle.wl_snapshot.specs.Views.{ViewModel, view_in, is_whole}
 use Rattle.wl_snapshot.specs.Answers.{message_of, waits, within_limit, answer_of}
 use Rattle.wl_snapshot.specs.declared.answers.Answer.TheVariants.{Denied, Wait, TooLong, Message}
 use Rattle.wl_snapshot.specs.declared.answers.Method3.{Method3}
@@ -45,7 +45,7 @@ answer_short_by true w m n is = absurd (cc is)
 answer_short_by false true m n is = absurd (cc is)
 answer_short_by false false m n is = within_short m n is
 
-answer_short : (method : Method3) (v : Sight) (n : List ℕ) → answer_of method v ≡ Message n → length n ≤ MAX_RESPONSE_LEN
+answer_short : (method : Method3) (v : ViewModel) (n : List ℕ) → answer_of method v ≡ Message n → length n ≤ MAX_RESPONSE_LEN
 unfolding answer_of
 answer_short method v n is = answer_short_by (length v.held == 0) (waits method v) (message_of method v) n is
 
@@ -61,10 +61,10 @@ one_of_three false true true x y z h k l = h
 one_of_three false true false x y z h k l = k
 one_of_three false false c x y z h k l = l
 
-state_small : (service : List ℕ) (v : Sight) → health_of service v < 128
+state_small : (service : List ℕ) (v : ViewModel) → health_of service v < 128
 state_small service v = one_of_three (bytes_eq service []) (bytes_eq service workload_api) (not (length v.held == 0) && is_whole v) SERVING NOT_SERVING SERVICE_UNKNOWN (omega arith) (omega arith) (omega arith)
 
-state_short : (service : List ℕ) (v : Sight) → length (spell_state (health_of service v)) ≤ MAX_RESPONSE_LEN
+state_short : (service : List ℕ) (v : ViewModel) → length (spell_state (health_of service v)) ≤ MAX_RESPONSE_LEN
 state_short service v = omega (arith, two_bytes (health_of service v) (state_small service v))
 
 -- ---- a response
@@ -72,7 +72,7 @@ state_short service v = omega (arith, two_bytes (health_of service v) (state_sma
 abbrev IsShort : List ℕ → Type 0
 IsShort bytes = (m : List ℕ) × (bytes ≡ framed m) × (length m ≤ MAX_RESPONSE_LEN)
 
-kind_short : (kind : CallKind) (v : Sight) (tokens : List JwtToken) (bytes : List ℕ) → IsMessageOn kind v tokens bytes → IsShort bytes
+kind_short : (kind : CallKind) (v : ViewModel) (tokens : List JwtToken) (bytes : List ℕ) → IsMessageOn kind v tokens bytes → IsShort bytes
 kind_short (Stream method) v tokens bytes is = (is.0, is.2, answer_short method v is.0 is.1)
 kind_short (Tokens audience id) v tokens bytes is = (_, is.1, is.2)
 kind_short (Check service) v tokens bytes is = (_, is.1, state_short service v)

@@ -10,7 +10,7 @@ use Rattle.h2_conn.specs.Conns.{flush_of}
 use Rattle.workload_proto.specs.declared.message.JwtItem.{JwtItem}
 use Rattle.wl_entry.specs.declared.tokens.JwtToken.{JwtToken}
 use Rattle.wl_snapshot.specs.Snapshots.{Publication}
-use Rattle.wl_snapshot.specs.Views.{Sight, view_in}
+use Rattle.wl_snapshot.specs.Views.{ViewModel, view_in}
 use Rattle.wl_snapshot.specs.Answers.{asks_of}
 use Rattle.wl_snapshot.specs.declared.token_asks.Wanted.{Wanted}
 use Rattle.wl_session.specs.declared.asks.JwtAsk.{JwtAsk}
@@ -53,7 +53,7 @@ stage_in n OutOfMemory = None
 abbrev pub IsWritten : Talking → Type 0
 IsWritten t = flush_of t.phase ≡ record { bytes = []; after = t.phase }
 
--- A message that waits on a stream waits behind bytes of an older one, or for a window: no window lets anything through whose
+-- A message that waits on a stream waits after bytes of an older one, or for a window: no window lets anything through whose
 -- sum is not above zero (RFC 9113, section 6.9).
 abbrev pub IsHeldBack : Flow → Stream → Type 0
 IsHeldBack f s =
@@ -72,7 +72,7 @@ abbrev pub waits_for : ℕ → List (List ℕ) → List Wanted → List JwtItem 
 waits_for n audience [] got = None
 waits_for n audience (w ∷ ws) got = Some (Asking (ask_on n audience w) ws got)
 
--- how far it is behind the outcome of its first ask: where that is no token it has ended
+-- how far it is from the outcome of its first ask: where that is no token it has ended
 abbrev pub waits_after : JwtOutcome → ℕ → JwtAsk → List Wanted → List JwtItem → Option Stage
 waits_after (Token t) n first rest got = waits_for n first.audience rest (got ++ item_for first t ∷ [])
 waits_after Failed n first rest got = None
@@ -80,13 +80,13 @@ waits_after (Unfit why) n first rest got = None
 
 -- ---- an event of a session
 
--- what holds behind each Turn of a session in each run: of the publication that stands, and the session before and now
+-- what holds after each Turn of a session in each run: of the publication that stands, and the session before and now
 abbrev pub BehindTurns : (Publication → SessionState → SessionState → Type 0) → Type 0
 BehindTurns P =
     (d : Beginning) (past : List Event) (conn : ℕ) (old now : Seat) → conn < CONNS → seat d past conn ≡ Some old → seat d (events.Turn conn ∷ past) conn ≡ Some now
     → P (publication d past) old.session now.session
 
--- behind each Token, where an ask waits: of its outcome, and the session before and now
+-- after each Token, where an ask waits: of its outcome, and the session before and now
 abbrev pub BehindTokens : (JwtOutcome → SessionState → SessionState → Type 0) → Type 0
 BehindTokens P =
     (d : Beginning) (past : List Event) (conn time : ℕ) (given : Option JwtToken) (a : JwtAsk) (old now : Seat)
@@ -109,7 +109,7 @@ EachIsHeldBack = BehindTurns (λ x old now. OnTalk IsKeptBack now)
 -- each ready FetchJWTSVID waits for exactly the asks of its view
 abbrev pub WaitsForAsks : Publication → SessionState → SessionState → Type 0
 WaitsForAsks x old now =
-    (n : ℕ) (audience : List (List ℕ)) (id : Option (List ℕ)) (sel : List (List ℕ)) (seen : Option Sight) (headed : Bool)
+    (n : ℕ) (audience : List (List ℕ)) (id : Option (List ℕ)) (sel : List (List ℕ)) (seen : Option ViewModel) (headed : Bool)
     → stage_in n old ≡ Some (Ready (Tokens audience id) sel seen headed) → stage_in n now ≡ waits_for n audience (asks_of id (view_in x sel)) []
 
 abbrev pub AsksAreAwaited : Type 0
@@ -122,7 +122,7 @@ StillWaits old now = (n : ℕ) (first : JwtAsk) (rest : List Wanted) (got : List
 abbrev pub AsksStay : Type 0
 AsksStay = BehindTurns (λ x old now. StillWaits old now)
 
--- with a fit token the first call that waits goes to its next ask, and behind the last one it ends; without one it ends
+-- with a fit token the first call that waits goes to its next ask, and after the last one it ends; without one it ends
 abbrev pub TakesOutcome : JwtOutcome → SessionState → SessionState → Type 0
 TakesOutcome o old now =
     OnTalk

@@ -28,7 +28,7 @@ move_told (Fed piece caller) s = feed_told piece caller s
 move_told (TurnedOn x) s = turn_told x s
 move_told (GivenTo o) s = outcome_told o s
 
--- the session behind these moves
+-- the session after these moves
 abbrev pub session_after : List Move → SessionState
 session_after [] = fresh_session
 session_after (move ∷ before) = (move_told move (session_after before)).after
@@ -76,14 +76,14 @@ abbrev pub steps_of : List Move → List Step
 steps_of [] = []
 steps_of (move ∷ before) = onto_move move (session_after before) (steps_of before)
 
--- all bytes that are written behind steps
+-- all bytes that are written after steps
 abbrev pub bytes_of_steps : List Step → List ℕ
 bytes_of_steps [] = []
 bytes_of_steps (step ∷ before) = bytes_of_steps before ++ (step_said step (talk_after before)).bytes
 
 -- ---- laws
 
--- a session that goes on has the talk behind its steps
+-- a session that goes on has the talk after its steps
 abbrev pub HasTalk : SessionState → List Step → Type 0
 HasTalk (Running e t shown) steps = t ≡ talk_after steps
 HasTalk (Fallen fault begun) steps = Unit {0}

@@ -8,7 +8,7 @@ use Rattle.workload_proto.specs.declared.limits.TheConstants.{MAX_RESPONSE_LEN}
 use Rattle.workload_proto.specs.Spelling.{spell_jwt}
 use Rattle.wl_entry.specs.declared.tokens.JwtToken.{JwtToken}
 use Rattle.wl_health.specs.Messages.{spell_state}
-use Rattle.wl_snapshot.specs.Views.{Sight, view_in}
+use Rattle.wl_snapshot.specs.Views.{ViewModel, view_in}
 use Rattle.wl_snapshot.specs.Answers.{answer_of, asks_of}
 use Rattle.wl_snapshot.specs.declared.answers.Answer.TheVariants.{Message}
 use Rattle.wl_snapshot.specs.declared.token_asks.Wanted.{Wanted}
@@ -36,7 +36,7 @@ token_items (w ∷ ws) (t ∷ tokens) = token_item w t ∷ token_items ws tokens
 
 -- The message that a call is given on a view: its method's, as Answer gives it; of the tokens that came, one for each ask; or
 -- the state of its service. A Check of a service that is not known is given none.
-abbrev pub IsMessageOn : CallKind → Sight → List JwtToken → List ℕ → Type 0
+abbrev pub IsMessageOn : CallKind → ViewModel → List JwtToken → List ℕ → Type 0
 IsMessageOn (Stream method) v tokens bytes = (m : List ℕ) × (answer_of method v ≡ Message m) × (bytes ≡ framed m)
 IsMessageOn (Tokens audience id) v tokens bytes =
     let message = spell_jwt (record { svids = token_items (asks_of id v) tokens }) in
@@ -129,7 +129,7 @@ StreamsHaveSelectors =
 
 -- ---- as a reader of gRPC cuts them
 
--- the messages of responses behind their prefixes, the first one first
+-- the messages of responses after their prefixes, the first one first
 abbrev pub AreMessages : List Response → List (List ℕ) → Type 0
 AreMessages [] messages = messages ≡ []
 AreMessages (r ∷ before) messages =

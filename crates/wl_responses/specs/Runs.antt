@@ -60,7 +60,7 @@ WasPublished d (e ∷ past) x = (x ≡ publication d (e ∷ past)) ⊎ WasPublis
 
 -- ---- laws
 
--- a session is the one behind its moves, and was written their bytes
+-- a session is the one after its moves, and was written their bytes
 pub record HasMoves (d : Beginning) (past : List Event) (conn : ℕ) (s : Seat) : Type 0 where
   pub moves : List Move
   pub are : moves_of d past conn ≡ Some moves

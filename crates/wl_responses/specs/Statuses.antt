@@ -26,7 +26,7 @@ use Rattle.workload_proto.specs.declared.message.JwtItem.{JwtItem}
 use Rattle.workload_proto.specs.Spelling.{spell_jwt, capped}
 use Rattle.wl_health.specs.Messages.{spell_state}
 use Rattle.wl_snapshot.specs.Snapshots.{Publication}
-use Rattle.wl_snapshot.specs.Views.{Sight, view_in}
+use Rattle.wl_snapshot.specs.Views.{ViewModel, view_in}
 use Rattle.wl_snapshot.specs.declared.token_asks.Wanted.{Wanted}
 use Rattle.wl_session.specs.declared.asks.JwtAsk.{JwtAsk}
 use Rattle.wl_session.specs.declared.asks.JwtOutcome.{JwtOutcome}
@@ -105,7 +105,7 @@ HasVerdictEnding f t =
 -- ---- at a turn
 
 -- a Check that is not refused has its one answer; each other call goes on
-abbrev pub unrefused : CallKind → Sight → Ending
+abbrev pub unrefused : CallKind → ViewModel → Ending
 unrefused (Streaming method) v = GoesOn
 unrefused (Tokens audience id) v = GoesOn
 unrefused (Check service) v = IsAnswered (spell_state (health_of service v))
@@ -116,7 +116,7 @@ refused_or None ending = ending
 refused_or (Some r) ending = IsRefused r
 
 -- a ready call on a view
-abbrev pub ending_on : CallKind → Sight → Ending
+abbrev pub ending_on : CallKind → ViewModel → Ending
 ending_on kind v = refused_or (refusal_on kind v) (unrefused kind v)
 
 abbrev pub ending_at : Publication → Stage → Ending
@@ -130,7 +130,7 @@ is_headed (Unnamed kind) = false
 is_headed (Ready kind sel seen headed) = headed
 is_headed (Asking first rest got) = false
 
--- each call behind a turn, before anything is written
+-- each call after a turn, before anything is written
 abbrev pub HasTurnEnding : Publication → Talking → Type 0
 HasTurnEnding x t = (n : ℕ) (s : Stage) → stage_on n t.served ≡ Some s → OnPhase n (HasEnding (is_headed s) (ending_at x s)) (unwritten (TurnTaken x) t)
 
@@ -168,7 +168,7 @@ abbrev pub ending_after : List Wanted → List JwtItem → Ending
 ending_after [] items = ending_of_tokens items
 ending_after (w ∷ ws) items = GoesOn
 
--- one token that cannot be had ends the call; else it ends behind its last ask
+-- one token that cannot be had ends the call; else it ends after its last ask
 abbrev pub ending_given : JwtOutcome → JwtAsk → List Wanted → List JwtItem → Ending
 ending_given (outcomes.Token t) first rest got = ending_after rest (got ++ item_for first t ∷ [])
 ending_given outcomes.Failed first rest got = IsRefused Unsigned

@@ -1,4 +1,4 @@
--- A talk as a list of steps, the last one first: what came to it, and the frames that were written behind each (own rules).
+-- A talk as a list of steps, the last one first: what came to it, and the frames that were written after each (own rules).
 use Rattle.std.specs.Prelude.{◌≡◌, ℕ, List, [], ◌∷◌, ◌++◌, Option, Some, None}
 use Rattle.h2_frame.specs.declared.fault.FrameFault.{FrameFault}
 use Rattle.h2_frame.specs.declared.frame.Frame.{Frame}
@@ -25,7 +25,7 @@ pub data Step : Type 0 where
   TurnTaken : Publication → Step
   OutcomeCame : JwtOutcome → Step
 
--- what a step makes of a talk, and what is written behind it
+-- what a step makes of a talk, and what is written after it
 abbrev pub step_said : Step → Talking → Said
 step_said (FrameCame f) t = frame_said f t
 step_said (BytesBroke why) t = break_said why t
@@ -33,7 +33,7 @@ step_said (CallAttested caller) t = name_said caller t
 step_said (TurnTaken x) t = turn_said x t
 step_said (OutcomeCame o) t = given_said o t
 
--- the talk behind these steps
+-- the talk after these steps
 abbrev pub talk_after : List Step → Talking
 talk_after [] = fresh_talk
 talk_after (step ∷ before) = (step_said step (talk_after before)).after
@@ -52,7 +52,7 @@ AllFit (step ∷ before) = AllFit before × FitsStep step
 
 -- ---- what a step writes
 
--- the connection behind a step, before anything is written
+-- the connection after a step, before anything is written
 abbrev pub unwritten : Step → Talking → Phase
 unwritten (FrameCame f) t = (after_frame f t).phase
 unwritten (BytesBroke why) t = after_frame_fault why t.phase
@@ -66,7 +66,7 @@ frames_due (Open q) = (pull_of q.outbox).sent
 frames_due (Failed fault left totals) = []
 frames_due (OutOfMemory totals) = []
 
--- HEADERS and DATA that are written behind a step; behind selectors there is nothing to write
+-- HEADERS and DATA that are written after a step; after selectors there is nothing to write
 abbrev pub frames_of : Step → Talking → List Sent
 frames_of (FrameCame f) t = frames_due (unwritten (FrameCame f) t)
 frames_of (BytesBroke why) t = frames_due (unwritten (BytesBroke why) t)

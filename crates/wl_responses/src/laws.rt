@@ -18,7 +18,7 @@ pub fn streams_have_answers()
     ensures numbers { NumbersNeverFall }
 {}
 
-/// A session has the talk behind the steps of its moves, and wrote the bytes of these steps. These are this
+/// A session has the talk after the steps of its moves, and wrote the bytes of these steps. These are this
 /// side's SETTINGS before all else, and of each step the queued control frames, then its HEADERS and DATA.
 pub fn sessions_take_steps()
     ensures steps { SessionsTakeSteps }
@@ -38,7 +38,7 @@ pub fn responses_are_answers()
     ensures messages { MessagesAreCut }
 {}
 
-/// The session on a connection of the core is the one behind its moves, and was written their bytes.
+/// The session on a connection of the core is the one after its moves, and was written their bytes.
 pub fn sessions_have_moves()
     ensures { SessionsHaveMoves }
 {}
@@ -71,7 +71,7 @@ pub fn statuses_are_of_views()
     answers_are_of_views();
 }
 
-/// Behind each Turn of a session of the core that has not failed, each ready streaming call, Watch included,
+/// After each Turn of a session of the core that has not failed, each ready streaming call, Watch included,
 /// has its message of the publication that stands: it began last on its stream, or waits there; and all that
 /// may be written was. Each ready FetchJWTSVID waits for exactly its asks, one after the other.
 pub fn runs_answer_all()
@@ -85,8 +85,8 @@ pub fn runs_answer_all()
     turns_answer_all();
 }
 
-/// Each step of each session of the core gives its statuses: a frame, a name, a turn and an outcome. So behind
-/// each Turn each ready call has its status, and behind each Token the call whose ask waited.
+/// Each step of each session of the core gives its statuses: a frame, a name, a turn and an outcome. So after
+/// each Turn each ready call has its status, and after each Token the call whose ask waited.
 pub fn runs_give_statuses()
     ensures steps { StepsOfRunsGiveStatuses }
     ensures turns { TurnsOfRunsGiveStatuses }

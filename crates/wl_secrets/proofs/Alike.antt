@@ -15,8 +15,8 @@ use Rattle.wl_core.specs.Moments.{Beginning, Moment, moment, moment_after, readi
 use Rattle.wl_secrets.specs.Runs.{Step, with_pair, first_run, second_run, is_at}
 use Rattle.wl_secrets.specs.Sides.{Attested, joined_as, named_as, attested_after, attested, IsOnSide, Side}
 use Rattle.wl_secrets.specs.Foreign.{IsAsFit, Fits}
-use Rattle.wl_secrets.proofs.Shading.{hidden, shade, entries_alike, claim_alike, signed_alike, install_alike, ticket_alike}
-use Rattle.wl_secrets.proofs.Sights.{shown_after, shown_failed, domain_after, AreAlike, published_alike}
+use Rattle.wl_secrets.proofs.HiddenStores.{hidden, shade, entries_alike, claim_alike, signed_alike, install_alike, ticket_alike}
+use Rattle.wl_secrets.proofs.ViewModels.{shown_after, shown_failed, domain_after, AreAlike, published_alike}
 use Rattle.wl_secrets.proofs.Seats.{same_conn}
 use Rattle.wl_secrets.proofs.Known.{side_before}
 
@@ -41,7 +41,7 @@ document_both ours document m n alike =
 flight_same : (ours : List ℕ → Bool) (n : ℕ) (m l : Stored) → AreAlike ours m l → flight_in n m ≡ flight_in n l
 flight_same ours n m l alike = ap (λ (s : Store). find (λ f. f.number == n) s.in_flight) alike.store
 
--- identities that are alike, and as fit
+-- identities that are alike, each fit where the other is
 abbrev AreAsFit : (List ℕ → Bool) → Option Flight → Signed → Signed → ℕ → Stored → Stored → Type 0
 AreAsFit ours None g h now m l = Unit {0}
 AreAsFit ours (Some f) g h now m l = (hidden (ours f.ask.entry_id) g ≡ hidden (ours f.ask.entry_id) h) × (install now f.ask g m.store ≡ install now f.ask h l.store)

@@ -25,7 +25,7 @@ use Rattle.wl_snapshot.specs.declared.token_asks.Wanted.{Wanted}
 use Rattle.wl_snapshot.specs.declared.views.Held.{Held}
 use Rattle.wl_snapshot.specs.Answers.{answer_of, asks_of, is_meant, wanted_of}
 use Rattle.wl_snapshot.specs.Snapshots.{Publication}
-use Rattle.wl_snapshot.specs.Views.{Sight, held_of, sight_of, view_in}
+use Rattle.wl_snapshot.specs.Views.{ViewModel, held_of, view_model_of, view_in}
 use Rattle.wl_session.specs.declared.asks.JwtAsk.{JwtAsk}
 use Rattle.wl_session.specs.declared.asks.JwtOutcome.{JwtOutcome}
 use Rattle.wl_session.specs.declared.asks.JwtOutcome.TheVariants as outcomes
@@ -184,7 +184,7 @@ feed_on on piece caller OutOfMemory by all = tt
 
 -- ---- a turn
 
-stream_on : (on : Bounds) (n : ℕ) (method : Method3) (sel : List (List ℕ)) (v : Sight) (headed : Bool) (a : Answer) (p : Phase) → on.selectors sel → CallsOn on (stream_answer n method sel v headed a p).kept
+stream_on : (on : Bounds) (n : ℕ) (method : Method3) (sel : List (List ℕ)) (v : ViewModel) (headed : Bool) (a : Answer) (p : Phase) → on.selectors sel → CallsOn on (stream_answer n method sel v headed a p).kept
 stream_on on n method sel v headed Denied p is = tt
 stream_on on n method sel v headed Wait p is = (is, tt)
 stream_on on n method sel v headed (TooLong size) p is = tt
@@ -200,7 +200,7 @@ ended_go on false p q = tt
 
 -- the asks of a view are for its entries
 asks_on : (on : Bounds) (x : Publication) (sel : List (List ℕ)) (id : Option (List ℕ)) → AllByRecursion (λ e. is_entitled sel e ≡ true → on.ids e.id) x.entries → AllByRecursion (λ (w : Wanted). on.ids w.ask.entry_id) (asks_of id (view_in x sel))
-unfolding asks_of view_in sight_of held_of
+unfolding asks_of view_in view_model_of held_of
 asks_on on x sel id covers =
     let entries = filter (is_entitled sel) x.entries in
     let held = map (held_of x.svids) entries in
@@ -215,7 +215,7 @@ answer_on on x n (Tokens audience id) sel headed p covers is = tokens_on on n he
 answer_on on x n (Check service) sel headed p covers is = ended_go on (health_of service (view_in x sel) == 3) _ _
 answer_on on x n (Watch service) sel headed p covers is = (is, tt)
 
-new_on : (on : Bounds) (b : Bool) (x : Publication) (n : ℕ) (kind : CallKind) (sel : List (List ℕ)) (seen : Option Sight) (headed : Bool) (p : Phase) → CoversOn on x → on.selectors sel
+new_on : (on : Bounds) (b : Bool) (x : Publication) (n : ℕ) (kind : CallKind) (sel : List (List ℕ)) (seen : Option ViewModel) (headed : Bool) (p : Phase) → CoversOn on x → on.selectors sel
     → CallsOn on (if b then goes_on n (Ready kind sel seen headed) p else call_answer n kind sel headed (view_in x sel) p).kept
 new_on on true x n kind sel seen headed p covers is = (is, tt)
 new_on on false x n kind sel seen headed p covers is = answer_on on x n kind sel headed p covers is

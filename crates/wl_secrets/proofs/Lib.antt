@@ -1,10 +1,10 @@
 pub mod Lists
-pub mod Shading
-pub mod Sights
+pub mod HiddenStores
+pub mod ViewModels
 pub mod Calls
 pub mod Unshown
 pub mod Keeps
 pub mod Seats
 pub mod Known
 pub mod Alike
-pub mod Hiding
+pub mod HiddenTokens

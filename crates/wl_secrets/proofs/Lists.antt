@@ -22,7 +22,7 @@ find_through f p q same [] = refl
 find_through f p q same (x ∷ xs) =
     find_go f x (find p xs) (find q (map f xs)) (p x) (find_through f p q same xs) ∙ ap (λ (b : Bool). cond b (Some (f x)) (find q (map f xs))) (sym (same x))
 
--- a filter finds the same behind one that lets through all that it does
+-- a filter finds the same after one that lets through all that it does
 sub_go : {X : Type 0} (p : X → Bool) (x : X) (xs ys : List X) (a b : Bool) → p x ≡ a → (a ≡ true → b ≡ true) → filter p xs ≡ ys → filter p (cond b (x ∷ xs) xs) ≡ cond a (x ∷ ys) ys
 sub_go p x xs ys true true at lets is = ap (λ (c : Bool). cond c (x ∷ filter p xs) (filter p xs)) at ∙ ap (λ zs. x ∷ zs) is
 sub_go p x xs ys true false at lets is = absurd (cc (lets refl))

@@ -1,4 +1,4 @@
--- What an event makes of the session on one connection, and sessions that are the same but for what they were shown.
+-- What an event makes of the session on one connection, and sessions that are the same except for what they were shown.
 use Rattle.std.proofs.Common.{◌≡◌, ◌≢◌, ℕ, ◌==◌, ◌<◌, ◌≤◌, Bool, true, false, if◌then◌else◌, List, [], ◌∷◌, ◌++◌, length, Option, Some, None, slice_set, refl, sym, ap, subst, ◌∙◌, arith}
 use Rattle.std.proofs.lemmas.List.{length-replicate, get_or-set_same, get_or-set_other, get_or_past}
 use Rattle.std.proofs.lemmas.Bool.Decides.{nat_tests}
@@ -70,7 +70,7 @@ seat_next d e past conn within = seat_after e conn (moment d past) (subst (λ (n
 pub vacant : (d : Beginning) (past : List Event) (conn : ℕ) → CONNS ≤ conn → seat d past conn ≡ None
 vacant d past conn beyond = get_or_past (moment d past).seats conn None (subst (λ (n : ℕ). n ≤ conn) (sym (room d past)) beyond)
 
--- ---- but for what they were shown
+-- ---- except for what they were shown
 
 abbrev pub bare_seat : Seat → Seat
 bare_seat s = record { caller = s.caller; session = unshown s.session }

@@ -1,4 +1,4 @@
--- Foreign secrets: what a session is told hangs on no chain and key of an entry, and on no session, that is
+-- Foreign secrets: what a session learns depends on no chain and key of an entry, and on no session, that is
 -- foreign to it (own rules).
 use Rattle.std.specs.Prelude.{◌≡◌, ℕ, ◌<◌, Bool, true, false, not, List, [], ◌∷◌, filter, Option, Some, None}
 use Rattle.wl_entry.specs.declared.signing.Signed.{Signed}

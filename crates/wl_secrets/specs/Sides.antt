@@ -1,5 +1,5 @@
 -- Which sessions are entitled to entries of a set alone, and which to none of it, from the events alone.
--- The set is told by a test of entry ids (own rules).
+-- The set is given by a test of entry ids (own rules).
 use Rattle.std.specs.Prelude.{◌≡◌, ℕ, ◌<◌, ◌==◌, Bool, true, false, if◌then◌else◌, List, [], ◌∷◌, Option, Some, None, ◌⊎◌}
 use Rattle.std.specs.List.{AllByRecursion}
 use Rattle.wl_entry.specs.Entitled.{is_entitled}

@@ -2,7 +2,7 @@
 
 ghost use Rattle.wl_secrets.specs.Foreign.{ForeignUnseen, ForeignUntold, OthersUnseen};
 
-/// With other chains and keys of foreign entries, each as fit, and without some foreign sessions, the trace
+/// With other chains and keys of foreign entries, each fit where the other is, and without some foreign sessions, the trace
 /// of a session that was entitled to entries of the set alone is the same.
 pub fn foreign_secrets_stay_unseen()
     ensures { ForeignUnseen }

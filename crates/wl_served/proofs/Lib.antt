@@ -1,3 +1,5 @@
-pub mod Stepping
-pub mod Sending
-pub mod Isolating
+pub mod ConnectionSteps
+pub mod PeerBytes
+pub mod Isolation
+pub mod CompleteRounds
+pub mod ServedCalls

@@ -1,6 +1,6 @@
 -- Two served connections, of whatever two agents, that agree on what is theirs: the bytes that come, the attestor's answers, at
 -- each turn the views of their own ready calls, and the outcomes.
-use Rattle.std.specs.Prelude.{◌≡◌, ℕ, List, [], ◌∷◌, Option, Some, None}
+use Rattle.std.specs.Prelude.{◌≡◌, List, [], ◌∷◌, Option, Some, None}
 use Rattle.wl_snapshot.specs.Snapshots.{Publication}
 use Rattle.wl_session.specs.Agreeing.{SeeAlike}
 use Rattle.wl_session.specs.Sessions.{SessionState, Running, Fallen, OutOfMemory}

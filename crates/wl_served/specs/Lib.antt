@@ -1,4 +1,5 @@
 pub mod Served
 pub mod Agreeing
 pub mod Owning
+pub mod Complete
 pub mod Sent

@@ -1,6 +1,6 @@
 -- Two sessions of the core, of whatever two runs, that agree on what is theirs: the bytes that come with the attestor's answer, at each
 -- turn the views of their own ready calls, and the outcomes of their asks.
-use Rattle.std.specs.Prelude.{◌≡◌, ℕ, ◌<◌, List, [], ◌∷◌, Option, Some, None}
+use Rattle.std.specs.Prelude.{◌≡◌, ℕ, ◌<◌, List, [], ◌∷◌, Option, Some}
 use Rattle.wl_snapshot.specs.Snapshots.{Publication}
 use Rattle.wl_session.specs.declared.asks.JwtOutcome.{JwtOutcome}
 use Rattle.wl_session.specs.Sessions.{SessionState}

@@ -1,6 +1,6 @@
 -- The steps of a served connection, from its rounds, and its responses.
-use Rattle.std.specs.Prelude.{◌≡◌, ℕ, List, [], ◌∷◌, ◌++◌, Option, Some, None}
-use Rattle.h2_frame.specs.Reading.{Reading, reading_from}
+use Rattle.std.specs.Prelude.{◌≡◌, ℕ, List, [], ◌∷◌, Option, Some, None}
+use Rattle.h2_frame.specs.Reading.{reading_from}
 use Rattle.wl_snapshot.specs.Snapshots.{Publication}
 use Rattle.wl_publish.specs.Lists.{NonFallingFrom}
 use Rattle.wl_session.specs.declared.asks.JwtAsk.{JwtAsk}
@@ -8,7 +8,7 @@ use Rattle.wl_session.specs.declared.asks.JwtOutcome.{JwtOutcome}
 use Rattle.wl_session.specs.Sessions.{SessionState, Running, Fallen, OutOfMemory, unnamed_in, asks_in}
 use Rattle.wl_session.specs.Items.{talk}
 use Rattle.wl_responses.specs.Steps.{Step, CallAttested, TurnTaken, OutcomeCame}
-use Rattle.wl_responses.specs.Replies.{AnsweringTurn, Replies, replies_on}
+use Rattle.wl_responses.specs.Replies.{Replies, replies_on}
 use Rattle.wl_responses.specs.Responses.{AreAnswers, AllTurns, WasTaken, WasAttested, NeverFall, numbers_of}
 use Rattle.wl_responses.specs.Moves.{onto_frames, onto_ending, bytes_of_steps, HasTalk}
 use Rattle.wl_worker.specs.Rounds.{Round, answer_told, given_told, heard_session, named_session, turned_session, session_after, trace, numbers, IsIn, AreKnown}

@@ -1,4 +1,4 @@
-use Rattle.laws_headline.proofs.Agreeing.{runs_alike, served_alike}
+use Rattle.laws_headline.proofs.Agreement.{runs_alike, served_alike}
 use Rattle.laws_headline.proofs.laws.data_that_agree_are_written_alike.Goals as goal
 
 pub returns : goal.returns

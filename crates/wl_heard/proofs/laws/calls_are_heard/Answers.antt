@@ -1,4 +1,4 @@
-use Rattle.wl_heard.proofs.Sending.{clients_are_answered}
+use Rattle.wl_heard.proofs.ClientFrames.{clients_are_answered}
 use Rattle.wl_heard.proofs.Hearers.{calls_are_heard}
 use Rattle.wl_heard.proofs.laws.calls_are_heard.Goals as goal
 

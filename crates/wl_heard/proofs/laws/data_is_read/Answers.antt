@@ -1,4 +1,4 @@
-use Rattle.wl_heard.proofs.Reading.{data_is_read}
+use Rattle.wl_heard.proofs.FramesInBytes.{data_is_read}
 use Rattle.wl_heard.proofs.laws.data_is_read.Goals as goal
 
 pub returns : goal.returns

@@ -1,4 +1,4 @@
-use Rattle.wl_heard.proofs.Reading.{sessions_are_read, session_data_is_read}
+use Rattle.wl_heard.proofs.FramesInBytes.{sessions_are_read, session_data_is_read}
 use Rattle.wl_heard.proofs.laws.sessions_are_read.Goals as goal
 
 pub returns : goal.returns

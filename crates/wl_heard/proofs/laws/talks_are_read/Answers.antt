@@ -1,4 +1,4 @@
-use Rattle.wl_heard.proofs.Reading.{talks_are_read, control_is_read}
+use Rattle.wl_heard.proofs.FramesInBytes.{talks_are_read, control_is_read}
 use Rattle.wl_heard.proofs.laws.talks_are_read.Goals as goal
 
 pub returns : goal.returns

@@ -1,4 +1,4 @@
-use Rattle.wl_responses.proofs.Moving.{bytes_are_responses, responses_are_answers, turns_were_taken, turns_have_selectors, publications_never_fall, responses_differ, messages_are_cut}
+use Rattle.wl_responses.proofs.MoveSteps.{bytes_are_responses, responses_are_answers, turns_were_taken, turns_have_selectors, publications_never_fall, responses_differ, messages_are_cut}
 use Rattle.wl_responses.proofs.laws.responses_are_answers.Goals as goal
 
 pub returns : goal.returns

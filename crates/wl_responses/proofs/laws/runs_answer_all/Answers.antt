@@ -1,4 +1,4 @@
-use Rattle.wl_responses.proofs.Turning.{KeepComplete, each_is_answered, all_is_written, each_is_held_back, asks_are_awaited, asks_stay, outcomes_are_taken}
+use Rattle.wl_responses.proofs.AfterTurns.{KeepComplete, each_is_answered, all_is_written, each_is_held_back, asks_are_awaited, asks_stay, outcomes_are_taken}
 use Rattle.wl_responses.proofs.laws.runs_answer_all.Goals as goal
 
 pub returns : goal.returns

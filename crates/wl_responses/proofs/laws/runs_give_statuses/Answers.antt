@@ -1,4 +1,4 @@
-use Rattle.wl_responses.proofs.Turning.{steps_of_runs_give, turns_of_runs_give, tokens_of_runs_give}
+use Rattle.wl_responses.proofs.AfterTurns.{steps_of_runs_give, turns_of_runs_give, tokens_of_runs_give}
 use Rattle.wl_responses.proofs.laws.runs_give_statuses.Goals as goal
 
 pub returns : goal.returns

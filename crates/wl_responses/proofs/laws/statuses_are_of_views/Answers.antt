@@ -1,5 +1,5 @@
 use Rattle.wl_responses.proofs.Endings.{none_before, turns_give, denied_where, unknown_where, names_give, tokens_give}
-use Rattle.wl_responses.proofs.Deciding.{verdicts_give}
+use Rattle.wl_responses.proofs.Verdicts.{verdicts_give}
 use Rattle.wl_responses.proofs.laws.statuses_are_of_views.Goals as goal
 
 pub returns : goal.returns

@@ -1,7 +1,7 @@
-use Rattle.wl_responses.proofs.Replying.{streams_have_answers}
-use Rattle.wl_responses.proofs.Falling.{numbers_never_fall}
-use Rattle.wl_responses.proofs.Taking.{begun_taken}
-use Rattle.wl_responses.proofs.Attesting.{begun_attested}
+use Rattle.wl_responses.proofs.StreamReplies.{streams_have_answers}
+use Rattle.wl_responses.proofs.PublicationOrder.{numbers_never_fall}
+use Rattle.wl_responses.proofs.ResponseTurns.{begun_taken}
+use Rattle.wl_responses.proofs.CallSelectors.{begun_attested}
 use Rattle.wl_responses.proofs.laws.streams_have_answers.Goals as goal
 
 pub returns : goal.returns

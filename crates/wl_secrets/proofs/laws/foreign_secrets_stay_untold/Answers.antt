@@ -1,4 +1,4 @@
-use Rattle.wl_secrets.proofs.Hiding.{foreign_untold}
+use Rattle.wl_secrets.proofs.HiddenTokens.{foreign_untold}
 use Rattle.wl_secrets.proofs.laws.foreign_secrets_stay_untold.Goals as goal
 
 pub returns : goal.returns

@@ -1,4 +1,4 @@
-use Rattle.wl_secrets.proofs.Hiding.{others_unseen}
+use Rattle.wl_secrets.proofs.HiddenTokens.{others_unseen}
 use Rattle.wl_secrets.proofs.laws.other_sessions_stay_unseen.Goals as goal
 
 pub returns : goal.returns

@@ -1,4 +1,4 @@
-use Rattle.wl_served.proofs.Isolating.{runs_agree}
+use Rattle.wl_served.proofs.Isolation.{runs_agree}
 use Rattle.wl_served.proofs.laws.runs_that_agree_write_the_same.Goals as goal
 
 pub returns : goal.returns

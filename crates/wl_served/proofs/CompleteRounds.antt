@@ -1,0 +1,87 @@
+-- A served connection is complete after each round.
+use Rattle.std.proofs.Common.{◌≡◌, ℕ, List, [], ◌∷◌, Option, Some, None, Ok, refl, sym, ap, subst}
+use Rattle.std.specs.Prelude.{IsSome}
+use Rattle.h2_frame.specs.Reading.{End, reading_from}
+use Rattle.h2_conn.specs.declared.fault.ConnFault.{ConnFault}
+use Rattle.wl_snapshot.specs.Snapshots.{Publication}
+use Rattle.wl_session.specs.declared.asks.JwtAsk.{JwtAsk}
+use Rattle.wl_session.specs.declared.asks.JwtOutcome.{JwtOutcome}
+use Rattle.wl_session.specs.Tokens.{first_unnamed, first_ask}
+use Rattle.wl_session.specs.Talks.{Talking}
+use Rattle.wl_session.specs.Sessions.{SessionState, Running, Fallen, OutOfMemory, feed_said, name_said, turn_said, given_said, state_of_fault, unnamed_in, asks_in}
+use Rattle.wl_session.specs.Steps.{turn_told, outcome_told}
+use Rattle.wl_session.specs.Completing.{IsCompleteIn, AllAnswered}
+use Rattle.wl_responses.proofs.AfterTurns.{KeepComplete}
+use Rattle.wl_worker.specs.Rounds.{Round, heard_told, name_told_at, answer_told, answers_told, shown_told, given_told_at, given_told, outcomes_told, round_told, heard_session, named_session, turned_session, session_after}
+
+there : {X : Type 0} (o : Option X) (x : X) → o ≡ Some x → IsSome o
+there o x is = subst (λ p. IsSome p) (sym is) refl
+
+heard_go : KeepComplete → (piece : List ℕ) (e : End) (t : Talking) (shown : Option Publication) (f : Option ConnFault) → (feed_said (reading_from e piece) t).fault ≡ f → IsCompleteIn (Running e t shown)
+    → IsCompleteIn (state_of_fault f (reading_from e piece).ending (feed_said (reading_from e piece) t).after shown)
+heard_go law piece e t shown None is h =
+    let r = reading_from e piece in
+    let said = feed_said r t in
+    law.fed piece (Running e t shown) (Running r.ending said.after shown) (Ok tt) [] said.bytes (is, refl, sym (ap (λ (g : Option ConnFault). state_of_fault g r.ending said.after shown) is)) h
+heard_go law piece e t shown (Some fault) is h = tt
+
+heard_complete : KeepComplete → (piece : List ℕ) (s : SessionState) → IsCompleteIn s → IsCompleteIn (heard_told piece s).after
+unfolding heard_told
+heard_complete law piece (Running e t shown) h = heard_go law piece e t shown (feed_said (reading_from e piece) t).fault refl h
+heard_complete law piece (Fallen fault begun) h = tt
+heard_complete law piece OutOfMemory h = tt
+
+name_complete : KeepComplete → (o : Option ℕ) (answer : Option (List (List ℕ))) (s : SessionState) → unnamed_in s ≡ o → IsCompleteIn s → IsCompleteIn (name_told_at o answer s).after
+name_complete law None answer s is h = h
+name_complete law (Some n) answer (Running e t shown) is h =
+    law.named answer (Running e t shown) (Running e (name_said answer t).after shown) (Ok tt) [] (name_said answer t).bytes (there (first_unnamed t.served) n is) (refl, refl) h
+name_complete law (Some n) answer (Fallen fault begun) is h = tt
+name_complete law (Some n) answer OutOfMemory is h = tt
+
+answer_complete : KeepComplete → (answer : Option (List (List ℕ))) (s : SessionState) → IsCompleteIn s → IsCompleteIn (answer_told answer s).after
+unfolding answer_told
+answer_complete law answer s h = name_complete law (unnamed_in s) answer s refl h
+
+answers_complete : KeepComplete → (answers : List (Option (List (List ℕ)))) (s : SessionState) → IsCompleteIn s → IsCompleteIn (answers_told answers s).after
+unfolding answers_told
+answers_complete law [] s h = h
+answers_complete law (a ∷ more) s h = answers_complete law more (answer_told a s).after (answer_complete law a s h)
+
+pub turn_complete : KeepComplete → (x : Publication) (s : SessionState) → IsCompleteIn s → IsCompleteIn (turn_told x s).after × AllAnswered x (turn_told x s).after
+unfolding turn_told
+turn_complete law x (Running e t shown) h = law.turned x (Running e t shown) (Running e (turn_said x t).after (Some x)) (Ok tt) [] (turn_said x t).bytes (refl, refl) h
+turn_complete law x (Fallen fault begun) h = (tt, tt)
+turn_complete law x OutOfMemory h = (tt, tt)
+
+shown_complete : KeepComplete → (shown : Option Publication) (s : SessionState) → IsCompleteIn s → IsCompleteIn (shown_told shown s).after
+unfolding shown_told
+shown_complete law None s h = h
+shown_complete law (Some x) s h = (turn_complete law x s h).0
+
+given_at_complete : KeepComplete → (ask : Option JwtAsk) (o : JwtOutcome) (s : SessionState) → asks_in s ≡ ask → IsCompleteIn s → IsCompleteIn (given_told_at ask o s).after
+unfolding outcome_told
+given_at_complete law None o s is h = h
+given_at_complete law (Some a) o (Running e t shown) is h =
+    law.given o (Running e t shown) (Running e (given_said o t).after shown) (Ok tt) [] (given_said o t).bytes (there (first_ask t.served) a is) (refl, refl) h
+given_at_complete law (Some a) o (Fallen fault begun) is h = tt
+given_at_complete law (Some a) o OutOfMemory is h = tt
+
+given_complete : KeepComplete → (o : JwtOutcome) (s : SessionState) → IsCompleteIn s → IsCompleteIn (given_told o s).after
+unfolding given_told
+given_complete law o s h = given_at_complete law (asks_in s) o s refl h
+
+outcomes_complete : KeepComplete → (outcomes : List JwtOutcome) (s : SessionState) → IsCompleteIn s → IsCompleteIn (outcomes_told outcomes s).after
+unfolding outcomes_told
+outcomes_complete law [] s h = h
+outcomes_complete law (o ∷ more) s h = outcomes_complete law more (given_told o s).after (given_complete law o s h)
+
+round_complete : KeepComplete → (r : Round) (s : SessionState) → IsCompleteIn s → IsCompleteIn (round_told r s).after
+unfolding round_told
+round_complete law r s h =
+    let heard = heard_complete law r.piece s h in
+    let named = answers_complete law r.answers (heard_session r s) heard in
+    outcomes_complete law r.outcomes (turned_session r s) (shown_complete law r.shown (named_session r s) named)
+
+pub rounds_complete : KeepComplete → (past : List Round) → IsCompleteIn (session_after past)
+rounds_complete law [] = law.first
+rounds_complete law (r ∷ past) = round_complete law r (session_after past) (rounds_complete law past)
