@@ -1,5 +1,5 @@
 mod Lists
 mod Ran
 pub mod Made
-mod Handing
+mod PassOrder
 mod Ends

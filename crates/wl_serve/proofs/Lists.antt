@@ -28,7 +28,7 @@ each_of f P xs all = All-from_recursion (λ x. P (f x)) xs (mapped_all f P xs al
 
 -- ---- passes
 
--- each element is as before but for what f sees of it
+-- each element is as before except for what f sees of it
 pub handed : {T A : Type 0} (f : T → A) (change : A → A) (xs ys : List T) → length ys ≡ length xs → ((i : ℕ) (d : T) → i < length xs → f (slice_index_or ys i d) ≡ change (f (slice_index_or xs i d))) → map f ys ≡ map change (map f xs)
 handed f change [] [] same at = refl
 handed f change [] (y ∷ ys) same at = let no : ⊥ = omega (arith, same) in absurd no

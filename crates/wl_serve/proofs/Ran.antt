@@ -12,9 +12,9 @@ use Rattle.wl_document.specs.declared.fault.DocFault.{DocFault}
 use Rattle.wl_document.specs.declared.fault.DocFault.TheVariants as fault
 use Rattle.wl_document.specs.Checks.{Faults}
 use Rattle.wl_document.specs.Documents.{document_state}
-use Rattle.wl_worker.proofs.Showing.{fault_is_due}
+use Rattle.wl_worker.proofs.PublishedSteps.{fault_is_due}
 use Rattle.wl_manager.specs.Managers.{Managed, first_managed}
-use Rattle.wl_edge.specs.Listeners.{ListenerLog, links_given}
+use Rattle.wl_edge.specs.Listeners.{ListenerLog, BoundSocket, links_given}
 use Rattle.wl_snapshot.specs.Snapshots.{Publication}
 use Rattle.wl_publish.specs.Listings.{Passing}
 use Rattle.wl_config.specs.declared.config.SocketFact.{SocketFact}
@@ -25,7 +25,7 @@ use Rattle.wl_worker.specs.Tended.{ListenedTo, FinishesAll}
 use Rattle.wl_served.specs.Sent.{Tells}
 use Rattle.wl_serve.specs.Views.{SeatView, PartsView, world_of}
 use Rattle.wl_serve.specs.Seating.{IsOpen, IsIdle, SeesOn, ServedTo, ServedFrom, with_pass}
-use Rattle.wl_serve.specs.Prepared.{IsSeat, AreSeats, IsPrepared}
+use Rattle.wl_serve.specs.Prepared.{IsSeat, AreSeats, IsPrepared, socket_of}
 use Rattle.wl_serve.specs.Serving.{pull_of, first_of, unheard, has_fault, lacks_memory, end_of, ends, Sat, SatTells, SawFirst, HasTended, SeatRan, AllRan, WasPulled, Pulled, PulledOn, Ran, NoneRan, EndTells, ServeTells}
 use Rattle.wl_worker.specs.Upkeep.{PulledAgain}
 use Rattle.wl_serve.specs.declared.ending.ServeEnd.{ServeEnd}
@@ -136,7 +136,7 @@ module _ (vouched : Ask → List (List ℕ) → JwtToken → Type 0) (links tell
     pass = pass;
     seen = seen;
     mine = mine;
-    sent = λ l q is. subst (λ k. Tells vouched k w.room end (world_of v pass) (world_of w q)) (sym served.socket) (subst (λ k. Tells vouched v.socket k end (world_of v pass) (world_of w q)) (sym served.room) (served.sent l pass q refl is));
+    sent = λ l q is. subst (λ k. Tells vouched k end (world_of v pass) (world_of w q)) (sym served.room) (served.sent l pass q refl is);
   }
 
   ran_to : (first : Publication) (n : ℕ) (fact : SocketFact) (v w : SeatView) (pass : Passing) → IsSeat tells n fact v → pass.seen ≡ first ∷ [] → pass.mine ≡ [] → (end : Option SeatEnd) → w.end ≡ end → IsSomeAnd end (ServedTo vouched links (with_pass pass v) w) → SeatRan vouched links tells first n fact w
@@ -144,7 +144,7 @@ module _ (vouched : Ask → List (List ℕ) → JwtToken → Type 0) (links tell
   ran_to first n fact v w pass seat seen mine (Some end) at served = record {
     end = end;
     ended = at;
-    socket = served.socket ∙ seat.socket;
+    sockets = subst (λ (s : Option (List BoundSocket)). IfSome s (λ sockets. sockets ≡ socket_of n fact ∷ [])) (sym served.sockets) seat.sockets;
     room = served.room ∙ seat.room;
     first = saw_first first pass seen w.pass served.sees;
     listened = λ t. listened_to v.listener w.listener end (seat.told t).listener seat.unused.listener served.finishes;

@@ -1,10 +1,11 @@
 -- What a host prepares (own rules): one seat for each socket of the configuration, in its order, of which nothing was used.
 use Rattle.std.specs.Prelude.{◌≡◌, ⊤, ℕ, ◌+◌, List, [], ◌∷◌, None, IsSome, IfSome}
+use Rattle.wl_edge.specs.Listeners.{BoundSocket}
 use Rattle.wl_config.specs.declared.config.SocketFact.{SocketFact}
 use Rattle.wl_config.specs.Configs.{Configuration}
 use Rattle.wl_serve.specs.Views.{SeatView, PartsView}
 
--- all that a seat holds tells its content, but for its asks
+-- all that a seat holds tells its content, except its asks
 pub record IsTold (v : SeatView) : Type 0 where
   pub listener : IsSome v.listener
   pub attestor : IsSome v.attestor
@@ -20,10 +21,19 @@ pub record IsUnused (v : SeatView) : Type 0 where
   pub ready_count : v.ready_faults ≡ 0
   pub attestor_count : v.attestor_faults ≡ 0
   pub ask_count : v.ask_faults ≡ 0
+  pub starved_count : v.starved ≡ 0
+
+-- the socket of this number
+abbrev pub socket_of : ℕ → SocketFact → BoundSocket
+socket_of number fact = record { selectors = fact.selectors; number = number }
+
+-- The listener's sockets are this one alone, if they are known.
+abbrev pub ListensAt : ℕ → SocketFact → SeatView → Type 0
+ListensAt number fact v = IfSome v.sockets (λ sockets. sockets ≡ socket_of number fact ∷ [])
 
 -- the seat of the socket of this number
 pub record IsSeat (tells : Type 0) (number : ℕ) (fact : SocketFact) (v : SeatView) : Type 0 where
-  pub socket : v.socket ≡ number
+  pub sockets : ListensAt number fact v
   pub room : v.room ≡ fact.connections
   pub pass : v.pass ≡ None
   pub end : v.end ≡ None

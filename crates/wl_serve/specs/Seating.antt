@@ -49,13 +49,13 @@ module _ (vouched : Ask → List (List ℕ) → JwtToken → Type 0) (links : Ty
   -- failed rose. Where links tell their content, it tended each of them,
   -- and told each of their peers nothing but responses.
   pub record ServedTo (before after : SeatView) (end : SeatEnd) : Type 0 where
-    pub socket : after.socket ≡ before.socket
     pub room : after.room ≡ before.room
+    pub sockets : after.sockets ≡ before.sockets
     pub sees : SeesOn before.pass after.pass
     pub listen : end ≡ ListenFault → Rose before.listener_faults after.listener_faults
     pub wait : end ≡ WaitFault → Rose before.ready_faults after.ready_faults
     pub finishes : ListenedTo end before.listener after.listener
-    pub sent : links → (p q : Passing) → before.pass ≡ Some p → after.pass ≡ Some q → Tells vouched before.socket before.room end (world_of before p) (world_of after q)
+    pub sent : links → (p q : Passing) → before.pass ≡ Some p → after.pass ≡ Some q → Tells vouched before.room end (world_of before p) (world_of after q)
 
   -- the same, with the end written into it
   abbrev pub Served : SeatView → SeatView → Type 0

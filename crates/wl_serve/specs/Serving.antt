@@ -23,7 +23,7 @@ use Rattle.wl_worker.specs.declared.seat.SeatEnd.{SeatEnd}
 use Rattle.wl_worker.specs.declared.seat.SeatEnd.TheVariants as seat
 use Rattle.wl_serve.specs.Views.{SeatView, PartsView, world_of}
 use Rattle.wl_serve.specs.Seating.{ServedFrom}
-use Rattle.wl_serve.specs.Prepared.{IsUnused, IsTold}
+use Rattle.wl_serve.specs.Prepared.{IsUnused, IsTold, ListensAt}
 use Rattle.wl_serve.specs.declared.ending.ServeEnd.{ServeEnd}
 use Rattle.wl_serve.specs.declared.ending.ServeEnd.TheVariants.{Config, Unprepared, NoDocument, Document, HostFault, Memory, Done}
 
@@ -44,7 +44,7 @@ lacks_memory (Some seat.ListenFault) = false
 lacks_memory (Some seat.WaitFault) = false
 lacks_memory (Some seat.Memory) = true
 
--- a fault of some seat decides before another's want of memory
+-- a fault of some seat decides before another's lack of memory
 unfoldable pub end_of : List (Option SeatEnd) → ServeEnd
 end_of ends = if list_any has_fault ends then HostFault else if list_any lacks_memory ends then Memory else Done
 
@@ -125,14 +125,14 @@ module _ (vouched : Ask → List (List ℕ) → JwtToken → Type 0) (links tell
     pub pass : Passing
     pub seen : pass.seen ≡ first ∷ []
     pub mine : pass.mine ≡ []
-    pub sent : links → (q : Passing) → v.pass ≡ Some q → Tells vouched v.socket v.room end (world_of unused pass) (world_of v q)
+    pub sent : links → (q : Passing) → v.pass ≡ Some q → Tells vouched v.room end (world_of unused pass) (world_of v q)
 
   -- The seat of a socket was served. It has its end, which is what its listener's answers came to, and as many links were
   -- finished as it gave; a fault only where the count of what failed rose.
   pub record SeatRan (from : Publication) (number : ℕ) (fact : SocketFact) (v : SeatView) : Type 0 where
     pub end : SeatEnd
     pub ended : v.end ≡ Some end
-    pub socket : v.socket ≡ number
+    pub sockets : ListensAt number fact v
     pub room : v.room ≡ fact.connections
     pub first : SawFirst from v.pass
     pub listened : tells → IsSomeAnd v.listener (FinishesAll end unheard)

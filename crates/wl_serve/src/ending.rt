@@ -36,7 +36,7 @@ fn is_host_fault(end: Option<SeatEnd>) -> bool
     matches!(end, Some(SeatEnd::ListenFault | SeatEnd::WaitFault))
 }
 
-/// Whether a seat ended for want of memory.
+/// Whether a seat ended for lack of memory.
 fn is_memory(end: Option<SeatEnd>) -> bool
     ensures { result ≡ lacks_memory end }
 {
@@ -50,7 +50,7 @@ fn any_host_fault<L: Listener, T: TokenAsks, A, C, P>(seats: &[Seat<L, T, A, C, 
     seats.iter().any(|seat| is_host_fault(seat.end))
 }
 
-/// Whether one of the seats ended for want of memory.
+/// Whether one of the seats ended for lack of memory.
 fn any_memory<L: Listener, T: TokenAsks, A, C, P>(seats: &[Seat<L, T, A, C, P>]) -> bool
     ensures { result ≡ list_any (λ s. lacks_memory s.end) seats.now }
 {

@@ -21,6 +21,6 @@ pub use ending::ServeEnd;
 pub use making::{SeatMaker, make_seats};
 pub use memory_host::{HostPlan, MemoryHost, SeatPlan};
 pub use memory_ready::CountedReady;
-pub use seats::SeatShown;
+pub use seats::{AFTER_FAILED_SEAT, SeatShown};
 pub use serving::serve;
 pub use upkeep::Upkeep;

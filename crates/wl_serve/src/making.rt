@@ -35,7 +35,7 @@ pub fn make_seats<M: SeatMaker>(
     maker: &mut M,
     sockets: &[SocketFact],
 ) -> Result<(Vec<M::Seat>, Row<M::Ring>), EdgeFault>
-    requires few { length sockets.now ≤ 64 }
+    requires at_most { length sockets.now ≤ 64 }
     ensures seats { IfOk result (λ r. AreSeats M.tells 0 sockets.now (map M.Seat.shown r.0.items)) }
     ensures bells { IfOk result (λ r. length r.1 ≡ length r.0.items) }
 {

@@ -88,7 +88,6 @@ impl SeatMaker for SeatsLeft {
         } = plan;
         let seat = Seat {
             listener: MemoryListener::start(alloc, listener)?,
-            socket: number,
             asks: SeatAsks::start(alloc, &self.hub, number)?,
             connections: 0,
             attestor: MemoryAttestor::start(alloc, selectors),
@@ -97,6 +96,7 @@ impl SeatMaker for SeatsLeft {
             end: None,
             ready: CountedReady::start(alloc, failing),
             room: fact.connections,
+            starved: 0,
         };
         Ok((seat, MemoryBell::start()))
     }

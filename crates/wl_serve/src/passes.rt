@@ -10,7 +10,7 @@ use crate::seats::SeatShown;
 use ask_mail::TokenAsks;
 use std::alloc::Global;
 use std::sync::Wait;
-use wl_desk::last_edition;
+use wl_desk::last_snapshot;
 use wl_edge::{Attestor, Clock, Listener, Ready};
 use wl_entry::Voucher;
 use wl_manager::Manager;
@@ -30,7 +30,7 @@ pub(crate) fn first_passes<V: Voucher, R: Wait>(
     ensures count { IfOk result (λ r. length r.1 ≡ count) }
     ensures passes { IfOk result (λ r. ArePassesOf manager.now.stored.published r.1) }
 {
-    let first = last_edition(alloc, manager)?;
+    let first = last_snapshot(alloc, manager)?;
     wl_publish::start(rt, alloc, first, count)
 }
 

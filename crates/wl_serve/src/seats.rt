@@ -14,8 +14,8 @@ use std::sync::{Mutex, Wait};
 use std::thread::Threads;
 use wl_desk::Desk;
 use wl_edge::{Attestor, Bell, Clock, Gate, Listener, Ready, Upstream};
-use wl_served::served_responses_are_answers;
-use wl_worker::{Seat, TicketQueue, serve_seat};
+use wl_served::{served_connections_are_complete, served_responses_are_answers};
+use wl_worker::{Seat, SeatEnd, TicketQueue, serve_seat};
 
 /// What contracts see of a seat.
 pub trait SeatShown {
@@ -25,8 +25,8 @@ pub trait SeatShown {
 impl<L: Listener, T: TokenAsks, A: Attestor, C: Clock, P: Ready<L::L>> SeatShown
     for Seat<L, T, A, C, P> {
     ghost shown = { λ s. record {
-      socket = s.socket;
       room = s.room;
+      sockets = L.sockets s.listener;
       listener = L.told s.listener;
       listener_faults = L.faults s.listener;
       ready_faults = P.faults s.ready;
@@ -35,18 +35,33 @@ impl<L: Listener, T: TokenAsks, A: Attestor, C: Clock, P: Ready<L::L>> SeatShown
       asks = T.taken s.asks;
       ask_faults = T.faults s.asks;
       clock = C.answers s.clock;
+      starved = s.starved;
       pass = s.pass;
       end = s.end;
     } };
 }
 
-/// Serves a seat, and writes its end.
-fn tend<L: Listener, T: TokenAsks, A: Attestor, C: Clock, P: Ready<L::L>, G: Gate, R: Wait>(
+/// Point 5 of the gate is passed once for each seat that ended with a fault, and then all bells ring. A host whose
+/// listeners and links all come to their end from then on has [`serve`](crate::serve) return.
+pub const AFTER_FAILED_SEAT: u32 = 5;
+
+/// Serves a seat, and writes its end. After a fault the host may have the other seats end.
+fn tend<
+    L: Listener,
+    T: TokenAsks,
+    A: Attestor,
+    C: Clock,
+    P: Ready<L::L>,
+    G: Gate,
+    B: Bell,
+    R: Wait,
+>(
     rt: &R,
     alloc: Global,
     desk: &Mutex<Desk<T::V>>,
     seat: &mut Seat<L, T, A, C, P>,
     gate: &G,
+    bells: &[B],
 )
     requires { IsReady (⟦<Seat<L, T, A, C, P> as SeatShown>⟧.shown seat.old) }
     ensures { Served T.V.token ((l : L.L) → IsSome (L.L.told l))
@@ -54,9 +69,22 @@ fn tend<L: Listener, T: TokenAsks, A: Attestor, C: Clock, P: Ready<L::L>, G: Gat
         (⟦<Seat<L, T, A, C, P> as SeatShown>⟧.shown seat.new) }
 {
     let end = serve_seat(rt, alloc, desk, seat, gate);
-    // a law: what a seat's links took are responses
+    // laws: what a seat's links took are responses, and each call has its status and its answer
     served_responses_are_answers();
+    served_connections_are_complete();
     seat.end = Some(end);
+    after_seat(gate, bells, end);
+}
+
+/// Where a seat ended so with a fault, point 5 is passed and all bells ring.
+fn after_seat<G: Gate, B: Bell>(gate: &G, bells: &[B], end: SeatEnd) {
+    if end == SeatEnd::End {
+        return;
+    }
+    gate.pass(AFTER_FAILED_SEAT);
+    for bell in bells {
+        bell.ring();
+    }
 }
 
 /// Serves all seats at once, each in a thread of its own, with the upkeep beside them.
@@ -102,8 +130,8 @@ pub(crate) fn serve_all<
         rt,
         &|_, seat: &mut Seat<L, T, A, C, P>|
             requires { IsReady (record {
-              socket = seat.now.socket;
               room = seat.now.room;
+              sockets = L.sockets seat.now.listener;
               listener = L.told seat.now.listener;
               listener_faults = L.faults seat.now.listener;
               ready_faults = P.faults seat.now.ready;
@@ -112,12 +140,13 @@ pub(crate) fn serve_all<
               asks = T.taken seat.now.asks;
               ask_faults = T.faults seat.now.asks;
               clock = C.answers seat.now.clock;
+              starved = seat.now.starved;
               pass = seat.now.pass;
               end = seat.now.end;
             }) }
             ensures { Served T.V.token ((l : L.L) → IsSome (L.L.told l)) (record {
-              socket = seat.entry.now.socket;
               room = seat.entry.now.room;
+              sockets = L.sockets seat.entry.now.listener;
               listener = L.told seat.entry.now.listener;
               listener_faults = L.faults seat.entry.now.listener;
               ready_faults = P.faults seat.entry.now.ready;
@@ -126,11 +155,12 @@ pub(crate) fn serve_all<
               asks = T.taken seat.entry.now.asks;
               ask_faults = T.faults seat.entry.now.asks;
               clock = C.answers seat.entry.now.clock;
+              starved = seat.entry.now.starved;
               pass = seat.entry.now.pass;
               end = seat.entry.now.end;
             }) (record {
-              socket = seat.exit.now.socket;
               room = seat.exit.now.room;
+              sockets = L.sockets seat.exit.now.listener;
               listener = L.told seat.exit.now.listener;
               listener_faults = L.faults seat.exit.now.listener;
               ready_faults = P.faults seat.exit.now.ready;
@@ -139,10 +169,11 @@ pub(crate) fn serve_all<
               asks = T.taken seat.exit.now.asks;
               ask_faults = T.faults seat.exit.now.asks;
               clock = C.answers seat.exit.now.clock;
+              starved = seat.exit.now.starved;
               pass = seat.exit.now.pass;
               end = seat.exit.now.end;
             }) }
-        { tend(rt, alloc, desk, seat, gate) },
+        { tend(rt, alloc, desk, seat, gate, bells) },
         &mut ||
             requires { (0 < length signers.now) × AcceptsEach W.Fn sign.now signers.now }
         {

@@ -98,7 +98,7 @@ fn serve_manager<
     seats: &mut [Seat<L, SeatAsks<S::V>, A, C, P>],
 ) -> Result<(), Memory>
     requires some { 0 < length seats.old }
-    requires few { length seats.old ≤ 64 }
+    requires at_most { length seats.old ≤ 64 }
     requires idle { AllByRecursion IsIdle (map ⟦<Seat<L, SeatAsks<S::V>, A, C, P> as SeatShown>⟧.shown seats.old) }
     requires signers { 0 < length upkeep.old.signers.items }
     ensures pulled { OnOk result (PulledAgain (U.told upkeep.old.upstream) (U.told upkeep.new.upstream)) }
@@ -138,7 +138,7 @@ fn serve_first<
     seats: &mut [Seat<L, SeatAsks<S::V>, A, C, P>],
 ) -> ServeEnd
     requires some { 0 < length seats.old }
-    requires few { length seats.old ≤ 64 }
+    requires at_most { length seats.old ≤ 64 }
     requires idle { AllByRecursion IsIdle (map ⟦<Seat<L, SeatAsks<S::V>, A, C, P> as SeatShown>⟧.shown seats.old) }
     requires signers { 0 < length upkeep.old.signers.items }
     ensures { SatTells S.V.token ((l : L.L) → IsSome (L.L.told l))
@@ -173,7 +173,7 @@ fn serve_parts<B: Binder, R: Threads + Wait + Sync>(
     parts: &mut Parts<B>,
 ) -> ServeEnd
     requires some { 0 < length parts.old.seats.items }
-    requires few { length parts.old.seats.items ≤ 64 }
+    requires at_most { length parts.old.seats.items ≤ 64 }
     requires idle { AllByRecursion IsIdle (⟦<Parts<B> as PartsShown>⟧.shown parts.old).seats }
     requires signers { 0 < length parts.old.upkeep.signers.items }
     ensures { SatTells B.Sign.V.token ((l : B.Listen.L) → IsSome (B.Listen.L.told l))
@@ -199,7 +199,8 @@ fn serve_parts<B: Binder, R: Threads + Wait + Sync>(
 /// in a thread of its own, with upkeep beside them, until all have ended. The store is strict. What was prepared is
 /// kept, for its counts and lists to be seen.
 ///
-/// It may wait for as long as links stand, and returns where every listener came to its end or a seat failed.
+/// It may wait for as long as links stand, and returns once every seat has ended. After a seat that ended with a fault
+/// point 5 of the gate is passed ([`AFTER_FAILED_SEAT`](crate::AFTER_FAILED_SEAT)), so that the host can have the others end.
 pub fn serve<B: Binder, R: Threads + Wait + Sync>(
     rt: &R,
     alloc: Global,

@@ -1,6 +1,7 @@
 //! Serving over a host in memory.
 
 mod bytes;
+mod failed_seats;
 mod failing;
 mod gates;
 mod hosts;

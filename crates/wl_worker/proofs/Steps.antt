@@ -13,15 +13,16 @@ use Rattle.wl_session.specs.declared.asks.SessionFault.{SessionFault}
 use Rattle.wl_session.specs.declared.asks.SessionFault.TheVariants as faults
 use Rattle.wl_session.specs.Sessions.{SessionState, Running, Fallen, OutOfMemory, state_of_fault, feed_said, unnamed_in, asks_in, failure_in, Feeds, Names, Turns, GivesOutcome}
 use Rattle.wl_session.specs.Steps.{Told, quiet, turn_told, outcome_told}
+use Rattle.wl_edge.specs.declared.origin.Origin.{Origin}
 use Rattle.wl_edge.specs.declared.attestor.AttestorCall.{AttestorCall}
 use Rattle.ask_mail.specs.declared.mail.Delivery.{Delivery}
 use Rattle.wl_worker.specs.Rounds.{then_told, heard_told, name_told, name_told_at, answer_told, answers_told, given_told_at, given_told, outcomes_told, HaveCalls, HaveAsks}
 use Rattle.wl_worker.specs.Counts.{RoseBy}
-use Rattle.wl_worker.specs.Outcomes.{Asker, unanswered, unsigned, GainsAll, attestor_call, attestor_calls, IsOutcome}
+use Rattle.wl_worker.specs.Outcomes.{Asker, unanswered, unsigned, GainsAll, attestor_call, calls_by, IsOutcome}
 use Rattle.wl_worker.specs.Served.{last_shown}
 use Rattle.wl_worker.specs.Stepping.{Came, KeepsLast, Attests, Gives, TurnTells}
-use Rattle.wl_worker.proofs.Gaining.{gains_none, gains_then, ticked_none, ticked_then, rose_none, rose_then, unanswered_append, unsigned_append, in_front, in_back, outcome_grows, have_such}
-use Rattle.wl_worker.proofs.Reading.{keeps_self, keeps_then}
+use Rattle.wl_worker.proofs.Growth.{gains_none, gains_then, ticked_none, ticked_then, rose_none, rose_then, unanswered_append, unsigned_append, in_front, in_back, outcome_grows, have_such}
+use Rattle.wl_worker.proofs.SeenPublications.{keeps_self, keeps_then}
 
 -- ---- steps
 
@@ -238,14 +239,14 @@ given_none w OutOfMemory new f o n a is gives = absurd (cc is)
 
 -- ---- several names, several outcomes
 
-pub attests_then : (socket : ℕ) (a b c : SessionState) (o p q : List ℕ) (x y z : Option (List AttestorCall)) (k m n : ℕ) (r : Result (Unit {0}) Memory)
-    → Attests socket a b o p x y k m (Ok tt) → Attests socket b c p q y z m n r → Attests socket a c o q x z k n r
-attests_then socket a b c o p q x y z k m n r one other =
+pub attests_then : (origin : Origin) (a b c : SessionState) (o p q : List ℕ) (x y z : Option (List AttestorCall)) (k m n : ℕ) (r : Result (Unit {0}) Memory)
+    → Attests origin a b o p x y k m (Ok tt) → Attests origin b c p q y z m n r → Attests origin a c o q x z k n r
+attests_then origin a b c o p q x y z k m n r one other =
     let there : HaveCalls other.answers (answers_told one.answers a).after = subst (λ (s : SessionState). HaveCalls other.answers s) one.came.after other.have in
     record {
       answers = one.answers ++ other.answers;
-      calls_are = subst (λ (calls : List AttestorCall). GainsAll x z calls) (sym (map-append (attestor_call socket) one.answers other.answers))
-          (gains_then x y z (attestor_calls socket one.answers) (attestor_calls socket other.answers) one.calls_are other.calls_are);
+      calls_are = subst (λ (calls : List AttestorCall). GainsAll x z calls) (sym (map-append (attestor_call origin) one.answers other.answers))
+          (gains_then x y z (calls_by origin one.answers) (calls_by origin other.answers) one.calls_are other.calls_are);
       fails = subst (λ (much : ℕ). RoseBy much k n) (sym (unanswered_append one.answers other.answers)) (rose_then k m n (unanswered one.answers) (unanswered other.answers) one.fails other.fails);
       have = calls_append one.answers other.answers a one.have there;
       keeps = keeps_then a b c one.keeps other.keeps;
@@ -288,9 +289,9 @@ gives_then vouched a b c o p q x y z k m n t u v r one other =
         subst (λ (told : Told). Came told c o q) (sym (outcomes_append one.outcomes other.outcomes a))
         (came_then (outcomes_told one.outcomes a) (outcomes_told other.outcomes) b c o p q one.came came)
 
-pub attests_none : (socket : ℕ) (s : SessionState) (out : List ℕ) (told : Option (List AttestorCall)) (count : ℕ) → Attests socket s s out out told told count count (Ok tt)
+pub attests_none : (origin : Origin) (s : SessionState) (out : List ℕ) (told : Option (List AttestorCall)) (count : ℕ) → Attests origin s s out out told told count count (Ok tt)
 unfolding HaveCalls answers_told
-attests_none socket s out told count =
+attests_none origin s out told count =
     record {
       answers = [];
       calls_are = gains_none told;

@@ -2,6 +2,7 @@
 use Rattle.std.specs.Prelude.{◌≡◌, ℕ, List, Option}
 use Rattle.wl_edge.specs.Edge.{Rose}
 use Rattle.wl_edge.specs.Links.{LinkLog}
+use Rattle.wl_edge.specs.declared.origin.Origin.{Origin}
 use Rattle.wl_session.specs.Items.{talk}
 use Rattle.wl_worker.specs.declared.ended.Ended.{Ended}
 use Rattle.wl_worker.specs.declared.ended.Ended.TheVariants as ended
@@ -42,6 +43,6 @@ pub record NoneRose (link_before link_now : LinkFaults) (before now : Around) : 
   pub asks : Rose before.ask_faults now.ask_faults → ⊥
 
 -- Then whatever its rounds and the bytes that the link took, by what a connection tells, it is complete.
-abbrev pub Completes : Asker → ℕ → Option LinkLog → Option LinkLog → LinkFaults → LinkFaults → Around → Around → Ended → Type 0
-Completes by socket log_before log_now link_before link_now before now end =
-    NoneRose link_before link_now before now → (tells : ConnectionTells by socket log_before log_now before now end) → IsComplete end tells.took tells.past
+abbrev pub Completes : Asker → Origin → Option LinkLog → Option LinkLog → LinkFaults → LinkFaults → Around → Around → Ended → Type 0
+Completes by origin log_before log_now link_before link_now before now end =
+    NoneRose link_before link_now before now → (tells : ConnectionTells by origin log_before log_now before now end) → IsComplete end tells.took tells.past

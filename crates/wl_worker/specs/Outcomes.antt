@@ -5,12 +5,13 @@ use Rattle.wl_entry.specs.Fitness.{token_unfit, is_still_fresh}
 use Rattle.wl_entry.specs.declared.asks.Ask.{Ask}
 use Rattle.wl_entry.specs.declared.tokens.JwtToken.{JwtToken}
 use Rattle.ask_mail.specs.Mail.{delivery}
+use Rattle.wl_edge.specs.declared.origin.Origin.{Origin}
 use Rattle.wl_edge.specs.declared.attestor.AttestorCall.{AttestorCall}
 use Rattle.ask_mail.specs.declared.mail.Delivery.{Delivery}
 use Rattle.wl_session.specs.declared.asks.JwtAsk.{JwtAsk}
 use Rattle.wl_session.specs.declared.asks.JwtOutcome.{JwtOutcome}
 use Rattle.wl_session.specs.declared.asks.JwtOutcome.TheVariants as outcomes
-use Rattle.wl_worker.specs.Rounds.{IsIn}
+use Rattle.wl_worker.specs.Rounds.{Round, IsIn}
 
 -- ---- counts of failures
 
@@ -27,9 +28,9 @@ unsigned (outcomes.Token t ∷ more) = unsigned more
 unsigned (outcomes.Failed ∷ more) = 1 + unsigned more
 unsigned (outcomes.Unfit u ∷ more) = unsigned more
 
--- ---- lists that are told
+-- ---- lists that are recorded
 
--- a list that is told gained these
+-- a list that is recorded gained these
 abbrev pub GainsAll : {C : Type 0} → Option (List C) → Option (List C) → List C → Type 0
 GainsAll {C} old new more = IfSome old (λ before. new ≡ Some (before ++ more))
 
@@ -37,12 +38,17 @@ GainsAll {C} old new more = IfSome old (λ before. new ≡ Some (before ++ more)
 abbrev pub Ticked : Option (List ℕ) → Option (List ℕ) → List ℕ → Type 0
 Ticked old new times = IfSome new (λ after. IsSomeAnd old (λ before. after ≡ before ++ times))
 
--- the calls to an attestor for a socket, with these answers
-abbrev pub attestor_call : ℕ → Option (List (List ℕ)) → AttestorCall
-attestor_call socket answer = record { socket = socket; answer = answer }
+-- the calls to an attestor by an origin, with these answers
+abbrev pub attestor_call : Origin → Option (List (List ℕ)) → AttestorCall
+attestor_call origin answer = record { origin = origin; answer = answer }
 
-abbrev pub attestor_calls : ℕ → List (Option (List (List ℕ))) → List AttestorCall
-attestor_calls socket answers = map (attestor_call socket) answers
+abbrev pub calls_by : Origin → List (Option (List (List ℕ))) → List AttestorCall
+calls_by origin answers = map (attestor_call origin) answers
+
+-- those of these rounds, the newest round first, each by the origin of its round
+abbrev pub attestor_calls : List Round → List AttestorCall
+attestor_calls [] = []
+attestor_calls (r ∷ past) = attestor_calls past ++ calls_by r.origin r.answers
 
 -- ---- what an ask gets
 

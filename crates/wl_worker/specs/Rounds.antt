@@ -3,6 +3,7 @@ use Rattle.std.specs.Prelude.{◌≡◌, ◌⊎◌, ℕ, false, List, [], ◌∷
 use Rattle.h2_frame.specs.Reading.{reading_from}
 use Rattle.wl_snapshot.specs.Snapshots.{Publication}
 use Rattle.wl_publish.specs.Lists.{Numbered}
+use Rattle.wl_edge.specs.declared.origin.Origin.{Origin}
 use Rattle.wl_edge.specs.declared.link.Heard.{Heard}
 use Rattle.wl_edge.specs.declared.link.Heard.TheVariants as heard
 use Rattle.wl_session.specs.declared.asks.JwtAsk.{JwtAsk}
@@ -12,9 +13,10 @@ use Rattle.wl_session.specs.Steps.{Told, quiet, runs_on, turn_told, outcome_told
 use Rattle.wl_session.specs.Items.{Item, AttestedItem, UnattestedItem, OutcomeItem, reading_items, turn_items}
 
 -- What a round takes from the outside: the piece that the link gave, which is empty where it was idle; what
--- the attestor answered for each call that became ready, where none is a failure; the publication that was
--- read; and what became of each ask.
+-- the attestor answered for each call that became ready, where none is a failure, and the origin by which it was
+-- asked; the publication that was read; and what became of each ask.
 pub record Round : Type 0 where
+  pub origin : Origin
   pub piece : List ℕ
   pub answers : List (Option (List (List ℕ)))
   pub shown : Option Publication
@@ -119,7 +121,7 @@ unfoldable pub outcome_items : List JwtOutcome → SessionState → List Item
 outcome_items [] s = []
 outcome_items (o ∷ more) s = given_item_at (asks_in s) o ++ outcome_items more (given_told o s).after
 
--- those of a round, behind the items before it
+-- those of a round, after the items before it
 unfoldable pub round_items : Round → SessionState → List Item → List Item
 round_items r s before =
     let attested = heard_items r.piece s ++ answer_items r.answers (heard_session r s) in
@@ -161,6 +163,11 @@ pub record IsWhole (r : Round) (s : SessionState) : Type 0 where
   pub read : failure_in (named_session r s) ≡ None → IsSome r.shown
 
 -- ---- all rounds, the newest first
+
+-- in all of them the attestor was asked by this origin
+abbrev pub AskedBy : Origin → List Round → Type 0
+AskedBy origin [] = Unit {0}
+AskedBy origin (r ∷ past) = (r.origin ≡ origin) × AskedBy origin past
 
 -- the session after them
 abbrev pub session_after : List Round → SessionState
@@ -253,8 +260,8 @@ pieces_given (heard.Failed ∷ more) = pieces_given more
 
 -- ---- the rounds are determined (law)
 
--- Whole rounds that took the same pieces, answers, numbers of these publications, and looks for outcomes from the
--- outside are the same, and so is their trace.
+-- Whole rounds that asked by the same origin and took the same pieces, answers, numbers of these publications, and looks
+-- for outcomes from the outside are the same, and so is their trace.
 abbrev pub RoundsAreDetermined : Type 0
-RoundsAreDetermined = (seen : List Publication) (past other : List Round) → Numbered seen → AreWhole past → AreWhole other → AreKnown seen past → AreKnown seen other
+RoundsAreDetermined = (seen : List Publication) (origin : Origin) (past other : List Round) → Numbered seen → AskedBy origin past → AskedBy origin other → AreWhole past → AreWhole other → AreKnown seen past → AreKnown seen other
     → pieces past ≡ pieces other → answers past ≡ answers other → numbers past ≡ numbers other → looks past ≡ looks other → past ≡ other

@@ -4,20 +4,21 @@ use Rattle.std.specs.List.{AllByRecursion}
 use mathlib.Core.List.{IsPrefix}
 use Rattle.wl_entry.specs.declared.asks.Ask.{Ask}
 use Rattle.wl_entry.specs.declared.tokens.JwtToken.{JwtToken}
-use Rattle.wl_octets.specs.declared.memory.Memory.{Memory}
 use Rattle.wl_snapshot.specs.Snapshots.{Publication}
 use Rattle.wl_edge.specs.Edge.{Rose}
 use Rattle.wl_edge.specs.Links.{LinkLog}
+use Rattle.wl_edge.specs.declared.origin.Origin.{Origin}
 use Rattle.wl_edge.specs.declared.fault.EdgeFault.{EdgeFault}
 use Rattle.wl_edge.specs.declared.fault.EdgeFault.TheVariants as edge
 use Rattle.wl_edge.specs.Listeners.{ListenerLog, FinishedLink, links_given}
 use Rattle.wl_edge.specs.declared.listener.AcceptKind.{AcceptKind}
 use Rattle.ask_mail.specs.declared.mail.Delivery.{Delivery}
+use Rattle.wl_worker.specs.Counts.{RoseBy}
 use Rattle.wl_worker.specs.Owners.{items_of}
 use Rattle.wl_worker.specs.Numbering.{Numbered, none_apart}
 use Rattle.wl_worker.specs.Rounds.{Round}
 use Rattle.wl_worker.specs.Served.{ServedState, Stands, HasSeenLast}
-use Rattle.wl_worker.specs.Tended.{Known, AreJudged, TookPart, TookFully, SeatWorld, SeatGathers, known, HasNoEnd, HasLastEnd, AcceptsTo}
+use Rattle.wl_worker.specs.Tended.{Known, AreJudged, IsOwn, TookPart, TookFully, SeatWorld, SeatGathers, known, HasNoEnd, HasLastEnd, AcceptsTo}
 use Rattle.wl_worker.specs.declared.ended.Ended.{Ended}
 use Rattle.wl_worker.specs.declared.ended.Ended.TheVariants as ended
 use Rattle.wl_worker.specs.declared.seat.SeatEnd.{SeatEnd}
@@ -33,24 +34,23 @@ pub record Under : Type 0 where
   pub link : FinishedLink
   pub served : ServedState
 
-abbrev pub finished_link : Option LinkLog → ℕ → ℕ → ℕ → FinishedLink
-finished_link log failed_receives failed_sends stalls = record { log = log; failed_receives = failed_receives; failed_sends = failed_sends; stalls = stalls }
+abbrev pub finished_link : Origin → Option LinkLog → ℕ → ℕ → ℕ → FinishedLink
+finished_link origin log failed_receives failed_sends stalls = record { origin = origin; log = log; failed_receives = failed_receives; failed_sends = failed_sends; stalls = stalls }
 
 abbrev pub under : ℕ → FinishedLink → ServedState → Under
 under connection link served = record { connection = connection; link = link; served = served }
 
 -- a seat with its pass; `next` is the number of the next connection
 pub record SeatView : Type 0 where
-  pub socket : ℕ
   pub room : ℕ
   pub next : ℕ
   pub listener_faults : ℕ
   pub ready_faults : ℕ
   pub world : SeatWorld
 
-abbrev pub seat_view : ℕ → ℕ → ℕ → ℕ → ℕ → SeatWorld → SeatView
-seat_view socket room next listener_faults ready_faults world =
-    record { socket = socket; room = room; next = next; listener_faults = listener_faults; ready_faults = ready_faults; world = world }
+abbrev pub seat_view : ℕ → ℕ → ℕ → ℕ → SeatWorld → SeatView
+seat_view room next listener_faults ready_faults world =
+    record { room = room; next = next; listener_faults = listener_faults; ready_faults = ready_faults; world = world }
 
 abbrev pub seen_by : SeatView → List Publication
 seen_by w = w.world.around.pass.seen
@@ -85,21 +85,21 @@ ListensOn (Some before) new was_open now_open kinds = (after : ListenerLog) × (
 
 -- from these links to those
 pub record Goes (old new : SeatView) (links_before links_now : List Under) (kinds : List AcceptKind) : Type 0 where
-  pub socket : new.socket ≡ old.socket
   pub room : new.room ≡ old.room
+  pub sockets : new.world.sockets ≡ old.world.sockets
   pub listens : old.listener_faults ≤ new.listener_faults
   pub waits : old.ready_faults ≤ new.ready_faults
   pub sees : IsPrefix (seen_by old) (seen_by new)
   pub listener : ListensOn old.world.listener new.world.listener (length links_before) (length links_now) kinds
   pub keep_seen : HaveSeenLast (seen_by old) links_before → HaveSeenLast (seen_by new) links_now
 
--- an end of a link after which its seat goes on
-abbrev pub IsWithMemory : Ended → Type 0
-IsWithMemory ended.Closed = ⊤
-IsWithMemory (ended.Protocol f) = ⊤
-IsWithMemory ended.ReadFault = ⊤
-IsWithMemory ended.WriteFault = ⊤
-IsWithMemory ended.Memory = ⊥
+-- The count of links for which memory ran out rises where a link ended so, and else stays.
+abbrev pub CountsStarved : Ended → ℕ → ℕ → Type 0
+CountsStarved ended.Closed before now = now ≡ before
+CountsStarved (ended.Protocol f) before now = now ≡ before
+CountsStarved ended.ReadFault before now = now ≡ before
+CountsStarved ended.WriteFault before now = now ≡ before
+CountsStarved ended.Memory before now = RoseBy 1 before now
 
 -- which answers the listener gave by the end of a step
 abbrev pub StepAccepts : Step → List AcceptKind → Type 0
@@ -145,7 +145,7 @@ pub record Rests (old new : SeatView) (links_before links_now : List Under) (end
   pub rests : RestsAt end links_now
   pub fits : EndFits end old new
 
--- all of them until the seat has ended, but for the links that it still serves
+-- all of them until the seat has ended, except the links that it still serves
 pub record EndedBy (old new : SeatView) (links_before links_now : List Under) (end : SeatEnd) : Type 0 where
   pub kinds : List AcceptKind
   pub goes : Goes old new links_before links_now kinds
@@ -154,37 +154,38 @@ pub record EndedBy (old new : SeatView) (links_before links_now : List Under) (e
 
 -- ---- what holds of all links of a seat
 
--- It has this number, and stands between two of its rounds.
+-- It has this number, came over one of the seat's sockets, its rounds asked by its origin, and it stands between two of them.
 abbrev pub Runs : Known → ℕ → Under → List Round → Type 0
-Runs k n u past = (u.connection ≡ n) × IfSome u.link.log (λ log. Stands log u.served k.seen past × AreJudged k n past)
+Runs k n u past = (u.connection ≡ n) × IsOwn k.sockets u.link.origin past × IfSome u.link.log (λ log. Stands log u.served k.seen past × AreJudged k n past)
 
 -- A seat while it serves: the links under way, in their order, and so many that were finished as they stood. No link has a number
 -- from `next` on.
-pub record Tending (vouched : Ask → List (List ℕ) → JwtToken → Type 0) (socket next : ℕ) (old new : SeatWorld) (broken : ℕ) (links : List Under) : Type 0 where
+pub record Tending (vouched : Ask → List (List ℕ) → JwtToken → Type 0) (next : ℕ) (old new : SeatWorld) (broken : ℕ) (links : List Under) : Type 0 where
   pub running : List (ℕ × Under)
   pub fulls : List (ℕ × FinishedLink)
   pub lates : List (ℕ × FinishedLink)
   pub rounds : List (ℕ × Round)
   pub signed : List Delivery
   pub times : List ℕ
+  pub starved : List ℕ
   pub links_are : items_of running ≡ links
   pub count : length lates ≡ broken
-  pub gathers : SeatGathers socket old new (items_of rounds) signed times (items_of fulls ++ items_of lates) (length links)
-  pub numbered : Numbered (Runs (known vouched new signed times)) (TookFully (known vouched new signed times)) (TookPart (known vouched new signed times)) none_apart running fulls lates rounds next
+  pub gathers : SeatGathers old new (items_of rounds) signed times starved (items_of fulls ++ items_of lates) (length links)
+  pub numbered : Numbered (Runs (known vouched new signed times starved)) (TookFully (known vouched new signed times starved)) (TookPart (known vouched new signed times starved)) none_apart running fulls lates rounds next
 
 -- By which relation tokens are vouched for, and what the seat was at its start.
 module _ (vouched : Ask → List (List ℕ) → JwtToken → Type 0) (first : SeatWorld) where
   -- it goes on
   abbrev pub TendsOn : SeatView → List Under → Type 0
-  TendsOn w links = Tending vouched w.socket w.next first w.world 0 links × (length links ≤ w.room)
+  TendsOn w links = Tending vouched w.next first w.world 0 links × (length links ≤ w.room)
 
-  -- It has ended, but for these links; with those that it finished as they stood they are no more than its room.
+  -- It has ended, except these links; with those that it finished as they stood they are no more than its room.
   abbrev pub TendsRest : SeatView → List Under → Type 0
-  TendsRest w links = (broken : ℕ) × Tending vouched w.socket w.next first w.world broken links × (broken + length links ≤ w.room)
+  TendsRest w links = (broken : ℕ) × Tending vouched w.next first w.world broken links × (broken + length links ≤ w.room)
 
   -- The same, where those links and these are so many together.
   abbrev pub TendsLast : SeatView → ℕ → List Under → Type 0
-  TendsLast w n links = (broken : ℕ) × Tending vouched w.socket w.next first w.world broken links × (broken + length links ≡ n)
+  TendsLast w n links = (broken : ℕ) × Tending vouched w.next first w.world broken links × (broken + length links ≡ n)
 
   -- by its end
   abbrev pub TendsBy : SeatView → List Under → SeatEnd → Type 0
@@ -207,11 +208,6 @@ pub record KeepsTending (tells : Type 0) (vouched : Ask → List (List ℕ) → 
 -- links are finished as they stand, and none else
 pub record FinishesTending (vouched : Ask → List (List ℕ) → JwtToken → Type 0) (old new : SeatView) (links_before links_now : List Under) : Type 0 where
   pub keeps : (first : SeatWorld) (n : ℕ) → TendsLast vouched first old n links_before → TendsLast vouched first new n links_now
-
--- what serving some links comes to
-abbrev pub served_step : Result (Unit {0}) Memory → Step
-served_step (Ok done) = step.On
-served_step (Err m) = step.Over seat.Memory
 
 -- what a turn comes to
 abbrev pub turn_step : Result (Unit {0}) EdgeFault → Step

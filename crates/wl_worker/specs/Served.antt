@@ -8,6 +8,7 @@ use Rattle.wl_publish.specs.Lists.{NonFallingFrom}
 use Rattle.wl_publish.specs.Listings.{Passing}
 use Rattle.wl_publish.specs.Reading.{Reads}
 use Rattle.wl_edge.specs.Links.{LinkLog}
+use Rattle.wl_edge.specs.declared.origin.Origin.{Origin}
 use Rattle.wl_edge.specs.declared.link.Heard.{Heard}
 use Rattle.wl_edge.specs.declared.link.Heard.TheVariants as heard
 use Rattle.wl_edge.specs.declared.attestor.AttestorCall.{AttestorCall}
@@ -20,7 +21,7 @@ use Rattle.wl_session.specs.Items.{talk}
 use Rattle.wl_worker.specs.declared.ended.Ended.TheVariants as ended
 use Rattle.wl_worker.specs.declared.ended.RoundEnd.{RoundEnd}
 use Rattle.wl_worker.specs.declared.ended.RoundEnd.TheVariants as ends
-use Rattle.wl_worker.specs.Rounds.{Round, session_after, trace, pieces, numbers, answers, outcomes, AreWhole, AreRounds, AreKnown, GoesOn, HaveAsks, turned_session, IsIn, pieces_given}
+use Rattle.wl_worker.specs.Rounds.{Round, session_after, trace, pieces, numbers, answers, outcomes, AskedBy, AreWhole, AreRounds, AreKnown, GoesOn, HaveAsks, turned_session, IsIn, pieces_given}
 use Rattle.wl_worker.specs.Counts.{RoseBy}
 use Rattle.wl_worker.specs.Outcomes.{Asker, unanswered, unsigned, GainsAll, Ticked, attestor_calls, IsOutcome}
 
@@ -64,7 +65,7 @@ StandsAt (ends.Ended ended.Memory) log s seen past = Began log seen past
 -- ---- what a round does
 
 -- What is seen of the outside beside the link: the attestor's calls and its count of faults, what came for asks
--- for tokens and how often one failed, and the clock's answers, each where it is told; and the pass.
+-- for tokens and how often one failed, and the clock's answers, each where it is recorded; and the pass.
 pub record Around : Type 0 where
   pub attested : Option (List AttestorCall)
   pub attestor_faults : ℕ
@@ -135,11 +136,11 @@ abbrev pub OutcomesBy : (JwtAsk → JwtOutcome → Type 0) → List Round → Se
 OutcomesBy P [] s = Unit {0}
 OutcomesBy P (r ∷ more) s = HaveAsks P r.outcomes (turned_session r s)
 
--- What a round does. The link gave and took this, and there was no round of the trace or one. Its answers are
--- the attestor's to the socket, its publication is what the pass read, and its outcomes are what came for the
--- connection's asks, or kept tokens; no more of the answers and outcomes are failures than the counts rose. And whatever
--- the rounds before it were, it goes on from there.
-pub record RoundTells (valid : Ask → Signed → Type 0) (vouched : Asker) (socket : ℕ) (old new : ServedState) (log_before log_now : Option LinkLog) (before now : Around) (end : RoundEnd) : Type 0 where
+-- What a round of a link of this origin does. The link gave and took this, and there was no round of the trace or one.
+-- Its answers are the attestor's, which was asked by the link's own origin; its publication is what the pass read, and its
+-- outcomes are what came for the connection's asks, or kept tokens; no more of the answers and outcomes are failures than the
+-- counts rose. And whatever the rounds before it were, it goes on from there.
+pub record RoundTells (valid : Ask → Signed → Type 0) (vouched : Asker) (origin : Origin) (old new : ServedState) (log_before log_now : Option LinkLog) (before now : Around) (end : RoundEnd) : Type 0 where
   pub heards : List Heard
   pub took : List ℕ
   pub added : List Round
@@ -147,7 +148,8 @@ pub record RoundTells (valid : Ask → Signed → Type 0) (vouched : Asker) (soc
   pub times : List ℕ
   pub link : LinkGains log_before log_now heards took
   pub end_is : EndIs end new heards added
-  pub attested : GainsAll before.attested now.attested (attestor_calls socket (answers added))
+  pub asked : AskedBy origin added
+  pub attested : GainsAll before.attested now.attested (attestor_calls added)
   pub attestor_fails : RoseBy (unanswered (answers added)) before.attestor_faults now.attestor_faults
   pub read : ReadBy valid added before.pass now.pass
   pub signs : GainsAll before.signed now.signed signed

@@ -4,6 +4,7 @@ use Rattle.wl_octets.specs.declared.memory.Memory.{Memory}
 use Rattle.wl_entry.specs.declared.asks.Ask.{Ask}
 use Rattle.wl_entry.specs.declared.signing.Signed.{Signed}
 use Rattle.wl_snapshot.specs.Snapshots.{Publication}
+use Rattle.wl_edge.specs.declared.origin.Origin.{Origin}
 use Rattle.wl_edge.specs.declared.attestor.AttestorCall.{AttestorCall}
 use Rattle.ask_mail.specs.declared.mail.Delivery.{Delivery}
 use Rattle.wl_session.specs.declared.asks.JwtAsk.{JwtAsk}
@@ -12,7 +13,7 @@ use Rattle.wl_session.specs.Sessions.{SessionState, Names, GivesOutcome}
 use Rattle.wl_session.specs.Steps.{Told, turn_told}
 use Rattle.wl_worker.specs.Rounds.{Round, answers_told, outcomes_told, round_told, HaveCalls, HaveAsks, IsRound, IsWhole, turned_session}
 use Rattle.wl_worker.specs.Counts.{RoseBy}
-use Rattle.wl_worker.specs.Outcomes.{Asker, unanswered, unsigned, GainsAll, Ticked, attestor_calls, IsOutcome}
+use Rattle.wl_worker.specs.Outcomes.{Asker, unanswered, unsigned, GainsAll, Ticked, calls_by, IsOutcome}
 use Rattle.wl_edge.specs.Links.{LinkLog}
 use Rattle.wl_edge.specs.declared.link.Heard.{Heard}
 use Rattle.wl_edge.specs.declared.link.Heard.TheVariants as heard
@@ -29,19 +30,19 @@ pub record Came (told : Told) (new : SessionState) (old_out out : List ℕ) : Ty
 abbrev pub KeepsLast : SessionState → SessionState → Type 0
 KeepsLast old new = (last_shown new ≡ last_shown old) ⊎ (last_shown new ≡ None)
 
--- one answer of the attestor; out of memory its call is not told
-abbrev pub Asks : ℕ → Option (List AttestorCall) → Option (List AttestorCall) → ℕ → ℕ → Result (Option (List (List ℕ))) Memory → Type 0
-Asks socket calls_before calls before now (Ok answer) = GainsAll calls_before calls (attestor_calls socket (answer ∷ [])) × RoseBy (unanswered (answer ∷ [])) before now
-Asks socket calls_before calls before now (Err m) = (calls ≡ calls_before) × (before ≤ now)
+-- one answer of the attestor, asked by this origin; out of memory its call is not recorded
+abbrev pub Asks : Origin → Option (List AttestorCall) → Option (List AttestorCall) → ℕ → ℕ → Result (Option (List (List ℕ))) Memory → Type 0
+Asks origin calls_before calls before now (Ok answer) = GainsAll calls_before calls (calls_by origin (answer ∷ [])) × RoseBy (unanswered (answer ∷ [])) before now
+Asks origin calls_before calls before now (Err m) = (calls ≡ calls_before) × (before ≤ now)
 
 -- the first call that was not attested took an answer
 abbrev pub IsNamed : SessionState → SessionState → List ℕ → List ℕ → Type 0
 IsNamed old new old_out out = (answer : Option (List (List ℕ))) × Names answer old (Ok tt) old_out out new
 
 -- Calls that were not attested take the attestor's answers, lowest stream first.
-pub record Attests (socket : ℕ) (old new : SessionState) (old_out out : List ℕ) (calls_before calls : Option (List AttestorCall)) (before now : ℕ) (r : Result (Unit {0}) Memory) : Type 0 where
+pub record Attests (origin : Origin) (old new : SessionState) (old_out out : List ℕ) (calls_before calls : Option (List AttestorCall)) (before now : ℕ) (r : Result (Unit {0}) Memory) : Type 0 where
   pub answers : List (Option (List (List ℕ)))
-  pub calls_are : GainsAll calls_before calls (attestor_calls socket answers)
+  pub calls_are : GainsAll calls_before calls (calls_by origin answers)
   pub fails : RoseBy (unanswered answers) before now
   pub have : HaveCalls answers old
   pub keeps : KeepsLast old new
@@ -92,12 +93,13 @@ pub record TurnTells (p : Publication) (old new : SessionState) (old_out out : L
   pub came : OnOk r (Came (turn_told p old) new old_out out)
 
 -- A piece was heard, and a round of the trace taken with it; it may have broken off where memory ran out.
-pub record StepTells (valid : Ask → Signed → Type 0) (vouched : Asker) (socket : ℕ) (piece : List ℕ) (old new : SessionState) (old_out out : List ℕ) (before now : Around) (r : Result (Unit {0}) Memory) : Type 0 where
+pub record StepTells (valid : Ask → Signed → Type 0) (vouched : Asker) (origin : Origin) (piece : List ℕ) (old new : SessionState) (old_out out : List ℕ) (before now : Around) (r : Result (Unit {0}) Memory) : Type 0 where
   pub round : Round
   pub signed : List Delivery
   pub times : List ℕ
   pub piece_is : round.piece ≡ piece
-  pub attested : GainsAll before.attested now.attested (attestor_calls socket round.answers)
+  pub asked : round.origin ≡ origin
+  pub attested : GainsAll before.attested now.attested (calls_by round.origin round.answers)
   pub attestor_fails : RoseBy (unanswered round.answers) before.attestor_faults now.attestor_faults
   pub read : ReadIn valid round.shown before.pass now.pass
   pub signs : GainsAll before.signed now.signed signed
@@ -111,18 +113,18 @@ pub record StepTells (valid : Ask → Signed → Type 0) (vouched : Asker) (sock
 
 -- What a receive gave, and the step taken with it. At an end nothing else was done, or memory ran out in the
 -- step.
-abbrev pub StepBy : (Ask → Signed → Type 0) → Asker → ℕ → SessionState → SessionState → List ℕ → List ℕ → Around → Around → List Heard → Result (Unit {0}) Ended → Type 0
-StepBy valid vouched socket old new old_out out before now heards (Ok done) =
-    (answer : Heard) × (piece : List ℕ) × (heards ≡ answer ∷ []) × IsPiece answer piece × StepTells valid vouched socket piece old new old_out out before now (Ok done)
-StepBy valid vouched socket old new old_out out before now heards (Err ended.Memory) =
-    (answer : Heard) × (piece : List ℕ) × (heards ≡ answer ∷ []) × IsPiece answer piece × ((m : Memory) × StepTells valid vouched socket piece old new old_out out before now (Err m))
-StepBy valid vouched socket old new old_out out before now heards (Err ended.Closed) = (heards ≡ heard.End ∷ []) × (new ≡ old) × (now ≡ before)
-StepBy valid vouched socket old new old_out out before now heards (Err ended.ReadFault) =
+abbrev pub StepBy : (Ask → Signed → Type 0) → Asker → Origin → SessionState → SessionState → List ℕ → List ℕ → Around → Around → List Heard → Result (Unit {0}) Ended → Type 0
+StepBy valid vouched origin old new old_out out before now heards (Ok done) =
+    (answer : Heard) × (piece : List ℕ) × (heards ≡ answer ∷ []) × IsPiece answer piece × StepTells valid vouched origin piece old new old_out out before now (Ok done)
+StepBy valid vouched origin old new old_out out before now heards (Err ended.Memory) =
+    (answer : Heard) × (piece : List ℕ) × (heards ≡ answer ∷ []) × IsPiece answer piece × ((m : Memory) × StepTells valid vouched origin piece old new old_out out before now (Err m))
+StepBy valid vouched origin old new old_out out before now heards (Err ended.Closed) = (heards ≡ heard.End ∷ []) × (new ≡ old) × (now ≡ before)
+StepBy valid vouched origin old new old_out out before now heards (Err ended.ReadFault) =
     ((heards ≡ heard.Failed ∷ []) ⊎ (heards ≡ [])) × (new ≡ old) × (now ≡ before)
-StepBy valid vouched socket old new old_out out before now heards (Err (ended.Protocol f)) = ⊥
-StepBy valid vouched socket old new old_out out before now heards (Err ended.WriteFault) = ⊥
+StepBy valid vouched origin old new old_out out before now heards (Err (ended.Protocol f)) = ⊥
+StepBy valid vouched origin old new old_out out before now heards (Err ended.WriteFault) = ⊥
 
-pub record HearTells (valid : Ask → Signed → Type 0) (vouched : Asker) (socket : ℕ) (old new : SessionState) (old_out out : List ℕ) (log_before log_now : Option LinkLog) (before now : Around) (r : Result (Unit {0}) Ended) : Type 0 where
+pub record HearTells (valid : Ask → Signed → Type 0) (vouched : Asker) (origin : Origin) (old new : SessionState) (old_out out : List ℕ) (log_before log_now : Option LinkLog) (before now : Around) (r : Result (Unit {0}) Ended) : Type 0 where
   pub heards : List Heard
   pub link : LinkGains log_before log_now heards []
-  pub step : StepBy valid vouched socket old new old_out out before now heards r
+  pub step : StepBy valid vouched origin old new old_out out before now heards r

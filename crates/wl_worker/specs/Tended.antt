@@ -7,14 +7,15 @@ use Rattle.wl_entry.specs.declared.asks.Ask.{Ask}
 use Rattle.wl_entry.specs.declared.tokens.JwtToken.{JwtToken}
 use Rattle.wl_snapshot.specs.Snapshots.{Publication}
 use Rattle.wl_edge.specs.Links.{LinkLog}
-use Rattle.wl_edge.specs.Listeners.{ListenerLog, FinishedLink, links_given}
+use Rattle.wl_edge.specs.Listeners.{ListenerLog, FinishedLink, BoundSocket, CameOver, links_given}
+use Rattle.wl_edge.specs.declared.origin.Origin.{Origin}
 use Rattle.wl_edge.specs.declared.listener.AcceptKind.{AcceptKind}
 use Rattle.wl_edge.specs.declared.listener.AcceptKind.TheVariants as kind
 use Rattle.ask_mail.specs.declared.mail.Delivery.{Delivery}
 use Rattle.wl_worker.specs.Counts.{RoseBy}
 use Rattle.wl_worker.specs.Outcomes.{asker, unanswered, unsigned, GainsAll, Ticked, attestor_calls, IsOutcome}
 use Rattle.wl_worker.specs.Owners.{owned_by, items_of, tally}
-use Rattle.wl_worker.specs.Rounds.{Round, numbers, answers, outcomes, AreOutcomes}
+use Rattle.wl_worker.specs.Rounds.{Round, numbers, answers, outcomes, AskedBy, AreOutcomes, IsIn}
 use Rattle.wl_worker.specs.Served.{Around, Began}
 use Rattle.wl_worker.specs.Connections.{CameTo}
 use Rattle.wl_worker.specs.declared.ended.Ended.TheVariants as ended
@@ -61,38 +62,50 @@ ListenedTo end old new = IfSome old (λ before. (after : ListenerLog) × (new �
 abbrev pub TookAll : LinkLog → List Round → Type 0
 TookAll log past = CameTo ended.Closed log.gave log.took past ⊎ ((f : ConnFault) × CameTo (ended.Protocol f) log.gave log.took past)
 
--- What is known of all links of a seat: what the pass has seen, which tokens are vouched for, what came for its
--- asks, and the times that the clock told.
+-- What is known of all links of a seat: its listener's sockets, what the pass has seen, which tokens are vouched for, what
+-- came for its asks, the times that the clock told, and the numbers of the links for which memory ran out.
 pub record Known : Type 1 where
+  pub sockets : Option (List BoundSocket)
   pub seen : List Publication
   pub vouched : Ask → List (List ℕ) → JwtToken → Type 0
   pub signed : List Delivery
   pub times : List ℕ
+  pub starved : List ℕ
 
 -- the outcomes of the rounds of the link of this number are as they may be
 abbrev pub AreJudged : Known → ℕ → List Round → Type 0
 AreJudged k n past = AreOutcomes (IsOutcome (asker n k.vouched) k.signed k.times) past
 
--- A link that was finished, of this number, took a prefix of the talk of its rounds.
+-- A link of this origin came over one of these sockets, if they are known, and in all its rounds the attestor was asked by
+-- this origin.
+pub record IsOwn (sockets : Option (List BoundSocket)) (origin : Origin) (past : List Round) : Type 0 where
+  pub came : CameOver sockets origin
+  pub asked : AskedBy origin past
+
+-- A link that was finished, of this number, took a prefix of the talk of its rounds, in all of which the attestor was asked by
+-- the link's own origin.
 abbrev pub TookPart : Known → ℕ → FinishedLink → List Round → Type 0
-TookPart k n link past = IfSome link.log (λ log. Began log k.seen past × AreJudged k n past)
+TookPart k n link past = IsOwn k.sockets link.origin past × IfSome link.log (λ log. Began log k.seen past × AreJudged k n past)
 
 -- It took the whole, unless a receive or a sending of it failed; so many of them did.
 abbrev pub TookAllUnless : ℕ → ℕ → LinkLog → List Round → Type 0
 TookAllUnless failed_receives failed_sends log past = (0 < failed_receives) ⊎ ((0 < failed_sends) ⊎ TookAll log past)
 
+-- The same of a link with its counts, unless memory ran out for it.
 abbrev pub TookFully : Known → ℕ → FinishedLink → List Round → Type 0
-TookFully k n link past = IfSome link.log (λ log. Began log k.seen past × AreJudged k n past × TookAllUnless link.failed_receives link.failed_sends log past)
+TookFully k n link past = IsOwn k.sockets link.origin past × IfSome link.log (λ log. Began log k.seen past × AreJudged k n past × (IsIn n k.starved ⊎ TookAllUnless link.failed_receives link.failed_sends log past))
 
 -- ---- a seat
 
--- what is seen of a seat's things of the outside, and its pass
+-- what is seen of a seat's things of the outside, its pass, and how many links memory ran out for
 pub record SeatWorld : Type 0 where
+  pub sockets : Option (List BoundSocket)
   pub listener : Option ListenerLog
+  pub starved : ℕ
   pub around : Around
 
-abbrev pub seat_world : Option ListenerLog → Around → SeatWorld
-seat_world listener a = record { listener = listener; around = a }
+abbrev pub seat_world : Option (List BoundSocket) → Option ListenerLog → ℕ → Around → SeatWorld
+seat_world sockets listener starved a = record { sockets = sockets; listener = listener; starved = starved; around = a }
 
 -- The listener gave so many links more than it finished then, and these were finished.
 pub record FinishesSome (old new : ListenerLog) (finished : List FinishedLink) (open_links : ℕ) : Type 0 where
@@ -104,12 +117,13 @@ pub record FinishesSome (old new : ListenerLog) (finished : List FinishedLink) (
 abbrev pub ListenerGains : Option ListenerLog → Option ListenerLog → List FinishedLink → ℕ → Type 0
 ListenerGains old new finished open_links = IfSome old (λ before. (after : ListenerLog) × (new ≡ Some after) × FinishesSome before after finished open_links)
 
--- What a seat's things of the outside did for these rounds, the newest first: the attestor answered for the socket, the pass
--- read, what came for its asks was taken and the clock told the time. No more answers and outcomes are failures than the counts rose. These
--- links were finished, and so many of those that the listener gave were not.
-pub record SeatGathers (socket : ℕ) (old new : SeatWorld) (rounds : List Round) (signed : List Delivery) (times : List ℕ) (finished : List FinishedLink) (open_links : ℕ) : Type 0 where
+-- What a seat's things of the outside did for these rounds, the newest first: the attestor answered, asked by the origin of each
+-- round, the pass read, what came for its asks was taken and the clock told the time. No more answers and outcomes are failures
+-- than the counts rose, and memory ran out for no more links than the seat counted. These links were finished, and so many of
+-- those that the listener gave were not.
+pub record SeatGathers (old new : SeatWorld) (rounds : List Round) (signed : List Delivery) (times starved : List ℕ) (finished : List FinishedLink) (open_links : ℕ) : Type 0 where
   pub listener : ListenerGains old.listener new.listener finished open_links
-  pub attested : GainsAll old.around.attested new.around.attested (attestor_calls socket (answers rounds))
+  pub attested : GainsAll old.around.attested new.around.attested (attestor_calls rounds)
   pub attestor_fails : RoseBy (unanswered (answers rounds)) old.around.attestor_faults new.around.attestor_faults
   pub mine : new.around.pass.mine ≡ old.around.pass.mine ++ numbers rounds
   pub seen : IsPrefix old.around.pass.seen new.around.pass.seen
@@ -117,27 +131,30 @@ pub record SeatGathers (socket : ℕ) (old new : SeatWorld) (rounds : List Round
   pub signs : GainsAll old.around.signed new.around.signed signed
   pub clock : Ticked old.around.times new.around.times times
   pub ask_fails : RoseBy (unsigned (outcomes rounds)) old.around.ask_faults new.around.ask_faults
+  pub starves : RoseBy (length starved) old.starved new.starved
 
-abbrev pub known : (Ask → List (List ℕ) → JwtToken → Type 0) → SeatWorld → List Delivery → List ℕ → Known
-known vouched w signed times = record { seen = w.around.pass.seen; vouched = vouched; signed = signed; times = times }
+abbrev pub known : (Ask → List (List ℕ) → JwtToken → Type 0) → SeatWorld → List Delivery → List ℕ → List ℕ → Known
+known vouched w signed times starved = record { sockets = w.sockets; seen = w.around.pass.seen; vouched = vouched; signed = signed; times = times; starved = starved }
 
 -- ---- Tended
 
--- What a seat came to. Each finished link, whose number is its own, took a prefix of the talk of its rounds, and its outcomes came
--- for the asks of that number. These are all rounds of the seat, each of one finished link: so no answer of the attestor, no number
--- that was read and no outcome belongs to two.
--- `fulls` took the whole, unless a call of theirs failed; after them come `lates`, which need not have. They are no more than the
--- seat's room, and none where its end is End.
-pub record Tends (vouched : Ask → List (List ℕ) → JwtToken → Type 0) (socket room : ℕ) (end : SeatEnd) (old new : SeatWorld) : Type 0 where
+-- What a seat came to. Each finished link, whose number is its own, took a prefix of the talk of its rounds, its calls were
+-- attested by its own origin, which is one of the listener's sockets, and its outcomes came for the asks of that number. These are all rounds of the seat, each of one
+-- finished link: so no answer of the attestor, no number that was read and no outcome belongs to two, and no link gets an answer
+-- that was asked for the origin of another.
+-- `fulls` took the whole, unless a call of theirs failed or memory ran out for them, which the seat counted; after them come
+-- `lates`, which need not have. They are no more than the seat's room, and none where its end is End.
+pub record Tends (vouched : Ask → List (List ℕ) → JwtToken → Type 0) (room : ℕ) (end : SeatEnd) (old new : SeatWorld) : Type 0 where
   pub fulls : List (ℕ × FinishedLink)
   pub lates : List (ℕ × FinishedLink)
   pub rounds : List (ℕ × Round)
   pub signed : List Delivery
   pub times : List ℕ
-  pub gathers : SeatGathers socket old new (items_of rounds) signed times (items_of fulls ++ items_of lates) 0
+  pub starved : List ℕ
+  pub gathers : SeatGathers old new (items_of rounds) signed times starved (items_of fulls ++ items_of lates) 0
   pub once : (k : ℕ) → tally k fulls + tally k lates ≤ 1
   pub owners : (k : ℕ) → tally k fulls + tally k lates ≡ 0 → owned_by k rounds ≡ []
-  pub each_full : AllByRecursion (λ f. TookFully (known vouched new signed times) f.0 f.1 (owned_by f.0 rounds)) fulls
-  pub each_late : AllByRecursion (λ f. TookPart (known vouched new signed times) f.0 f.1 (owned_by f.0 rounds)) lates
+  pub each_full : AllByRecursion (λ f. TookFully (known vouched new signed times starved) f.0 f.1 (owned_by f.0 rounds)) fulls
+  pub each_late : AllByRecursion (λ f. TookPart (known vouched new signed times starved) f.0 f.1 (owned_by f.0 rounds)) lates
   pub few : length lates ≤ room
   pub none : end ≡ seat.End → lates ≡ []

@@ -1,9 +1,10 @@
 -- Upkeep: what taking a document and asking for identities come to (own rules).
-use Rattle.std.specs.Prelude.{◌≡◌, ⊤, ℕ, ◌<◌, ◌≤◌, List, [], ◌++◌, Option, Some, None, IfSome, Err, IsOkAnd}
+use Rattle.std.specs.Prelude.{◌≡◌, ⊤, ℕ, ◌-◌, ◌/◌, ◌<◌, ◌≤◌, max, if◌then◌else◌, List, [], ◌++◌, Option, Some, None, IfSome, Err, IsOkAnd}
 use Rattle.std.specs.List.{Contains, AllByRecursion}
 use Rattle.wl_entry.specs.declared.asks.Ask.{Ask}
 use Rattle.wl_entry.specs.declared.signing.Signed.{Signed}
 use Rattle.wl_entry.specs.declared.signing.Svid.{Svid}
+use Rattle.wl_entry.specs.Fitness.{is_half_over}
 use Rattle.wl_document.specs.declared.fault.DocFault.{DocFault}
 use Rattle.wl_document.specs.States.{State}
 use Rattle.wl_document.specs.Documents.{document_state}
@@ -86,7 +87,7 @@ IsShown list (Jwt ask audience answer) = ⊥
 -- What came of one ask: the signer was asked this very ask once, and its answer was kept, or was not, or it failed. Where
 -- memory ran out no more is said than that the list only grew.
 abbrev pub AskGives : {V : Type 0} → Ask → Option (List SignerCall) → Option (List SignerCall) → ℕ → ℕ → Asked V → Type 0
-AskGives {V} ask old new before now (asked.Kept note) = (signed : Signed) × Gains old new (X509 ask (Some signed)) × IsShown note.list (X509 ask (Some signed))
+AskGives {V} ask old new before now (asked.Kept note rest) = (signed : Signed) × Gains old new (X509 ask (Some signed)) × IsShown note.list (X509 ask (Some signed))
 AskGives {V} ask old new before now asked.Refused = (signed : Signed) × Gains old new (X509 ask (Some signed))
 AskGives {V} ask old new before now (asked.Failed ticket) = (ticket.ask ≡ ask) × Gains old new (X509 ask None) × Rose before now
 AskGives {V} ask old new before now (asked.Starved ticket) = (ticket.ask ≡ ask) × (new ≡ old)
@@ -96,6 +97,10 @@ AskGives {V} ask old new before now asked.Memory = (signed : Signed) × Gains ol
 pub record Asks {V : Type 0} (ask : Ask) (old new : Option (List SignerCall)) (before now : ℕ) (answer : Asked V) : Type 0 where
   pub gives : AskGives ask old new before now answer
   pub later : before ≤ now
+
+-- For how many seconds an identity that was kept is not asked for again: none, unless it is due again at once.
+abbrev pub rest_after : ℕ → Signed → ℕ
+rest_after now signed = if is_half_over now signed then max ((signed.not_after - now) / 4) 1 else 0
 
 -- a signer's list only grew
 abbrev pub AskedOn : Option (List SignerCall) → Option (List SignerCall) → Type 0

@@ -30,21 +30,20 @@ pub fn serve_connection<L: Link, A: Attestor, T: TokenAsks, C: Clock, G: Gate, R
     desk: &Mutex<Desk<T::V>>,
     pass: &mut Pass<T::V>,
     link: &mut L,
-    socket: u32,
     attestor: &mut A,
     connection: u64,
     asks: &mut T,
     clock: &mut C,
     gate: &G,
 ) -> Ended
-    ensures tells { ConnectionTells (asker connection T.V.token) socket (L.told link.old) (L.told link.new)
+    ensures tells { ConnectionTells (asker connection T.V.token) (L.origin link.old) (L.told link.old) (L.told link.new)
         (around (A.calls attestor.old) (A.faults attestor.old) (T.taken asks.old) (T.faults asks.old)
         (C.answers clock.old) pass.old)
         (around (A.calls attestor.new) (A.faults attestor.new) (T.taken asks.new) (T.faults asks.new)
         (C.answers clock.new) pass.new)
         result }
     // Where no count of the link, the attestor and the asks rose: how it ended, and that all was answered and sent.
-    ensures completeness { Completes (asker connection T.V.token) socket (L.told link.old) (L.told link.new)
+    ensures completeness { Completes (asker connection T.V.token) (L.origin link.old) (L.told link.old) (L.told link.new)
         (link_faults (L.failed_receives link.old) (L.failed_sends link.old))
         (link_faults (L.failed_receives link.new) (L.failed_sends link.new))
         (around (A.calls attestor.old) (A.faults attestor.old) (T.taken asks.old) (T.faults asks.old)
@@ -58,6 +57,7 @@ pub fn serve_connection<L: Link, A: Attestor, T: TokenAsks, C: Clock, G: Gate, R
         → Rose (L.failed_sends link.old) (L.failed_sends link.new) }
     ensures receives { L.failed_receives link.old ≤ L.failed_receives link.new }
     ensures sends { L.failed_sends link.old ≤ L.failed_sends link.new }
+    ensures origin { L.origin link.new ≡ L.origin link.old }
 {
     let mut served = match Served::start(alloc) {
         Ok(served) => served,
@@ -65,7 +65,7 @@ pub fn serve_connection<L: Link, A: Attestor, T: TokenAsks, C: Clock, G: Gate, R
     };
     'rounds: for _ in rt.forever() {
         let end = served.round(
-            rt, desk, pass, link, socket, attestor, connection, asks, clock, gate,
+            rt, desk, pass, link, attestor, connection, asks, clock, gate,
         );
         if let RoundEnd::Ended(end) = end {
             asks.forget(rt, connection);

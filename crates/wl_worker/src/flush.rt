@@ -28,6 +28,7 @@ pub fn flush<L: Link>(link: &mut L, bytes: &[u8]) -> (usize, Flushed)
     ensures sends { L.failed_sends link.old ≤ L.failed_sends link.new }
     ensures stalls { L.stalls link.old ≤ L.stalls link.new }
     ensures receives { L.failed_receives link.new ≡ L.failed_receives link.old }
+    ensures origin { L.origin link.new ≡ L.origin link.old }
 {
     let mut sent: usize = 0;
     'sends: while sent < bytes.len() {

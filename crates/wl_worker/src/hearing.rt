@@ -17,6 +17,7 @@ pub fn hear<L: Link>(link: &mut L, buffer: &mut [u8]) -> Result<usize, Ended>
     ensures receives { L.failed_receives link.old ≤ L.failed_receives link.new }
     ensures sends { L.failed_sends link.new ≡ L.failed_sends link.old }
     ensures stalls { L.stalls link.new ≡ L.stalls link.old }
+    ensures origin { L.origin link.new ≡ L.origin link.old }
 {
     match link.receive(buffer) {
         Received::Got(count) => Ok(count),

@@ -4,17 +4,17 @@ ghost use Rattle.std.specs.Prelude.{◌≡◌, None, Ok, OnOk, IsSome};
 ghost use Rattle.wl_session.specs.Sessions.{unnamed_in};
 ghost use Rattle.wl_worker.specs.Stepping.{Asks, Attests, IsNamed};
 
-use wl_edge::{Attestor, EdgeFault};
+use wl_edge::{Attestor, EdgeFault, Origin};
 use wl_octets::{Memory, Octets};
 use wl_selector::Selectors;
 use wl_session::Session;
 
-/// The attestor's answer for a call over this socket, which is none where it failed.
-fn attest<A: Attestor>(socket: u32, attestor: &mut A) -> Result<Option<Selectors>, Memory>
-    ensures { Asks socket (A.calls attestor.old) (A.calls attestor.new) (A.faults attestor.old)
+/// The attestor's answer for a call from there, which is none where it failed.
+fn attest<A: Attestor>(origin: &Origin, attestor: &mut A) -> Result<Option<Selectors>, Memory>
+    ensures { Asks origin.now (A.calls attestor.old) (A.calls attestor.new) (A.faults attestor.old)
         (A.faults attestor.new) result }
 {
-    match attestor.attest(socket) {
+    match attestor.attest(origin) {
         Ok(selectors) => Ok(Some(selectors)),
         Err(EdgeFault::Failed) => Ok(None),
         Err(EdgeFault::Memory) => Err(Memory),
@@ -23,17 +23,17 @@ fn attest<A: Attestor>(socket: u32, attestor: &mut A) -> Result<Option<Selectors
 
 /// The lowest ready call that was not attested takes the attestor's answer, or ends where that failed.
 fn attest_one<A: Attestor>(
-    socket: u32,
+    origin: &Origin,
     attestor: &mut A,
     session: &mut Session,
     out: &mut Octets,
 ) -> Result<(), Memory>
     requires { IsSome (unnamed_in session.old) }
-    ensures attests { Attests socket session.old session.new out.old out.new (A.calls attestor.old)
+    ensures attests { Attests origin.now session.old session.new out.old out.new (A.calls attestor.old)
         (A.calls attestor.new) (A.faults attestor.old) (A.faults attestor.new) result }
     ensures named { OnOk result (IsNamed session.old session.new out.old out.new) }
 {
-    let answer = attest(socket, attestor)?;
+    let answer = attest(origin, attestor)?;
     match session.name(answer, out) {
         Ok(()) => Ok(()),
         Err(_) => Err(Memory),
@@ -42,17 +42,17 @@ fn attest_one<A: Attestor>(
 
 /// Each of them does, lowest stream first. Out of memory some may be left.
 pub fn attest_all<A: Attestor>(
-    socket: u32,
+    origin: &Origin,
     attestor: &mut A,
     session: &mut Session,
     out: &mut Octets,
 ) -> Result<(), Memory>
-    ensures attests { Attests socket session.old session.new out.old out.new (A.calls attestor.old)
+    ensures attests { Attests origin.now session.old session.new out.old out.new (A.calls attestor.old)
         (A.calls attestor.new) (A.faults attestor.old) (A.faults attestor.new) result }
     ensures all { OnOk result (unnamed_in session.new ≡ None) }
 {
     'calls: while session.unnamed().is_some() {
-        attest_one(socket, attestor, session, out)?;
+        attest_one(origin, attestor, session, out)?;
     }
     Ok(())
 }

@@ -87,7 +87,9 @@ pub(crate) fn release<L: Listener, P: Ready<L::L>>(
 )
     requires { HasOpenLink (L.told listener.old) }
     ensures finishes { Finishes (L.told listener.old) (L.told listener.new)
-        (finished_link (L.L.told link) (L.L.failed_receives link) (L.L.failed_sends link) (L.L.stalls link)) }
+        (finished_link (L.L.origin link) (L.L.told link) (L.L.failed_receives link) (L.L.failed_sends link)
+        (L.L.stalls link)) }
+    ensures sockets { L.sockets listener.new ≡ L.sockets listener.old }
     ensures listens { L.faults listener.new ≡ L.faults listener.old }
     ensures waits { P.faults ready.old ≤ P.faults ready.new }
 {

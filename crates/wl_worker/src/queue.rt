@@ -4,8 +4,7 @@ use crate::asks::{AskHub, SeatAsk, Turn};
 use std::alloc::{AllocFailed, Global};
 use std::collections::VecDeque;
 use std::sync::{Arc, Mutex, Wait};
-use wl_entry::Voucher;
-use wl_octets::Octets;
+use wl_entry::{Ask, Voucher};
 use wl_store::Ticket;
 
 /// How many seconds an ask waits after its first failure.
@@ -34,12 +33,12 @@ struct Held {
     queued: QueuedTicket,
 }
 
-/// How soon an entry may be asked for again, since an answer for it was not kept.
+/// How soon an ask may be made again, since its answer was not kept, or was due again at once.
 #[derive(Drop)]
 struct Pace {
-    entry_id: Octets,
+    ask: Ask,
     until: u64,
-    /// The seconds that it waits after the next such answer.
+    /// The seconds that it waits after the next answer that is not kept.
     pause: u64,
 }
 
@@ -47,7 +46,7 @@ struct Pace {
 struct Tickets {
     /// Those that may be asked for now, the oldest first.
     due: VecDeque<QueuedTicket>,
-    /// Those whose ask failed, or whose entry is slowed down.
+    /// Those whose ask failed, or is slowed down.
     held: Vec<Held>,
     paces: Vec<Pace>,
     /// The time, as the keeper last read it.
@@ -55,18 +54,18 @@ struct Tickets {
 }
 
 impl Tickets {
-    /// The second from which on this entry may be asked for.
-    fn earliest(&self, entry_id: &Octets) -> u64 {
-        match self.paces.iter().find(|pace| pace.entry_id == *entry_id) {
+    /// The second from which on this ask may be made.
+    fn earliest(&self, ask: &Ask) -> u64 {
+        match self.paces.iter().find(|pace| pace.ask == *ask) {
             Some(pace) => pace.until,
             None => 0,
         }
     }
 
-    /// Puts a ticket at the end, or where its entry is slowed down among those that are held. It comes back where memory
+    /// Puts a ticket at the end, or where its ask is slowed down among those that are held. It comes back where memory
     /// ran out.
     fn put(&mut self, ticket: Ticket) -> Option<Ticket> {
-        let until = self.earliest(&ticket.ask.entry_id);
+        let until = self.earliest(&ticket.ask);
         let queued = QueuedTicket {
             ticket,
             pause: FIRST_PAUSE,
@@ -91,12 +90,9 @@ impl Tickets {
         }
     }
 
-    /// The pace of this entry leaves.
-    fn take_pace(&mut self, entry_id: &Octets) -> Option<Pace> {
-        let at = self
-            .paces
-            .iter()
-            .position(|pace| pace.entry_id == *entry_id)?;
+    /// The pace of this ask leaves.
+    fn take_pace(&mut self, ask: &Ask) -> Option<Pace> {
+        let at = self.paces.iter().position(|pace| pace.ask == *ask)?;
         Some(self.paces.swap_remove(at))
     }
 
@@ -173,32 +169,41 @@ impl<V: Voucher> TicketQueue<V> {
         self.tickets.lock(rt).hold(held)
     }
 
-    /// Says that an answer for this entry was not kept at this second: its next ticket waits for a second, and twice as long
+    /// Says that the answer to this ask was not kept at this second: its next ticket waits for a second, and twice as long
     /// after each further one.
-    pub fn slow_down<R: Wait>(&self, rt: &R, entry_id: Octets, now: u64) {
+    pub fn slow_down<R: Wait>(&self, rt: &R, ask: Ask, now: u64) {
         let mut tickets = self.tickets.lock(rt);
-        let pause = match tickets.take_pace(&entry_id) {
+        let pause = match tickets.take_pace(&ask) {
             Some(pace) => pace.pause,
             None => FIRST_PAUSE,
         };
         // out of memory it is not slowed down
         let _ = tickets.paces.push(Pace {
-            entry_id,
+            ask,
             until: now.saturating_add(pause),
             pause: pause.saturating_mul(2).min(LONGEST_PAUSE),
         });
     }
 
-    /// Says that an answer for this entry was kept.
-    pub fn speed_up<R: Wait>(&self, rt: &R, entry_id: &Octets) {
-        let _ = self.tickets.lock(rt).take_pace(entry_id);
+    /// Says that the answer to this ask was kept at this second: its next ticket waits for so many seconds.
+    pub fn rest<R: Wait>(&self, rt: &R, ask: Ask, now: u64, seconds: u64) {
+        let mut tickets = self.tickets.lock(rt);
+        drop(tickets.take_pace(&ask));
+        if seconds > 0 {
+            // out of memory it doesn't wait
+            let _ = tickets.paces.push(Pace {
+                ask,
+                until: now.saturating_add(seconds),
+                pause: FIRST_PAUSE,
+            });
+        }
     }
 
     /// Says what time it is, so that pauses end.
     pub fn tell_time<R: Wait>(&self, rt: &R, now: u64) {
         let mut tickets = self.tickets.lock(rt);
         tickets.now = now;
-        // an entry that was slowed down long ago may be gone
+        // an ask that was slowed down long ago may be gone
         tickets
             .paces
             .retain(|pace| pace.until.saturating_add(LONGEST_PAUSE) > now);
@@ -231,7 +236,7 @@ impl<V: Voucher> TicketQueue<V> {
         unreachable!()
     }
 
-    /// A ticket that may be asked for. Where more are left another signer is told.
+    /// A ticket that may be asked for. Where more are left another signer is woken.
     fn take<R: Wait>(&self, rt: &R) -> Option<QueuedTicket> {
         let mut tickets = self.tickets.lock(rt);
         let taken = tickets.take();

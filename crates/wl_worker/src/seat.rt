@@ -20,8 +20,6 @@ use wl_publish::Pass;
 #[derive(Drop)]
 pub struct Seat<L: Listener, T: TokenAsks, A, C, P> {
     pub listener: L,
-    /// The number of the socket, from 0, for the attestor.
-    pub socket: u32,
     /// Where its connections ask for tokens.
     pub asks: T,
     /// How many links it has taken: the number of the next connection, from 0.
@@ -34,6 +32,8 @@ pub struct Seat<L: Listener, T: TokenAsks, A, C, P> {
     pub ready: P,
     /// How many links are served at once.
     pub room: u32,
+    /// How many links it finished since memory ran out for them. At 2^64-1 it stays.
+    pub starved: u64,
     // All listeners of its type tell their content, or none does.
     ghost alike: { (one other : L) → is_some (L.told one) ≡ is_some (L.told other) },
 }
@@ -47,14 +47,14 @@ pub enum SeatEnd {
     ListenFault,
     /// The watching of links failed.
     WaitFault,
-    /// Memory ran out.
+    /// Memory ran out for the seat itself. Where it runs out for a link, that link ends alone.
     Memory,
 }
 
 /// Serves the links of a seat, as many at once as it has room for, each a round at a time: those that may be
-/// ready, or all where none is listed. Each link is given to `finish`, whatever its end was. After the
-/// listener's end the seat goes on until all its links are finished; at any other end of its own it first
-/// finishes every link as it stands. It tells the desk once that it has ended.
+/// ready, or all where none is listed. Each link is given to `finish`, whatever its end was. A link for which memory
+/// runs out ends alone, and is counted. After the listener's end the seat goes on until all its links are finished; at
+/// any other end of its own it first finishes every link as it stands. It tells the desk once that it has ended.
 pub fn serve_seat<
     L: Listener,
     T: TokenAsks,
@@ -72,7 +72,8 @@ pub fn serve_seat<
 ) -> SeatEnd
     requires pass { IsSome seat.old.pass }
     requires open { IfSome (L.told seat.old.listener) (λ log. length log.finished ≤ links_given log.kinds) }
-    ensures place { (seat.new.socket ≡ seat.old.socket) × (seat.new.room ≡ seat.old.room) }
+    ensures place { seat.new.room ≡ seat.old.room }
+    ensures sockets { L.sockets seat.new.listener ≡ L.sockets seat.old.listener }
     ensures sees { IsSomeAnd seat.old.pass (λ p. IsSomeAnd seat.new.pass (λ q. IsPrefix p.seen q.seen)) }
     ensures listens { L.faults seat.old.listener ≤ L.faults seat.new.listener }
     ensures waits { P.faults seat.old.ready ≤ P.faults seat.new.ready }
@@ -80,15 +81,16 @@ pub fn serve_seat<
         → Rose (L.faults seat.old.listener) (L.faults seat.new.listener) }
     ensures wait_fault { result ≡ SeatEnd.WaitFault → Rose (P.faults seat.old.ready) (P.faults seat.new.ready) }
     ensures finishes { ListenedTo result (L.told seat.old.listener) (L.told seat.new.listener) }
-    // Where links tell their content: what each took.
+    // Where links tell their content: what each took, and that its calls were attested by its own origin, which is one of
+    // the listener's sockets.
     ensures tends { ((l : L.L) → IsSome (L.L.told l))
         → (p q : Passing) → seat.old.pass ≡ Some p → seat.new.pass ≡ Some q
-        → Tends T.V.token seat.old.socket seat.old.room result
-        (seat_world (L.told seat.old.listener) (around (A.calls seat.old.attestor)
-        (A.faults seat.old.attestor) (T.taken seat.old.asks) (T.faults seat.old.asks)
+        → Tends T.V.token seat.old.room result
+        (seat_world (L.sockets seat.old.listener) (L.told seat.old.listener) seat.old.starved
+        (around (A.calls seat.old.attestor) (A.faults seat.old.attestor) (T.taken seat.old.asks) (T.faults seat.old.asks)
         (C.answers seat.old.clock) p))
-        (seat_world (L.told seat.new.listener) (around (A.calls seat.new.attestor)
-        (A.faults seat.new.attestor) (T.taken seat.new.asks) (T.faults seat.new.asks)
+        (seat_world (L.sockets seat.new.listener) (L.told seat.new.listener) seat.new.starved
+        (around (A.calls seat.new.attestor) (A.faults seat.new.attestor) (T.taken seat.new.asks) (T.faults seat.new.asks)
         (C.answers seat.new.clock) q)) }
 {
     let mut pass = match seat.pass.take() {

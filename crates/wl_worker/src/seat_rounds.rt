@@ -1,16 +1,17 @@
 //! Rounds of the links of a seat.
 
-ghost use Rattle.std.specs.Prelude.{◌≡◌, ◌<◌, [], ◌∷◌, map, IsErrOf, IsSome, OnOk, OnErr};
+ghost use Rattle.std.specs.Prelude.{◌≡◌, ◌<◌, [], ◌∷◌, map, IsErrOf, IsSome};
 ghost use Rattle.std.specs.VecDeque.{deque_len, deque_capacity};
 ghost use Rattle.wl_edge.specs.Edge.{Rose};
 ghost use Rattle.wl_publish.specs.Listings.{Passing};
 ghost use Rattle.wl_worker.specs.Served.{around};
 ghost use Rattle.wl_worker.specs.Tended.{seat_world};
-ghost use Rattle.wl_worker.specs.Seating.{SeatView, Under, Fit, Goes, IsWithMemory};
+ghost use Rattle.wl_worker.specs.Seating.{SeatView, Under, Fit, Goes};
 ghost use Rattle.wl_worker.specs.Seating.{seat_view, under, finished_link};
-ghost use Rattle.wl_worker.specs.Seating.{KeepsTending, served_step, turn_step};
+ghost use Rattle.wl_worker.specs.Seating.{KeepsTending, turn_step};
+ghost use Rattle.wl_worker.specs.declared.step.Step.TheVariants.{On};
 
-use crate::ended::{Ended, RoundEnd};
+use crate::ended::{RoundEnd, starved_after};
 use crate::places::{Connection, Numbers, release};
 use crate::seat::Seat;
 use ask_mail::TokenAsks;
@@ -19,7 +20,7 @@ use std::collections::VecDeque;
 use std::sync::{Mutex, Wait};
 use wl_desk::Desk;
 use wl_edge::{Attestor, Clock, EdgeFault, Gate, Link, Listener, Ready};
-use wl_octets::{Memory, Row};
+use wl_octets::Row;
 use wl_publish::Pass;
 
 /// What contracts see of a seat, with the pass that was taken out of it.
@@ -29,9 +30,9 @@ pub(crate) trait SeatShown {
 
 impl<L: Listener, T: TokenAsks, A: Attestor, C: Clock, P: Ready<L::L>> SeatShown
     for Seat<L, T, A, C, P> {
-    ghost view = { λ s pass. seat_view s.socket s.room s.connections (L.faults s.listener) (P.faults s.ready)
-        (seat_world (L.told s.listener) (around (A.calls s.attestor) (A.faults s.attestor) (T.taken s.asks)
-        (T.faults s.asks) (C.answers s.clock) pass)) };
+    ghost view = { λ s pass. seat_view s.room s.connections (L.faults s.listener) (P.faults s.ready)
+        (seat_world (L.sockets s.listener) (L.told s.listener) s.starved (around (A.calls s.attestor) (A.faults s.attestor)
+        (T.taken s.asks) (T.faults s.asks) (C.answers s.clock) pass)) };
 }
 
 /// What contracts see of a link that is served.
@@ -40,12 +41,12 @@ pub(crate) trait LinkShown {
 }
 
 impl<L: Link> LinkShown for Connection<L> {
-    ghost shown = { λ c. under c.asker (finished_link (L.told c.link) (L.failed_receives c.link) (L.failed_sends c.link)
-        (L.stalls c.link)) c.served };
+    ghost shown = { λ c. under c.asker (finished_link (L.origin c.link) (L.told c.link) (L.failed_receives c.link)
+        (L.failed_sends c.link) (L.stalls c.link)) c.served };
 }
 
 /// Serves one round of a link that was taken out. It goes to the end of the queue, or is finished where it is
-/// over.
+/// over. A link for which memory ran out is counted, and the seat goes on.
 fn serve_one<L: Listener, T: TokenAsks, A: Attestor, C: Clock, P: Ready<L::L>, G: Gate, R: Wait>(
     rt: &R,
     desk: &Mutex<Desk<T::V>>,
@@ -55,7 +56,7 @@ fn serve_one<L: Listener, T: TokenAsks, A: Attestor, C: Clock, P: Ready<L::L>, G
     numbers: &mut Numbers,
     connection: Connection<L::L>,
     gate: &G,
-) -> Result<(), Memory>
+)
     requires place { deque_len links.old < deque_capacity links.old }
     requires fit { Fit (⟦<Seat<L, T, A, C, P> as SeatShown>⟧.view seat.old pass.old)
         (⟦<Connection<L::L> as LinkShown>⟧.shown connection
@@ -70,7 +71,7 @@ fn serve_one<L: Listener, T: TokenAsks, A: Attestor, C: Clock, P: Ready<L::L>, G
         (⟦<Seat<L, T, A, C, P> as SeatShown>⟧.view seat.new pass.new)
         (⟦<Connection<L::L> as LinkShown>⟧.shown connection
         ∷ map ⟦<Connection<L::L> as LinkShown>⟧.shown links.old.items)
-        (map ⟦<Connection<L::L> as LinkShown>⟧.shown links.new.items) (served_step result) }
+        (map ⟦<Connection<L::L> as LinkShown>⟧.shown links.new.items) On }
 {
     let Connection {
         number,
@@ -78,13 +79,11 @@ fn serve_one<L: Listener, T: TokenAsks, A: Attestor, C: Clock, P: Ready<L::L>, G
         mut link,
         mut served,
     } = connection;
-    let socket = seat.socket;
     let end = served.round(
         rt,
         desk,
         pass,
         &mut link,
-        socket,
         &mut seat.attestor,
         asker,
         &mut seat.asks,
@@ -93,8 +92,9 @@ fn serve_one<L: Listener, T: TokenAsks, A: Attestor, C: Clock, P: Ready<L::L>, G
     );
     if let RoundEnd::Ended(ended) = end {
         seat.asks.forget(rt, asker);
+        seat.starved = starved_after(seat.starved, ended);
         release(&mut seat.listener, &mut seat.ready, numbers, number, link);
-        return with_memory(ended);
+        return;
     }
     links.push_back_reserved(Connection {
         number,
@@ -102,18 +102,6 @@ fn serve_one<L: Listener, T: TokenAsks, A: Attestor, C: Clock, P: Ready<L::L>, G
         link,
         served,
     });
-    Ok(())
-}
-
-/// A seat goes on after any end of a link but want of memory.
-fn with_memory(ended: Ended) -> Result<(), Memory>
-    ensures some { OnOk result (IsWithMemory ended) }
-    ensures none { OnErr result (ended ≡ Ended.Memory) }
-{
-    match ended {
-        Ended::Memory => Err(Memory),
-        _ => Ok(()),
-    }
 }
 
 /// The first link is served a round where it may be ready, and goes to the end of the queue.
@@ -126,7 +114,7 @@ fn serve_first<L: Listener, T: TokenAsks, A: Attestor, C: Clock, P: Ready<L::L>,
     numbers: &mut Numbers,
     all: bool,
     gate: &G,
-) -> Result<(), Memory>
+)
     requires { Fit (⟦<Seat<L, T, A, C, P> as SeatShown>⟧.view seat.old pass.old)
         (map ⟦<Connection<L::L> as LinkShown>⟧.shown links.old.items) }
     ensures goes { Goes (⟦<Seat<L, T, A, C, P> as SeatShown>⟧.view seat.old pass.old)
@@ -137,18 +125,18 @@ fn serve_first<L: Listener, T: TokenAsks, A: Attestor, C: Clock, P: Ready<L::L>,
         (⟦<Seat<L, T, A, C, P> as SeatShown>⟧.view seat.old pass.old)
         (⟦<Seat<L, T, A, C, P> as SeatShown>⟧.view seat.new pass.new)
         (map ⟦<Connection<L::L> as LinkShown>⟧.shown links.old.items)
-        (map ⟦<Connection<L::L> as LinkShown>⟧.shown links.new.items) (served_step result) }
+        (map ⟦<Connection<L::L> as LinkShown>⟧.shown links.new.items) On }
 {
     let connection = match links.pop_front() {
         Some(connection) => connection,
-        None => return Ok(()),
+        None => return,
     };
     let due = all || numbers.unlist(connection.number);
     if !due {
         links.push_back_reserved(connection);
-        return Ok(());
+        return;
     }
-    serve_one(rt, desk, seat, pass, links, numbers, connection, gate)
+    serve_one(rt, desk, seat, pass, links, numbers, connection, gate);
 }
 
 /// Serves a round of each link that was listed, or of all.
@@ -161,7 +149,7 @@ fn serve_listed<L: Listener, T: TokenAsks, A: Attestor, C: Clock, P: Ready<L::L>
     numbers: &mut Numbers,
     all: bool,
     gate: &G,
-) -> Result<(), Memory>
+)
     requires { Fit (⟦<Seat<L, T, A, C, P> as SeatShown>⟧.view seat.old pass.old)
         (map ⟦<Connection<L::L> as LinkShown>⟧.shown links.old.items) }
     ensures goes { Goes (⟦<Seat<L, T, A, C, P> as SeatShown>⟧.view seat.old pass.old)
@@ -172,12 +160,11 @@ fn serve_listed<L: Listener, T: TokenAsks, A: Attestor, C: Clock, P: Ready<L::L>
         (⟦<Seat<L, T, A, C, P> as SeatShown>⟧.view seat.old pass.old)
         (⟦<Seat<L, T, A, C, P> as SeatShown>⟧.view seat.new pass.new)
         (map ⟦<Connection<L::L> as LinkShown>⟧.shown links.old.items)
-        (map ⟦<Connection<L::L> as LinkShown>⟧.shown links.new.items) (served_step result) }
+        (map ⟦<Connection<L::L> as LinkShown>⟧.shown links.new.items) On }
 {
     'links: for _ in 0..links.len() {
-        serve_first(rt, desk, seat, pass, links, numbers, all, gate)?;
+        serve_first(rt, desk, seat, pass, links, numbers, all, gate);
     }
-    Ok(())
 }
 
 /// Waits until links may be ready, and serves a round of each that was listed, or of all where none was.
@@ -218,8 +205,6 @@ pub(crate) fn serve_turn<
     }
     numbers.list(listed.as_slice());
     let all = listed.len() == 0;
-    match serve_listed(rt, desk, seat, pass, links, numbers, all, gate) {
-        Ok(()) => Ok(()),
-        Err(Memory) => Err(EdgeFault::Memory),
-    }
+    serve_listed(rt, desk, seat, pass, links, numbers, all, gate);
+    Ok(())
 }

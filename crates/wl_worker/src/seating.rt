@@ -8,6 +8,7 @@ ghost use Rattle.wl_worker.specs.Seating.{HasOpen, Fit, Goes, Stepped, Rests, En
 ghost use Rattle.wl_worker.specs.Seating.{KeepsTending, FinishesTending};
 ghost use Rattle.wl_worker.specs.Tended.{Tends};
 
+use crate::ended::{Ended, starved_after};
 use crate::places::{Connection, Numbers, release};
 use crate::seat::{Seat, SeatEnd};
 use crate::seat_rounds::{LinkShown, SeatShown, serve_turn};
@@ -42,7 +43,7 @@ fn prepare<L>(alloc: Global, links: &mut VecDeque<Connection<L>>) -> Result<Serv
     Served::start(alloc)
 }
 
-/// Accepts one link, where there is a place for it.
+/// Accepts one link, where there is a place for it. One for which memory lacks is counted and finished at once.
 fn admit<L: Listener, T: TokenAsks, A: Attestor, C: Clock, P: Ready<L::L>>(
     alloc: Global,
     seat: &mut Seat<L, T, A, C, P>,
@@ -76,8 +77,9 @@ fn admit<L: Listener, T: TokenAsks, A: Attestor, C: Clock, P: Ready<L::L>>(
     let served = match prepare(alloc, links) {
         Ok(served) => served,
         Err(Memory) => {
+            seat.starved = starved_after(seat.starved, Ended::Memory);
             seat.listener.finish(link);
-            return Step::Over(SeatEnd::Memory);
+            return Step::On;
         }
     };
     let number = numbers.take();
@@ -189,7 +191,7 @@ fn serve_rest<L: Listener, T: TokenAsks, A: Attestor, C: Clock, P: Ready<L::L>, 
     unreachable!()
 }
 
-/// Takes links and serves them until the seat has ended, but for those that it then still serves.
+/// Takes links and serves them until the seat has ended, except those that it then still serves.
 fn serve_all<L: Listener, T: TokenAsks, A: Attestor, C: Clock, P: Ready<L::L>, G: Gate, R: Wait>(
     rt: &R,
     alloc: Global,
@@ -276,7 +278,7 @@ pub(crate) fn serve_links<
         (⟦<Seat<L, T, A, C, P> as SeatShown>⟧.view seat.new pass.new)
         []
         [] result }
-    ensures tends { ((l : L.L) → IsSome (L.L.told l)) → Tends T.V.token seat.old.socket seat.old.room result
+    ensures tends { ((l : L.L) → IsSome (L.L.told l)) → Tends T.V.token seat.old.room result
         (⟦<Seat<L, T, A, C, P> as SeatShown>⟧.view seat.old pass.old).world
         (⟦<Seat<L, T, A, C, P> as SeatShown>⟧.view seat.new pass.new).world }
 {

@@ -93,6 +93,7 @@ impl Served {
         ensures sends { L.failed_sends link.old ≤ L.failed_sends link.new }
         ensures stalls { L.stalls link.old ≤ L.stalls link.new }
         ensures receives { L.failed_receives link.new ≡ L.failed_receives link.old }
+        ensures origin { L.origin link.new ≡ L.origin link.old }
     {
         let (count, flushed) = flush(link, self.written.as_slice().split_at(self.sent).1);
         self.sent += count;
@@ -125,9 +126,9 @@ impl Served {
 
     /// One round. First it sends what is unsent, and answers `Later` where the link takes nothing for now,
     /// or the end that is due. Else it receives once; feeds what came; has each call attested that became
-    /// ready; passes the point before turns; reads the pass; takes the turn; answers the asks that wait, while
-    /// an outcome has come; and sends what was written. What the link does not take stays unsent. It waits for
-    /// no answer to an ask.
+    /// ready, by the origin of the link; passes the point before turns; reads the pass; takes the turn; answers
+    /// the asks that wait, while an outcome has come; and sends what was written. What the link does not take
+    /// stays unsent. It waits for no answer to an ask.
     ///
     /// An end other than `WriteFault` and `Memory` is answered once all that is due was sent; after an end
     /// no round is to be taken. What the pass has seen has to begin with what it had seen at the end of the
@@ -138,7 +139,6 @@ impl Served {
         desk: &Mutex<Desk<T::V>>,
         pass: &mut Pass<T::V>,
         link: &mut L,
-        socket: u32,
         attestor: &mut A,
         connection: u64,
         asks: &mut T,
@@ -147,8 +147,8 @@ impl Served {
     ) -> RoundEnd
         // The publication of the last turn is one of those that the pass has seen.
         requires { HasSeenLast pass.old.seen self.old.session }
-        ensures tells { RoundTells T.V.signed (asker connection T.V.token) socket self.old self.new (L.told link.old)
-            (L.told link.new)
+        ensures tells { RoundTells T.V.signed (asker connection T.V.token) (L.origin link.old) self.old self.new
+            (L.told link.old) (L.told link.new)
             (around (A.calls attestor.old) (A.faults attestor.old) (T.taken asks.old) (T.faults asks.old)
             (C.answers clock.old) pass.old)
             (around (A.calls attestor.new) (A.faults attestor.new) (T.taken asks.new) (T.faults asks.new)
@@ -166,6 +166,7 @@ impl Served {
         ensures receives { L.failed_receives link.old ≤ L.failed_receives link.new }
         ensures sends { L.failed_sends link.old ≤ L.failed_sends link.new }
         ensures stalls { L.stalls link.old ≤ L.stalls link.new }
+        ensures origin { L.origin link.new ≡ L.origin link.old }
     {
         if let Some(end) = self.settle(link) {
             return end;
@@ -174,8 +175,8 @@ impl Served {
         let buffer = self.buffer.as_mut_slice();
         let session = &mut self.session;
         if let Err(end) = hear_and_step(
-            rt, self.alloc, desk, pass, link, socket, attestor, connection, asks, clock, gate,
-            session, buffer, &mut out,
+            rt, self.alloc, desk, pass, link, attestor, connection, asks, clock, gate, session,
+            buffer, &mut out,
         ) {
             return RoundEnd::Ended(end);
         }

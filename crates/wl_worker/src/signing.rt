@@ -1,7 +1,7 @@
 //! An identity is asked for.
 
 ghost use Rattle.std.specs.Prelude.{◌≡◌, Some, IfOk, IfSome};
-ghost use Rattle.wl_worker.specs.Upkeep.{Asks, IsShown};
+ghost use Rattle.wl_worker.specs.Upkeep.{Asks, IsShown, rest_after};
 ghost use Rattle.wl_edge.specs.declared.signer.SignerCall.TheVariants.{X509};
 
 use std::alloc::Global;
@@ -23,8 +23,9 @@ pub struct Signing<S, C> {
 
 /// What became of one ask.
 pub enum Asked<V: Voucher> {
-    /// An identity came and was kept; the note's last publication shows it.
-    Kept(Note<V>),
+    /// An identity came and was kept; the note's last publication shows it. Its ask is not to be made again for so many
+    /// seconds: 0 unless it is due again at once.
+    Kept(Note<V>, u64),
     /// An identity came and was not kept.
     Refused,
     /// The signer failed. The ticket is still in flight.
@@ -50,9 +51,10 @@ pub fn sign_once<S: Signer, C: Clock, R: Wait>(
     match signer.sign_x509(&ticket.ask) {
         Ok(signed) => {
             let now = clock.now();
+            let rest = rest_of(&signed, now);
             let mut held = desk.lock(rt);
             match install(rt, alloc, &mut held, ticket, signed, now) {
-                Ok(Some(note)) => Asked::Kept(note),
+                Ok(Some(note)) => Asked::Kept(note, rest),
                 Ok(None) => Asked::Refused,
                 Err(Memory) => Asked::Memory,
             }
@@ -60,6 +62,17 @@ pub fn sign_once<S: Signer, C: Clock, R: Wait>(
         Err(EdgeFault::Failed) => Asked::Failed(ticket),
         Err(EdgeFault::Memory) => Asked::Starved(ticket),
     }
+}
+
+/// For how many seconds an identity that was kept at this time is not asked for again. It is due again at once where its
+/// signer backdates it by half of its time or more: then for a quarter of what is left of it, at least a second.
+fn rest_of(signed: &Signed, now: u64) -> u64
+    ensures { result ≡ rest_after now signed.now }
+{
+    if !signed.is_due(now) {
+        return 0;
+    }
+    (signed.not_after.saturating_sub(now) / 4).max(1)
 }
 
 /// Gives the desk an identity with its ticket. There is a note where it was kept.

@@ -11,6 +11,6 @@ pub enum Step {
     Idle,
     /// There will be no more links.
     Closed,
-    /// The seat has ended, but for the links that it still serves.
+    /// The seat has ended, except the links that it still serves.
     Over(SeatEnd),
 }

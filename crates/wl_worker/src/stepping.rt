@@ -16,32 +16,40 @@ use ask_mail::TokenAsks;
 use std::alloc::Global;
 use std::sync::{Mutex, Wait};
 use wl_desk::Desk;
-use wl_edge::{Attestor, BEFORE_TURN, Clock, Gate, Link};
+use wl_edge::{Attestor, BEFORE_TURN, Clock, Gate, Link, Origin};
 use wl_octets::{Memory, Octets};
-use wl_publish::{Edition, Pass};
+use wl_publish::{Pass, PublishedSnapshot};
 use wl_session::{Session, SessionFault};
 
 /// A turn on the publication that was read, by the index of its entries.
-fn take_turn(session: &mut Session, edition: &Edition, out: &mut Octets) -> Result<(), Memory>
-    requires follows { MayTurn edition.now session.old }
+fn take_turn(
+    session: &mut Session,
+    published_snapshot: &PublishedSnapshot,
+    out: &mut Octets,
+) -> Result<(), Memory>
+    requires follows { MayTurn published_snapshot.now session.old }
     requires named { unnamed_in session.old ≡ None }
-    ensures { TurnTells edition.now session.old session.new out.old out.new result }
+    ensures { TurnTells published_snapshot.now session.old session.new out.old out.new result }
 {
-    match session.turn_by(edition.snapshot(), edition.index(), out) {
+    match session.turn_by(
+        published_snapshot.snapshot(),
+        published_snapshot.index(),
+        out,
+    ) {
         Ok(()) => Ok(()),
         Err(_) => Err(Memory),
     }
 }
 
 /// Feeds what came, has each call attested that became ready, reads the last publication, takes the turn,
-/// and answers the asks that wait, while an outcome has come. Where the talk fails there is no turn. What is to be sent is put behind
+/// and answers the asks that wait, while an outcome has come. Where the talk fails there is no turn. What is to be sent is put after
 /// `out`; out of memory that is of no use.
 pub fn step<A: Attestor, T: TokenAsks, C: Clock, G: Gate, R: Wait>(
     rt: &R,
     alloc: Global,
     desk: &Mutex<Desk<T::V>>,
     pass: &mut Pass<T::V>,
-    socket: u32,
+    origin: &Origin,
     attestor: &mut A,
     connection: u64,
     asks: &mut T,
@@ -52,7 +60,7 @@ pub fn step<A: Attestor, T: TokenAsks, C: Clock, G: Gate, R: Wait>(
     out: &mut Octets,
 ) -> Result<(), Memory>
     requires { HasSeenLast pass.old.seen session.old }
-    ensures tells { StepTells T.V.signed (asker connection T.V.token) socket piece.now session.old session.new out.old out.new
+    ensures tells { StepTells T.V.signed (asker connection T.V.token) origin.now piece.now session.old session.new out.old out.new
         (around (A.calls attestor.old) (A.faults attestor.old) (T.taken asks.old) (T.faults asks.old)
         (C.answers clock.old) pass.old)
         (around (A.calls attestor.new) (A.faults attestor.new) (T.taken asks.new) (T.faults asks.new)
@@ -65,10 +73,10 @@ pub fn step<A: Attestor, T: TokenAsks, C: Clock, G: Gate, R: Wait>(
         Err(SessionFault::Protocol(_)) => return Ok(()),
         Err(SessionFault::Memory) => return Err(Memory),
     }
-    attest_all(socket, attestor, session, out)?;
+    attest_all(origin, attestor, session, out)?;
     gate.pass(BEFORE_TURN);
-    let edition = pass.read()?;
-    take_turn(session, &edition, out)?;
+    let published_snapshot = pass.read()?;
+    take_turn(session, &published_snapshot, out)?;
     answer_ready(rt, alloc, desk, connection, asks, clock, session, out)?;
     Ok(())
 }
@@ -81,7 +89,6 @@ pub fn hear_and_step<L: Link, A: Attestor, T: TokenAsks, C: Clock, G: Gate, R: W
     desk: &Mutex<Desk<T::V>>,
     pass: &mut Pass<T::V>,
     link: &mut L,
-    socket: u32,
     attestor: &mut A,
     connection: u64,
     asks: &mut T,
@@ -93,8 +100,8 @@ pub fn hear_and_step<L: Link, A: Attestor, T: TokenAsks, C: Clock, G: Gate, R: W
 ) -> Result<(), Ended>
     requires seen { HasSeenLast pass.old.seen session.old }
     requires room { 0 < length buffer.old }
-    ensures tells { HearTells T.V.signed (asker connection T.V.token) socket session.old session.new out.old out.new
-        (L.told link.old) (L.told link.new)
+    ensures tells { HearTells T.V.signed (asker connection T.V.token) (L.origin link.old) session.old session.new
+        out.old out.new (L.told link.old) (L.told link.new)
         (around (A.calls attestor.old) (A.faults attestor.old) (T.taken asks.old) (T.faults asks.old)
         (C.answers clock.old) pass.old)
         (around (A.calls attestor.new) (A.faults attestor.new) (T.taken asks.new) (T.faults asks.new)
@@ -106,6 +113,7 @@ pub fn hear_and_step<L: Link, A: Attestor, T: TokenAsks, C: Clock, G: Gate, R: W
     ensures receives { L.failed_receives link.old ≤ L.failed_receives link.new }
     ensures sends { L.failed_sends link.new ≡ L.failed_sends link.old }
     ensures stalls { L.stalls link.new ≡ L.stalls link.old }
+    ensures origin { L.origin link.new ≡ L.origin link.old }
 {
     let count = match hear(link, buffer) {
         Ok(count) => count,
@@ -113,7 +121,19 @@ pub fn hear_and_step<L: Link, A: Attestor, T: TokenAsks, C: Clock, G: Gate, R: W
     };
     let piece = buffer.split_at(count).0;
     match step(
-        rt, alloc, desk, pass, socket, attestor, connection, asks, clock, gate, piece, session, out,
+        rt,
+        alloc,
+        desk,
+        pass,
+        link.origin(),
+        attestor,
+        connection,
+        asks,
+        clock,
+        gate,
+        piece,
+        session,
+        out,
     ) {
         Ok(()) => Ok(()),
         Err(Memory) => Err(Ended::Memory),

@@ -14,8 +14,8 @@ use std::alloc::Global;
 use std::sync::{Mutex, Wait};
 use wl_desk::Desk;
 use wl_edge::{BEFORE_KEEPING, BEFORE_SIGNING, BEFORE_UPKEEP, Bell, Clock, Gate, Signer, Upstream};
-use wl_entry::Voucher;
-use wl_octets::{Memory, Octets, Row};
+use wl_entry::{Ask, Voucher};
+use wl_octets::{Memory, Row};
 use wl_publish::Note;
 use wl_store::Ticket;
 
@@ -183,14 +183,14 @@ fn sign_identity<S: Signer, C: Clock, B: Bell, R: Wait>(
         desk.lock(rt).failed(ticket);
         return;
     }
-    let entry_id = ticket.ask.entry_id.copy(alloc).ok();
+    let ask = ticket.ask.copy(alloc).ok();
     let before = clock.now();
     let asked = sign_once(rt, alloc, desk, signer, clock, ticket);
     let now = clock.now();
     if matches!(&asked, Asked::Failed(_)) {
         end_by_time(rt, queue, bells, before, now);
     }
-    pace(rt, queue, entry_id, &asked, now);
+    pace(rt, queue, ask, &asked, now);
     settle(rt, desk, queue, bells, asked, pause, now);
 }
 
@@ -259,18 +259,18 @@ fn end_by_time<V: Voucher, B: Bell, R: Wait>(
     }
 }
 
-/// An entry whose answer was not kept is slowed down, until one is kept.
+/// An ask whose answer was not kept is slowed down, until one is kept; and so is one whose answer is due again at once.
 fn pace<V: Voucher, R: Wait>(
     rt: &R,
     queue: &TicketQueue<V>,
-    entry_id: Option<Octets>,
+    ask: Option<Ask>,
     asked: &Asked<V>,
     now: u64,
 ) {
-    let Some(entry_id) = entry_id else { return };
+    let Some(ask) = ask else { return };
     match asked {
-        Asked::Kept(_) => queue.speed_up(rt, &entry_id),
-        Asked::Refused => queue.slow_down(rt, entry_id, now),
+        Asked::Kept(_, rest) => queue.rest(rt, ask, now, *rest),
+        Asked::Refused => queue.slow_down(rt, ask, now),
         Asked::Failed(_) | Asked::Starved(_) | Asked::Memory => {}
     }
 }
@@ -287,7 +287,7 @@ fn settle<V: Voucher, B: Bell, R: Wait>(
     now: u64,
 ) {
     match asked {
-        Asked::Kept(note) => {
+        Asked::Kept(note, _) => {
             drop(note);
             ring_all(bells);
         }

@@ -41,7 +41,6 @@ fn serve_link<G: Gate, R: Wait>(
         &desk,
         &mut pass,
         link,
-        0,
         &mut outside.attestor,
         0,
         &mut outside.asks,

@@ -2,17 +2,18 @@
 
 mod outside;
 mod rooms;
+mod starving;
 
 ghost use Rattle.std.specs.Prelude.{IsSome};
 
 use crate::connection_tests::desks::open;
 use crate::connection_tests::outside::{Stop, numbers};
-use outside::{MemorySeat, seat};
+use outside::{MemorySeat, SeatWith, seat};
 use std::alloc::Global;
 use std::sync::{Mutex, Wait};
 use std::test::Fail;
 use wl_desk::Desk;
-use wl_edge::{MemoryLink, MemoryReady, OpenGate, Ready};
+use wl_edge::{Attestor, MemoryLink, MemoryReady, OpenGate, Ready};
 use wl_entry::Free;
 use wl_worker::{SeatEnd, serve_seat};
 
@@ -127,11 +128,11 @@ fn are_due(links: &[MemoryLink], due: &[(bool, u64)]) -> bool {
 }
 
 /// Serves a seat of which no link was finished yet.
-fn serve_first<P: Ready<MemoryLink>, R: Wait>(
+fn serve_first<A: Attestor, P: Ready<MemoryLink>, R: Wait>(
     rt: &R,
     alloc: Global,
     desk: &Mutex<Desk<Free>>,
-    seat: &mut MemorySeat<P>,
+    seat: &mut SeatWith<A, P>,
 ) -> Result<SeatEnd, Stop>
     requires { IsSome seat.old.pass }
 {
@@ -143,10 +144,10 @@ fn serve_first<P: Ready<MemoryLink>, R: Wait>(
 }
 
 /// Serves a seat on a desk of its own of three seats: its end, and how many seats the desk has then.
-fn serve<P: Ready<MemoryLink>, R: Wait>(
+fn serve<A: Attestor, P: Ready<MemoryLink>, R: Wait>(
     rt: &R,
     alloc: Global,
-    seat: &mut MemorySeat<P>,
+    seat: &mut SeatWith<A, P>,
 ) -> Result<(SeatEnd, u32), Stop> {
     let (desk, pass) = open(rt, alloc, 3)?;
     seat.pass = Some(pass);
@@ -182,5 +183,20 @@ fn wrong_case<R: Wait>(rt: &R, alloc: Global) -> Result<Option<&'static str>, St
 #[test]
 fn seats_end_as_is_due(rt: HostRuntime) -> Result<(), Fail> {
     assert_eq!(rt; wrong_case(&rt, rt.alloc())?, None);
+    Ok(())
+}
+
+/// Three links, each from a socket of its own, on two places.
+#[test]
+fn each_link_is_attested_by_its_own_origin(rt: HostRuntime) -> Result<(), Fail> {
+    let alloc = rt.alloc();
+    let ready = MemoryReady::start(alloc, numbers(alloc, &[])?);
+    let mut seat = seat(alloc, 2, &[0, 0, 0], &[], &[], ready)?;
+    assert_eq!(rt; serve(&rt, alloc, &mut seat)?, (SeatEnd::End, 2));
+    let calls = seat.attestor.calls();
+    assert_eq!(rt; calls.len(), 3);
+    for (place, call) in calls.iter().enumerate() {
+        assert_eq!(rt; call.origin.socket as usize, place);
+    }
     Ok(())
 }

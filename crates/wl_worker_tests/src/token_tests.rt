@@ -15,7 +15,7 @@ use wl_worker::{Ended, RoundEnd};
 /// What a caller was sent whose ask waits.
 const ASKED: [&[u8]; 3] = [SERVER_SETTINGS, ACK, CREDIT_8];
 
-/// Whether a link took these, one behind the other, and nothing else.
+/// Whether a link took these, one after the other, and nothing else.
 fn took(alloc: Global, callers: &Callers, caller: usize, parts: &[&[u8]]) -> Result<bool, Stop> {
     let due = joined(alloc, parts)?;
     Ok(callers.took(caller) == due.as_slice())

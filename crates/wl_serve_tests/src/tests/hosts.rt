@@ -4,7 +4,7 @@ use super::bytes::{DOC, HEAD, LEAF, MESSAGE, ONE, OPENING};
 use std::alloc::{AllocError, Global};
 use std::sync::Wait;
 use std::thread::Threads;
-use wl_edge::{Gate, Heard, LinkPlan, ListenerPlan, Script};
+use wl_edge::{Gate, Heard, LinkPlan, ListenerPlan, Origin, Script};
 use wl_entry::Signed;
 use wl_octets::{Memory, Octets, Row};
 use wl_selector::{Selector, SelectorFault, Selectors, SelectorsFault};
@@ -89,7 +89,7 @@ pub fn smooth_link(alloc: Global, pieces: &[&[u8]], room: usize) -> Result<LinkP
     for piece in pieces {
         gives.push(Heard::Piece(Octets::from_slice(alloc, piece)?))?;
     }
-    Ok(LinkPlan::smooth(alloc, gives, 64, room))
+    Ok(LinkPlan::smooth(alloc, Origin::nowhere(alloc)?, gives, 64, room))
 }
 
 fn link(alloc: Global, trial: &Trial) -> Result<LinkPlan, Memory> {
@@ -112,7 +112,7 @@ fn listener(alloc: Global, trial: &Trial) -> Result<ListenerPlan, Memory> {
     })
 }
 
-/// Puts an item behind others.
+/// Puts an item after others.
 pub fn push<T: Drop>(items: &mut Row<T>, item: T) -> Result<(), Memory> {
     items.push(item)?;
     Ok(())
@@ -171,15 +171,33 @@ fn documents(alloc: Global, trial: &Trial) -> Result<Script<Octets>, Memory> {
     Ok(Script::start(answers, numbers(alloc, trial.pulls)?))
 }
 
-/// A host that prepares what is to be served.
-pub fn host<G>(alloc: Global, trial: &Trial, gate: G) -> Result<MemoryHost<G>, Stop>
-where
-    G: Drop,
-{
+/// Seats, the last one first, that are all alike.
+fn alike_seats(alloc: Global, trial: &Trial) -> Result<Row<SeatPlan>, Stop> {
     let mut seats = Row::empty(alloc);
     for _ in 0..trial.seats {
         push(&mut seats, seat(alloc, trial)?)?;
     }
+    Ok(seats)
+}
+
+/// A seat of the first trial, and then one of the other.
+fn two_seats(alloc: Global, first: &Trial, other: &Trial) -> Result<Row<SeatPlan>, Stop> {
+    let mut seats = Row::empty(alloc);
+    push(&mut seats, seat(alloc, other)?)?;
+    push(&mut seats, seat(alloc, first)?)?;
+    Ok(seats)
+}
+
+/// A host that prepares what is to be served, with these seats.
+fn host_of<G>(
+    alloc: Global,
+    trial: &Trial,
+    gate: G,
+    seats: Row<SeatPlan>,
+) -> Result<MemoryHost<G>, Stop>
+where
+    G: Drop,
+{
     Ok(MemoryHost::start(Some(HostPlan {
         documents: documents(alloc, trial)?,
         tokens: Script::start(Row::empty(alloc), Row::empty(alloc)),
@@ -199,8 +217,24 @@ pub fn served<G: Gate + Sync + Drop, R: Threads + Wait + Sync>(
     trial: &Trial,
     gate: G,
 ) -> Result<(ServeEnd, Option<Parts<MemoryHost<G>>>), Stop> {
-    let mut host = host(alloc, trial, gate)?;
+    let seats = alike_seats(alloc, trial)?;
+    let mut host = host_of(alloc, trial, gate, seats)?;
     let mut kept = None;
     let end = serve(rt, alloc, trial.configuration, &mut host, &mut kept);
+    Ok((end, kept))
+}
+
+/// Serves two sockets, whose seats are those of the two trials, by the configuration of the first.
+pub fn served_two<G: Gate + Sync + Drop, R: Threads + Wait + Sync>(
+    rt: &R,
+    alloc: Global,
+    first: &Trial,
+    other: &Trial,
+    gate: G,
+) -> Result<(ServeEnd, Option<Parts<MemoryHost<G>>>), Stop> {
+    let seats = two_seats(alloc, first, other)?;
+    let mut host = host_of(alloc, first, gate, seats)?;
+    let mut kept = None;
+    let end = serve(rt, alloc, first.configuration, &mut host, &mut kept);
     Ok((end, kept))
 }

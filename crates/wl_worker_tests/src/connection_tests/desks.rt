@@ -3,7 +3,7 @@
 use super::outside::Stop;
 use std::alloc::Global;
 use std::sync::{Mutex, Wait};
-use wl_desk::{Desk, last_edition};
+use wl_desk::{Desk, last_snapshot};
 use wl_entry::{Free, Signed};
 use wl_manager::Manager;
 use wl_octets::{Memory, Octets, Row};
@@ -87,7 +87,7 @@ fn unsigned<R: Wait>(
     seats: u32,
 ) -> Result<(Desk<Free>, Vec<Pass<Free>>), Stop> {
     let manager = manager(alloc)?;
-    let first = last_edition(alloc, &manager)?;
+    let first = last_snapshot(alloc, &manager)?;
     let (publisher, passes) = start(rt, alloc, first, PASSES)?;
     Ok((Desk::start(manager, publisher, seats), passes.into_vec()))
 }

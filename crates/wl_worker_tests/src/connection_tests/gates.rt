@@ -26,7 +26,7 @@ impl Gate for Counting {
     }
 }
 
-/// What a link gives, and how many turns are due: one for each piece, but for the one that is a fault.
+/// What a link gives, and how many turns are due: one for each piece, except the one that is a fault.
 const TURNS: [(&[&[&[u8]]], u64); 4] = [
     (&[], 0),
     (&[&[OPENING], &[HEAD], &[EMPTY]], 3),

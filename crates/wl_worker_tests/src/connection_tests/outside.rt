@@ -2,7 +2,7 @@
 
 use ask_mail::DirectAsks;
 use std::alloc::{AllocError, Global};
-use wl_edge::{Heard, LinkPlan, MemoryAttestor, MemoryClock, MemorySigner, Script};
+use wl_edge::{Heard, LinkPlan, MemoryAttestor, MemoryClock, MemorySigner, Origin, Script};
 use wl_entry::JwtToken;
 use wl_octets::{Memory, Octets, Row};
 use wl_selector::{Selector, Selectors};
@@ -31,7 +31,7 @@ impl From<AllocError> for Stop {
     }
 }
 
-/// All of these bytes, one behind the other.
+/// All of these bytes, one after the other.
 pub fn joined(alloc: Global, parts: &[&[u8]]) -> Result<Octets, Memory> {
     let mut all = Octets::empty(alloc);
     for part in parts {
@@ -110,7 +110,7 @@ pub fn plan(alloc: Global, pieces: &[&[&[u8]]]) -> Result<LinkPlan, Memory> {
     for parts in pieces {
         gives.push(Heard::Piece(joined(alloc, parts)?))?;
     }
-    Ok(LinkPlan::smooth(alloc, gives, 64, 4096))
+    Ok(LinkPlan::smooth(alloc, Origin::nowhere(alloc)?, gives, 64, 4096))
 }
 
 /// What stands around a link.

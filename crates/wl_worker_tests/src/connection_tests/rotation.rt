@@ -66,7 +66,6 @@ fn serve_beside<R: Wait>(
         desk,
         pass,
         link,
-        0,
         &mut outside.attestor,
         0,
         &mut outside.asks,

@@ -10,14 +10,11 @@ use wl_edge::{
 use wl_octets::{Memory, Row};
 use wl_worker::Seat;
 
+/// A seat whose calls are attested and whose links are watched by these.
+pub type SeatWith<A, P> = Seat<MemoryListener, DirectAsks<MemorySigner>, A, MemoryClock, P>;
+
 /// A seat whose links are watched by this.
-pub type MemorySeat<P> = Seat<
-    MemoryListener,
-    DirectAsks<MemorySigner>,
-    MemoryAttestor,
-    MemoryClock,
-    P,
->;
+pub type MemorySeat<P> = SeatWith<MemoryAttestor, P>;
 
 /// Whether a link took its whole talk, or else nothing.
 pub fn took(link: &MemoryLink, whole: bool) -> bool {
@@ -27,19 +24,23 @@ pub fn took(link: &MemoryLink, whole: bool) -> bool {
     }
 }
 
-/// A link that gives a call and then its end, and puts off so many sendings.
-fn link(alloc: Global, stalls: u64) -> Result<LinkPlan, Memory> {
+/// A link from the socket of this number that gives a call and then its end, and puts off so many sendings.
+fn link(alloc: Global, socket: u32, stalls: u64) -> Result<LinkPlan, Memory> {
     let mut plan = plan(alloc, &[&[OPENING, HEAD, EMPTY]])?;
+    plan.origin.socket = socket;
     for number in 0..stalls {
         plan.stalling.push(number)?;
     }
     Ok(plan)
 }
 
+/// Such links, each from a socket of its own, numbered from 0.
 fn links(alloc: Global, stalls: &[u64]) -> Result<Row<LinkPlan>, Memory> {
     let mut plans = Row::empty(alloc);
+    let mut socket: u32 = 0;
     for number in stalls {
-        plans.push(link(alloc, *number)?)?;
+        plans.push(link(alloc, socket, *number)?)?;
+        socket = socket.saturating_add(1);
     }
     Ok(plans)
 }
@@ -73,7 +74,6 @@ pub fn seat<P: Drop>(
     let outside = memory_outside(alloc, 100, &[], &[])?;
     Ok(Seat {
         listener,
-        socket: 0,
         asks: outside.asks,
         connections: 0,
         attestor: outside.attestor,
@@ -82,5 +82,6 @@ pub fn seat<P: Drop>(
         end: None,
         ready,
         room,
+        starved: 0,
     })
 }

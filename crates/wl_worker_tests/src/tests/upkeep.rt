@@ -8,7 +8,7 @@ use std::sync::atomic::{AtomicU64, Ordering};
 use std::sync::{Arc, Mutex, Wait};
 use std::test::Fail;
 use std::thread::{Threads, join_mut};
-use wl_desk::{Desk, last_edition};
+use wl_desk::{Desk, last_snapshot};
 use wl_edge::{
     BEFORE_KEEPING, BEFORE_UPKEEP, MemoryBell, MemoryClock, MemorySigner, MemoryUpstream, OpenGate,
     Script, Signer, SignerCall,
@@ -20,13 +20,13 @@ use wl_publish::start;
 use wl_store::Ticket;
 use wl_worker::{
     AskHub, Asked, Kept, Synced, TicketQueue, keep_once, keep_time, pull_documents, sign_asks,
-    sign_once, sync_once,
+    sign_next, sign_once, sync_once,
 };
 
 /// A desk of this document, for so many seats.
 fn open<R: Wait>(rt: &R, alloc: Global, document: &[u8], seats: u32) -> Result<Desk<Free>, Fail> {
     let manager: Manager<Free> = Manager::start(alloc, document)?;
-    let first = last_edition(alloc, &manager)?;
+    let first = last_snapshot(alloc, &manager)?;
     let (publisher, _) = start(rt, alloc, first, 1)?;
     Ok(Desk::start(manager, publisher, seats))
 }
@@ -92,7 +92,7 @@ fn ask<R: Wait, S: Signer<V = Free>>(
     counts: &mut Counts,
 ) {
     match sign_once(rt, alloc, desk, signer, clock, ticket) {
-        Asked::Kept(note) => {
+        Asked::Kept(note, _) => {
             counts.number = note.number();
             counts.kept = counts.kept.saturating_add(1);
         }
@@ -323,6 +323,62 @@ fn a_failed_ask_is_asked_again_after_a_pause(rt: HostRuntime) -> Result<(), Fail
     }
     // the keeper rings at its first look, and the signer after each identity
     assert!(rt; beside.bells[0].rings() >= 3 && beside.bells[1].rings() >= 3);
+    Ok(())
+}
+
+/// Puts the tickets of a look into the queue. A look reads the clock twice.
+fn queue_due<R: Wait>(
+    rt: &R,
+    alloc: Global,
+    desk: &Mutex<Desk<Free>>,
+    queue: &TicketQueue<Free>,
+    keeper: &mut MemoryClock,
+) {
+    queue.tell_time(rt, wl_edge::Clock::now(keeper));
+    match keep_once(rt, alloc, desk, keeper) {
+        Kept::Done(note, tickets) => {
+            drop(note);
+            let mut left = tickets.into_vec();
+            left.reverse();
+            'left: while let Some(ticket) = left.pop() {
+                if let Some(ticket) = queue.put(rt, ticket) {
+                    desk.lock(rt).failed(ticket);
+                }
+            }
+            left.destroy_empty();
+        }
+        Kept::Memory => {}
+    }
+}
+
+/// Identities from 0 to 200 come at 150, 152 and 162. The first one's ask rests until 162, so that the ask that failed at
+/// 150 goes before it.
+#[test]
+fn an_identity_that_is_due_at_once_rests(rt: HostRuntime) -> Result<(), Fail> {
+    let alloc = rt.alloc();
+    let mut signer = signer(alloc, &[(0, 200)], 1)?;
+    let hub = AskHub::start(alloc, 2, 1)?;
+    let bells = [MemoryBell::start()];
+    // before, at and after the first; before and after the second, which fails; and so on
+    let times = [150, 150, 150, 150, 150, 152, 152, 152, 162];
+    let mut clock = MemoryClock::start(numbers(alloc, &times)?);
+    let looks = [150, 150, 151, 151, 152, 152, 162];
+    let mut keeper = MemoryClock::start(numbers(alloc, &looks)?);
+    let desk = Mutex::new(open(&rt, alloc, TWO, 1)?);
+    let queue = TicketQueue::start(alloc, hub);
+    for asks in [2, 0, 1, 1] {
+        queue_due(&rt, alloc, &desk, &queue, &mut keeper);
+        for _ in 0..asks {
+            sign_next(&rt, alloc, &desk, &queue, &mut signer, &mut clock, &bells);
+        }
+    }
+    queue.end();
+    desk.into_inner().end(&rt);
+    let asked = [b"e1".as_slice(), b"e2", b"e2", b"e1"];
+    assert_eq!(rt; signer.calls().len(), asked.len());
+    for (call, entry) in signer.calls().iter().zip(asked) {
+        assert_eq!(rt; entry_asked(call), entry);
+    }
     Ok(())
 }
 

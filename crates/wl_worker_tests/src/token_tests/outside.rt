@@ -65,7 +65,6 @@ impl Caller {
             desk,
             &mut self.pass,
             &mut self.link,
-            0,
             &mut outside.attestor,
             connection,
             asks,

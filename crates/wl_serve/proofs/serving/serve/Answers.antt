@@ -5,10 +5,10 @@ use Rattle.wl_serve.proofs.Ran.{some_seats, idle_seats, serve_tells}
 use Rattle.wl_serve.proofs.serving.serve.Goals as goal
 
 pub serve_parts-end-requires-clause-some : goal.serve_parts-end-requires-clause-some
-serve_parts-end-requires-clause-some g c κs within = (some_seats g.B.Binder.tells c.in-Ok-prepare.parts.seats.items (λ s. record { socket = s.socket; room = s.room; listener = g.B.Listen.Listener.told s.listener; listener_faults = g.B.Listen.Listener.faults s.listener; ready_faults = g.B.Poll.Ready.faults s.ready; attestor = g.B.Att.Attestor.calls s.attestor; attestor_faults = g.B.Att.Attestor.faults s.attestor; asks = None; ask_faults = s.asks.faults; clock = g.B.Time.Clock.answers s.clock; pass = s.pass; end = s.end }) c.in-Ok.config (subst Within c.config.view_is c.config.invariant) c.in-Ok-prepare.ensures.prepared.seats).0
+serve_parts-end-requires-clause-some g c κs within = (some_seats g.B.Binder.tells c.in-Ok-prepare.parts.seats.items (λ s. record { room = s.room; sockets = g.B.Listen.Listener.sockets s.listener; listener = g.B.Listen.Listener.told s.listener; listener_faults = g.B.Listen.Listener.faults s.listener; ready_faults = g.B.Poll.Ready.faults s.ready; attestor = g.B.Att.Attestor.calls s.attestor; attestor_faults = g.B.Att.Attestor.faults s.attestor; asks = None; ask_faults = s.asks.faults; clock = g.B.Time.Clock.answers s.clock; starved = s.starved; pass = s.pass; end = s.end }) c.in-Ok.config (subst Within c.config.view_is c.config.invariant) c.in-Ok-prepare.ensures.prepared.seats).0
 
-pub serve_parts-end-requires-clause-few : goal.serve_parts-end-requires-clause-few
-serve_parts-end-requires-clause-few g c κs within = (some_seats g.B.Binder.tells c.in-Ok-prepare.parts.seats.items (λ s. record { socket = s.socket; room = s.room; listener = g.B.Listen.Listener.told s.listener; listener_faults = g.B.Listen.Listener.faults s.listener; ready_faults = g.B.Poll.Ready.faults s.ready; attestor = g.B.Att.Attestor.calls s.attestor; attestor_faults = g.B.Att.Attestor.faults s.attestor; asks = None; ask_faults = s.asks.faults; clock = g.B.Time.Clock.answers s.clock; pass = s.pass; end = s.end }) c.in-Ok.config (subst Within c.config.view_is c.config.invariant) c.in-Ok-prepare.ensures.prepared.seats).1
+pub serve_parts-end-requires-clause-at_most : goal.serve_parts-end-requires-clause-at_most
+serve_parts-end-requires-clause-at_most g c κs within = (some_seats g.B.Binder.tells c.in-Ok-prepare.parts.seats.items (λ s. record { room = s.room; sockets = g.B.Listen.Listener.sockets s.listener; listener = g.B.Listen.Listener.told s.listener; listener_faults = g.B.Listen.Listener.faults s.listener; ready_faults = g.B.Poll.Ready.faults s.ready; attestor = g.B.Att.Attestor.calls s.attestor; attestor_faults = g.B.Att.Attestor.faults s.attestor; asks = None; ask_faults = s.asks.faults; clock = g.B.Time.Clock.answers s.clock; starved = s.starved; pass = s.pass; end = s.end }) c.in-Ok.config (subst Within c.config.view_is c.config.invariant) c.in-Ok-prepare.ensures.prepared.seats).1
 
 pub serve_parts-end-requires-clause-idle : goal.serve_parts-end-requires-clause-idle
 serve_parts-end-requires-clause-idle g c κs within = idle_seats _ _ _ c.in-Ok-prepare.ensures.prepared

@@ -12,7 +12,7 @@ returns-in-Ok-serve_manager g c =
     (g.U.Upstream.faults c.args.upkeep.now.upstream) (g.U.Upstream.faults c.pull.new.self)
     c.empty-document.result c.pull.new.into c.as_slice.result.now c.empty-document.ensures c.as_slice.ensures c.in-Ok.ensures.gives
     c.in-Ok-start_strict.manager c.in-Ok-start_strict.ensures.ok c.in-Ok-serve_manager.ensures.pulled _ _ c.in-Ok-serve_manager.ensures.served)
-    c.end_of_all.result (c.end_of_all.ensures ∙ ap end_of (ends_shown c.serve_manager.new.seats (λ s. record { socket = s.socket; room = s.room; listener = g.L.Listener.told s.listener; listener_faults = g.L.Listener.faults s.listener; ready_faults = g.P.Ready.faults s.ready; attestor = g.A.Attestor.calls s.attestor; attestor_faults = g.A.Attestor.faults s.attestor; asks = None; ask_faults = s.asks.faults; clock = g.C.Clock.answers s.clock; pass = s.pass; end = s.end })))
+    c.end_of_all.result (c.end_of_all.ensures ∙ ap end_of (ends_shown c.serve_manager.new.seats (λ s. record { room = s.room; sockets = g.L.Listener.sockets s.listener; listener = g.L.Listener.told s.listener; listener_faults = g.L.Listener.faults s.listener; ready_faults = g.P.Ready.faults s.ready; attestor = g.A.Attestor.calls s.attestor; attestor_faults = g.A.Attestor.faults s.attestor; asks = None; ask_faults = s.asks.faults; clock = g.C.Clock.answers s.clock; starved = s.starved; pass = s.pass; end = s.end })))
 
 pub returns-in_default : goal.returns-in_default
 returns-in_default g c = (

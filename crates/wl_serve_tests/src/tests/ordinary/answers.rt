@@ -7,7 +7,7 @@ use super::bytes::{
 };
 use wl_octets::{Memory, Octets};
 
-/// Puts these so many times behind others.
+/// Puts these so many times after others.
 pub fn put_often(into: &mut Octets, bytes: &[u8], count: usize) -> Result<(), Memory> {
     for _ in 0..count {
         into.push_slice(bytes)?;
@@ -20,7 +20,7 @@ pub fn digits(number: u8) -> [u8; 2] {
     [b'0' + number / 10, b'0' + number % 10]
 }
 
-/// Puts a certificate up to what stands behind its times.
+/// Puts a certificate up to what stands after its times.
 fn put_times(into: &mut Octets, signing: &Signing) -> Result<(), Memory> {
     into.push_slice(BEFORE_TIMES)?;
     into.push_slice(signing.from_text)?;

@@ -45,7 +45,7 @@ pub const CLIENTS: [Client; 3] = [
 ];
 
 /// What each client sends, a piece for each turn; an empty piece is idle. Its heads have Huffman texts, and the later ones
-/// indices of the first one's headers. A PING is behind each DATA of its own and, in the fifth piece and the last but one,
+/// indices of the first one's headers. A PING is after each DATA of its own and, in the fifth piece and the last but one,
 /// for each of the server's, where the identities come in four; steps of 60,000 bytes make room for the second message.
 pub const PIECES: [&[u8]; 8] = [
     b"PRI * HTTP/2.0\r\n\r\nSM\r\n\r\n\0\0\0\x04\0\0\0\0\0",
@@ -119,7 +119,7 @@ pub const NEXT: Signing = Signing {
     key: 2,
 };
 
-/// A certificate up to its times, between them, behind them up to the last two bytes of its name, and behind that.
+/// A certificate up to its times, between them, after them up to the last two bytes of its name, and after that.
 pub const BEFORE_TIMES: &[u8] = b"0X0Q\xa0\x03\x02\x01\x02\x02\x01\x010\x000\x000\x1e\x17\x0d";
 
 pub const BETWEEN_TIMES: &[u8] = b"\x17\x0d";
@@ -129,7 +129,7 @@ pub const BEHIND_TIMES: &[u8] =
 
 pub const BEHIND_NAME: &[u8] = b"0\x00\x03\x01\x00";
 
-/// How many times ten bytes there are behind the certificate of a chain, in a key, and in a bundle.
+/// How many times ten bytes there are after the certificate of a chain, in a key, and in a bundle.
 pub const CHAIN_REST: usize = 141;
 
 pub const KEY: usize = 14;
@@ -145,7 +145,7 @@ pub const BEFORE_KEY: &[u8] = b"\x1a\x8c\x01";
 
 pub const BEFORE_OWN_BUNDLE: &[u8] = b"\x22\xb0\x09";
 
-/// What stands before the domain of a bundle, behind the tag, and before the bundle.
+/// What stands before the domain of a bundle, after the tag, and before the bundle.
 pub const BEFORE_DOMAIN: &[u8] = b"\xc1\x09\x0a\x0cspiffe://";
 
 pub const BEFORE_BUNDLE: &[u8] = b"\x12\xb0\x09";

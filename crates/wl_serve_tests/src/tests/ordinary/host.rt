@@ -119,10 +119,13 @@ fn identities(alloc: Global) -> Result<Script<Signed>, Memory> {
     Ok(Script::start(answers, Row::empty(alloc)))
 }
 
+/// How often an ask for an identity reads the clock: before it, as its answer is judged, and after it.
+const READS: usize = 3;
+
 /// The beginning of the first identities for each of them, then that of the next ones.
 fn signer_times(alloc: Global) -> Result<Row<u64>, Memory> {
     let mut times = Vec::new(alloc);
-    for _ in 0..ENTRIES {
+    for _ in 0..ENTRIES as usize * READS {
         times.push(FIRST.from)?;
     }
     times.push(NEXT.from)?;

@@ -1,4 +1,4 @@
-use Rattle.wl_worker.proofs.Showing.{taken_is_shown}
+use Rattle.wl_worker.proofs.PublishedSteps.{taken_is_shown}
 use Rattle.wl_worker.proofs.documents.take_document.Goals as goal
 
 pub returns-in-Ok-note : goal.returns-in-Ok-note

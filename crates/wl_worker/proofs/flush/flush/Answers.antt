@@ -3,7 +3,7 @@ use Rattle.std.proofs.lemmas.List.{append-nil}
 use Rattle.std.proofs.Math.Seq.{take-add}
 use Rattle.wl_edge.specs.Links.{LinkLog, with_taken}
 use Rattle.wl_worker.specs.Served.{LinkGains}
-use Rattle.wl_worker.proofs.Gaining.{link_then}
+use Rattle.wl_worker.proofs.Growth.{link_then}
 use Rattle.wl_worker.proofs.flush.flush.Goals as goal
 
 -- a link that took some bytes
@@ -26,5 +26,6 @@ sends-preserved g c =
       took = took_more _ _ _ c.sends.sent c.in-Took.count c.args.bytes.now _ inv.took c.split_at.ensures.back takes.takes.2;
       sends = omega (arith, inv.sends, takes.later);
       stalls = omega (arith, inv.stalls, takes.stalls_later);
+      origin = c.in-Took.ensures.origin ∙ inv.origin;
       receives = c.in-Took.ensures.receives ∙ inv.receives;
     }

@@ -8,6 +8,7 @@ invariant-sends g l = record {
   took : LinkGains (g.L.Link.told l.fn.link) (g.L.Link.told l.link) [] (take l.sent l.bytes);
   sends : g.L.Link.failed_sends l.fn.link ≤ g.L.Link.failed_sends l.link;
   stalls : g.L.Link.stalls l.fn.link ≤ g.L.Link.stalls l.link;
+  origin : g.L.Link.origin l.link ≡ g.L.Link.origin l.fn.link;
   receives : g.L.Link.failed_receives l.link ≡ g.L.Link.failed_receives l.fn.link;
 }
 

@@ -5,7 +5,7 @@ use Rattle.wl_edge.specs.declared.link.Heard.{Heard}
 use Rattle.wl_edge.specs.declared.link.Heard.TheVariants as heard
 use Rattle.wl_edge.specs.declared.link.Received.TheVariants as received
 use Rattle.wl_worker.specs.Served.{LinkGains}
-use Rattle.wl_worker.proofs.Gaining.{link_none}
+use Rattle.wl_worker.proofs.Growth.{link_none}
 use Rattle.wl_worker.proofs.hearing.hear.Goals as goal
 
 -- a log with one more answer

@@ -1,4 +1,4 @@
-use Rattle.wl_worker.proofs.Lasting.{none_ended}
+use Rattle.wl_worker.proofs.ExpiredGone.{none_ended}
 use Rattle.wl_worker.proofs.keeper.claim.Goals as goal
 
 pub returns-in-Ok-note : goal.returns-in-Ok-note

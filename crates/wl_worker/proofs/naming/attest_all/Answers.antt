@@ -2,7 +2,7 @@ use Rattle.std.proofs.Common.{ℕ, ◌<◌, Option, is_some, sym, ap, ◌∙◌,
 use Rattle.std.specs.Prelude.{IsSome}
 use Rattle.std.proofs.lemmas.Result.{err_from_is_err_and}
 use Rattle.wl_session.specs.Sessions.{unnamed_in}
-use Rattle.wl_session.proofs.Attesting.{left_in, named_on}
+use Rattle.wl_session.proofs.Attestations.{left_in, named_on}
 use Rattle.wl_worker.proofs.Steps.{attests_none, attests_then}
 use Rattle.wl_worker.proofs.naming.attest_all.Goals as goal
 

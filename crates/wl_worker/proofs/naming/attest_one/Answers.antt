@@ -2,21 +2,22 @@ use Rattle.std.proofs.Common.{ℕ, inr, List, [], ◌∷◌, Option, Ok, Err, sy
 use Rattle.std.specs.Prelude.{IsSome}
 use Rattle.std.proofs.lemmas.Result.{err_from_is_err_and}
 use Rattle.wl_octets.specs.declared.memory.Memory.{Memory}
+use Rattle.wl_edge.specs.declared.origin.Origin.{Origin}
 use Rattle.wl_edge.specs.declared.attestor.AttestorCall.{AttestorCall}
 use Rattle.wl_session.specs.declared.asks.SessionFault.{SessionFault}
 use Rattle.wl_session.specs.Sessions.{SessionState, unnamed_in, Names}
 use Rattle.wl_worker.specs.Rounds.{HaveCalls}
 use Rattle.wl_worker.specs.Outcomes.{GainsAll}
 use Rattle.wl_worker.specs.Stepping.{Asks, Attests}
-use Rattle.wl_worker.proofs.Gaining.{gains_none, rose_later}
-use Rattle.wl_worker.proofs.Reading.{keeps_self}
+use Rattle.wl_worker.proofs.Growth.{gains_none, rose_later}
+use Rattle.wl_worker.proofs.SeenPublications.{keeps_self}
 use Rattle.wl_worker.proofs.Steps.{named_ok, named_none}
 use Rattle.wl_worker.proofs.naming.attest_one.Goals as goal
 
 -- no answer was had
-unasked : (socket : ℕ) (s : SessionState) (out : List ℕ) (x y : Option (List AttestorCall)) (k n : ℕ) (m : Memory) → Asks socket x y k n (Err m) → Attests socket s s out out x y k n (Err m)
+unasked : (origin : Origin) (s : SessionState) (out : List ℕ) (x y : Option (List AttestorCall)) (k n : ℕ) (m : Memory) → Asks origin x y k n (Err m) → Attests origin s s out out x y k n (Err m)
 unfolding HaveCalls
-unasked socket s out x y k n m asks =
+unasked origin s out x y k n m asks =
     record {
       answers = [];
       calls_are = subst (λ (calls : Option (List AttestorCall)). GainsAll x calls []) (sym asks.0) (gains_none x);
@@ -26,17 +27,17 @@ unasked socket s out x y k n m asks =
       came = tt;
     }
 
-named : (socket : ℕ) (s new : SessionState) (o p : List ℕ) (x y : Option (List AttestorCall)) (k n : ℕ) (a : Option (List (List ℕ))) → Asks socket x y k n (Ok a) → IsSome (unnamed_in s) → Names a s (Ok tt) o p new
-    → Attests socket s new o p x y k n (Ok tt)
+named : (origin : Origin) (s new : SessionState) (o p : List ℕ) (x y : Option (List AttestorCall)) (k n : ℕ) (a : Option (List (List ℕ))) → Asks origin x y k n (Ok a) → IsSome (unnamed_in s) → Names a s (Ok tt) o p new
+    → Attests origin s new o p x y k n (Ok tt)
 unfolding HaveCalls
-named socket s new o p x y k n a asks there names =
+named origin s new o p x y k n a asks there names =
     let one = named_ok a s new o p there names in
     record { answers = a ∷ []; calls_are = asks.0; fails = asks.1; have = (there, tt); keeps = one.keeps; came = one.came }
 
-unnamed : (socket : ℕ) (s new : SessionState) (o p : List ℕ) (x y : Option (List AttestorCall)) (k n : ℕ) (a : Option (List (List ℕ))) (f : SessionFault) (m : Memory) → Asks socket x y k n (Ok a) → IsSome (unnamed_in s) → Names a s (Err f) o p new
-    → Attests socket s new o p x y k n (Err m)
+unnamed : (origin : Origin) (s new : SessionState) (o p : List ℕ) (x y : Option (List AttestorCall)) (k n : ℕ) (a : Option (List (List ℕ))) (f : SessionFault) (m : Memory) → Asks origin x y k n (Ok a) → IsSome (unnamed_in s) → Names a s (Err f) o p new
+    → Attests origin s new o p x y k n (Err m)
 unfolding HaveCalls
-unnamed socket s new o p x y k n a f m asks there names =
+unnamed origin s new o p x y k n a f m asks there names =
     record { answers = a ∷ []; calls_are = asks.0; fails = asks.1; have = (there, tt); keeps = inr (named_none a s new f o p there names); came = tt }
 
 pub returns-in_err-answer-clause-attests : goal.returns-in_err-answer-clause-attests

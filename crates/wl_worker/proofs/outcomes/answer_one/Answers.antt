@@ -10,8 +10,8 @@ use Rattle.wl_session.specs.Sessions.{SessionState, asks_in, GivesOutcome}
 use Rattle.wl_worker.specs.Rounds.{IsAsk, HaveAsks, outcomes_told}
 use Rattle.wl_worker.specs.Outcomes.{Asker, IsOutcome}
 use Rattle.wl_worker.specs.Stepping.{OutcomeTells, Gives}
-use Rattle.wl_worker.proofs.Gaining.{rose_later}
-use Rattle.wl_worker.proofs.Reading.{keeps_self}
+use Rattle.wl_worker.proofs.Growth.{rose_later}
+use Rattle.wl_worker.proofs.SeenPublications.{keeps_self}
 use Rattle.wl_worker.proofs.Steps.{given_ok, given_none, quiet_came}
 use Rattle.wl_worker.proofs.outcomes.answer_one.Goals as goal
 

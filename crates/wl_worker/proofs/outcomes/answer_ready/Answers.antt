@@ -1,7 +1,7 @@
 use Rattle.std.proofs.Common.{◌≡◌, ◌<◌, false, inl, Option, None, Some, Ok, is_some, option_map, refl, sym, ap, ◌∙◌, arith}
 use Rattle.std.proofs.lemmas.Result.{err_from_is_err_and}
 use Rattle.wl_worker.proofs.Steps.{gives_none, gives_then, gives_as, gives_failed}
-use Rattle.wl_worker.proofs.Waiting.{asks_left, fewer_left}
+use Rattle.wl_worker.proofs.WaitingAsks.{asks_left, fewer_left}
 use Rattle.wl_worker.proofs.outcomes.answer_ready.Goals as goal
 
 pub waiting-init : goal.waiting-init

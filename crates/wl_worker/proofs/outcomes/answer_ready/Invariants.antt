@@ -1,7 +1,7 @@
 use Rattle.wl_worker.specs.Outcomes.{asker}
 use Rattle.std.proofs.Common.{Ok}
 use Rattle.wl_worker.specs.Stepping.{Gives}
-use Rattle.wl_worker.proofs.Waiting.{asks_left}
+use Rattle.wl_worker.proofs.WaitingAsks.{asks_left}
 use Rattle.wl_worker.proofs.outcomes.answer_ready.Given as goal
 
 -- those that got their outcomes so far

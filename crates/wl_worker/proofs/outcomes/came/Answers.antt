@@ -13,7 +13,7 @@ use Rattle.ask_mail.specs.declared.mail.Delivery.{Delivery}
 use Rattle.wl_session.specs.declared.asks.JwtAsk.{JwtAsk}
 use Rattle.wl_session.specs.declared.asks.JwtOutcome.TheVariants as outcomes
 use Rattle.wl_worker.specs.Stepping.{SignedTells}
-use Rattle.wl_worker.proofs.Gaining.{gains_none, rose_later, rose_once}
+use Rattle.wl_worker.proofs.Growth.{gains_none, rose_later, rose_once}
 use Rattle.wl_worker.proofs.outcomes.came.Goals as goal
 
 -- what the asks answered to an ask

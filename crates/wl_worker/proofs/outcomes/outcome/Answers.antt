@@ -13,7 +13,7 @@ use Rattle.wl_session.specs.declared.asks.JwtAsk.{JwtAsk}
 use Rattle.wl_session.specs.declared.asks.JwtOutcome.{JwtOutcome}
 use Rattle.wl_session.specs.declared.asks.JwtOutcome.TheVariants as outcomes
 use Rattle.wl_worker.specs.Stepping.{SignedTells, OutcomeTells}
-use Rattle.wl_worker.proofs.Gaining.{gains_none, rose_none}
+use Rattle.wl_worker.proofs.Growth.{gains_none, rose_none}
 use Rattle.wl_worker.proofs.outcomes.outcome.Goals as goal
 
 none_had : (vouched : Asker) (ask : JwtAsk) (time : ℕ) (x : Option (List Delivery)) (k : ℕ) (t u : Option (List ℕ)) (m : Memory) → Ticks t u time

@@ -1,10 +1,13 @@
 use Rattle.std.proofs.Common.{refl, sym, ◌∙◌}
-use Rattle.wl_worker.proofs.Going.{listen_rose, wait_rose, listened}
-use Rattle.wl_worker.proofs.Keeping.{of_passes}
+use Rattle.wl_worker.proofs.SeatParts.{listen_rose, wait_rose, listened}
+use Rattle.wl_worker.proofs.LinkParts.{of_passes}
 use Rattle.wl_worker.proofs.seat.serve_seat.Goals as goal
 
 pub returns-clause-place : goal.returns-clause-place
-returns-clause-place g c = (c.serve_links-end.ensures.goes.goes.socket, c.serve_links-end.ensures.goes.goes.room)
+returns-clause-place g c = c.serve_links-end.ensures.goes.goes.room
+
+pub returns-clause-sockets : goal.returns-clause-sockets
+returns-clause-sockets g c = c.serve_links-end.ensures.goes.goes.sockets
 
 pub returns-clause-listens : goal.returns-clause-listens
 returns-clause-listens g c = c.serve_links-end.ensures.goes.goes.listens

@@ -1,6 +1,6 @@
 use Rattle.std.proofs.Common.{sym}
-use Rattle.wl_worker.proofs.Going.{goes_first, goes_to, goes_still, same_map, pushed}
-use Rattle.wl_worker.proofs.Keeping.{keeps_first, keeps_to, keeps_still, keeps_aside}
+use Rattle.wl_worker.proofs.SeatParts.{goes_first, goes_to, goes_still, same_map, pushed}
+use Rattle.wl_worker.proofs.LinkParts.{keeps_first, keeps_to, keeps_still, keeps_aside}
 use Rattle.wl_worker.proofs.seat_rounds.serve_first.Goals as goal
 
 pub returns-in-None-clause-goes : goal.returns-in-None-clause-goes

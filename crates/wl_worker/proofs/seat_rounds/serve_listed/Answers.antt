@@ -1,5 +1,5 @@
-use Rattle.wl_worker.proofs.Going.{goes_still, goes_then}
-use Rattle.wl_worker.proofs.Keeping.{keeps_still, keeps_then, keeps_err}
+use Rattle.wl_worker.proofs.SeatParts.{goes_still, goes_then}
+use Rattle.wl_worker.proofs.LinkParts.{keeps_still, keeps_then}
 use Rattle.wl_worker.proofs.seat_rounds.serve_listed.Goals as goal
 
 pub links-init : goal.links-init
@@ -8,8 +8,8 @@ links-init g c = record { goes = goes_still _ _; tends = keeps_still _ _ _ _ }
 pub links-preserved : goal.links-preserved
 links-preserved g c =
     record {
-      goes = goes_then _ _ _ _ _ _ _ _ c.links.invariant.goes c.in_ok-serve_first.ensures.goes;
-      tends = keeps_then _ _ _ _ _ _ _ _ _ c.links.invariant.tends c.in_ok-serve_first.ensures.tends;
+      goes = goes_then _ _ _ _ _ _ _ _ c.links.invariant.goes c.serve_first.ensures.goes;
+      tends = keeps_then _ _ _ _ _ _ _ _ _ c.links.invariant.tends c.serve_first.ensures.tends;
     }
 
 pub returns-clause-goes : goal.returns-clause-goes
@@ -17,9 +17,3 @@ returns-clause-goes g c = c.links.invariant.goes
 
 pub returns-clause-tends : goal.returns-clause-tends
 returns-clause-tends g c = c.links.invariant.tends
-
-pub returns-in_err-serve_first-clause-goes : goal.returns-in_err-serve_first-clause-goes
-returns-in_err-serve_first-clause-goes g c = goes_then _ _ _ _ _ _ _ _ c.links.invariant.goes c.serve_first.ensures.goes
-
-pub returns-in_err-serve_first-clause-tends : goal.returns-in_err-serve_first-clause-tends
-returns-in_err-serve_first-clause-tends g c = keeps_err _ _ _ _ _ _ _ _ _ c.from_residual.ensures.0 c.in_err-serve_first.was (keeps_then _ _ _ _ _ _ _ _ _ c.links.invariant.tends c.serve_first.ensures.tends)

@@ -1,5 +1,5 @@
-use Rattle.wl_worker.proofs.Going.{no_pass, open_on, went_none, went_then, went_on, step_then, on_step}
-use Rattle.wl_worker.proofs.Keeping.{keeps_still, keeps_then}
+use Rattle.wl_worker.proofs.SeatParts.{no_pass, open_on, went_none, went_then, went_on, step_then, on_step}
+use Rattle.wl_worker.proofs.LinkParts.{keeps_still, keeps_then}
 use Rattle.wl_worker.proofs.seating.admit_all.Goals as goal
 
 pub places-init : goal.places-init

@@ -1,6 +1,6 @@
-use Rattle.wl_worker.proofs.Reading.{prefix_same}
-use Rattle.wl_worker.proofs.Going.{no_pass, goes_still, goes_then, goes_to_none, goes_first, goes_over, open_on, open_popped, stays_silent, none_left}
-use Rattle.wl_worker.proofs.Keeping.{finishes_still, finishes_then, finishes_to, finishes_first, finishes_one}
+use Rattle.wl_worker.proofs.SeenPublications.{prefix_same}
+use Rattle.wl_worker.proofs.SeatParts.{no_pass, goes_still, goes_then, goes_to_none, goes_first, goes_over, open_on, open_popped, stays_silent, none_left}
+use Rattle.wl_worker.proofs.LinkParts.{finishes_still, finishes_then, finishes_to, finishes_first, finishes_one}
 use Rattle.wl_worker.proofs.seating.finish_all.Goals as goal
 
 pub links-init : goal.links-init
@@ -13,9 +13,9 @@ pub links-preserved : goal.links-preserved
 links-preserved g c =
     record {
       goes = λ p. goes_then _ _ _ _ _ _ _ _ (c.links.invariant.goes p) (goes_first _ _ _ _ _ _ _ _ c.in-Some.ensures.items
-          (goes_over _ _ _ _ _ (prefix_same _) _ _ _ _ _ _ _ _ c.release.ensures.listens c.release.ensures.waits
-          (stays_silent _ _ (c.links.seat.alike c.links.seat.listener c.release.new.listener)) c.release.ensures.finishes));
-      tends = λ p. finishes_then _ _ _ _ _ _ _ (c.links.invariant.tends p) (finishes_first _ _ _ _ _ _ _ _ c.in-Some.ensures.items (finishes_one _ _ _ _ _ _ _ _ _ _ _ _ c.release.ensures.finishes));
+          (goes_over _ _ _ _ (prefix_same _) _ _ _ _ _ _ _ _ c.release.ensures.listens c.release.ensures.waits
+          (stays_silent _ _ (c.links.seat.alike c.links.seat.listener c.release.new.listener)) c.release.ensures.sockets c.release.ensures.finishes));
+      tends = λ p. finishes_then _ _ _ _ _ _ _ (c.links.invariant.tends p) (finishes_first _ _ _ _ _ _ _ _ c.in-Some.ensures.items (finishes_one _ _ _ _ _ _ _ _ _ _ _ c.release.ensures.sockets c.release.ensures.finishes));
     }
 
 pub returns-clause-goes : goal.returns-clause-goes

@@ -1,5 +1,5 @@
-use Rattle.wl_worker.proofs.Going.{fit_on, on_step_of, went_on, turned_on, on_step, fault_step, where_failed}
-use Rattle.wl_worker.proofs.Keeping.{keeps_then, keeps_on, keeps_end}
+use Rattle.wl_worker.proofs.SeatParts.{fit_on, on_step_of, went_on, turned_on, on_step, fault_step, where_failed}
+use Rattle.wl_worker.proofs.LinkParts.{keeps_then, keeps_on, keeps_end}
 use Rattle.wl_worker.proofs.seating.go_on.Goals as goal
 
 pub returns-in-Closed-clause-goes : goal.returns-in-Closed-clause-goes

@@ -1,5 +1,5 @@
-use Rattle.wl_worker.proofs.Going.{went_none, went_then, went_on, on_step_of, ends_over, ends_rest}
-use Rattle.wl_worker.proofs.Keeping.{keeps_still, keeps_then, keeps_on, keeps_closed}
+use Rattle.wl_worker.proofs.SeatParts.{went_none, went_then, went_on, on_step_of, ends_over, ends_rest}
+use Rattle.wl_worker.proofs.LinkParts.{keeps_still, keeps_then, keeps_on, keeps_closed}
 use Rattle.wl_worker.proofs.seating.serve_all.Goals as goal
 
 pub seat-init : goal.seat-init

@@ -1,5 +1,5 @@
-use Rattle.wl_worker.proofs.Going.{goes_still, goes_then}
-use Rattle.wl_worker.proofs.Keeping.{keeps_still, keeps_then}
+use Rattle.wl_worker.proofs.SeatParts.{goes_still, goes_then}
+use Rattle.wl_worker.proofs.LinkParts.{keeps_still, keeps_then}
 use Rattle.wl_worker.proofs.seating.serve_rest.Goals as goal
 
 pub rest-init : goal.rest-init

@@ -1,5 +1,5 @@
 use Rattle.wl_store.specs.Stores.{has_ticket}
-use Rattle.wl_worker.proofs.Showing.{kept_note}
+use Rattle.wl_worker.proofs.PublishedSteps.{kept_note}
 use Rattle.wl_worker.proofs.signing.install.Goals as goal
 
 pub returns-in-Kept-default : goal.returns-in-Kept-default

@@ -1,5 +1,5 @@
 use Rattle.std.proofs.Common.{arith}
-use Rattle.wl_worker.proofs.Pulling.{not_pulled, pulled_again, again_is_later}
+use Rattle.wl_worker.proofs.Pulls.{not_pulled, pulled_again, again_is_later}
 use Rattle.wl_worker.proofs.upkeep.pull_documents.Goals as goal
 
 pub loop-init : goal.loop-init

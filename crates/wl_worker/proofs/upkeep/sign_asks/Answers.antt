@@ -1,5 +1,5 @@
 use Rattle.std.proofs.Common.{arith}
-use Rattle.wl_worker.proofs.Asking.{none_asked}
+use Rattle.wl_worker.proofs.SignerAsks.{none_asked}
 use Rattle.wl_worker.proofs.upkeep.sign_asks.Goals as goal
 
 pub loop-init : goal.loop-init

@@ -1,4 +1,4 @@
-use Rattle.wl_worker.proofs.Asking.{asked_once}
+use Rattle.wl_worker.proofs.SignerAsks.{asked_once}
 use Rattle.wl_worker.proofs.upkeep.sign_identity.Goals as goal
 
 pub returns-clause-told : goal.returns-clause-told

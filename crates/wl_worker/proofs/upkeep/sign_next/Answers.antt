@@ -1,4 +1,4 @@
-use Rattle.wl_worker.proofs.Asking.{none_asked}
+use Rattle.wl_worker.proofs.SignerAsks.{none_asked}
 use Rattle.wl_worker.proofs.upkeep.sign_next.Goals as goal
 
 pub returns-in-None-clause-told : goal.returns-in-None-clause-told

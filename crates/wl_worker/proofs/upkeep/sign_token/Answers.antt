@@ -1,4 +1,4 @@
-use Rattle.wl_worker.proofs.Asking.{token_asked, token_faults}
+use Rattle.wl_worker.proofs.SignerAsks.{token_asked, token_faults}
 use Rattle.wl_worker.proofs.upkeep.sign_token.Goals as goal
 
 pub returns-clause-told : goal.returns-clause-told

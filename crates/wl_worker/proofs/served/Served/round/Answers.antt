@@ -6,7 +6,7 @@ use Rattle.wl_worker.specs.Served.{ServedState}
 use Rattle.wl_worker.specs.declared.ended.RoundEnd.{RoundEnd}
 use Rattle.wl_worker.specs.declared.ended.RoundEnd.TheVariants as ends
 use Rattle.wl_worker.specs.Sending.{Settles, SentTo}
-use Rattle.wl_worker.proofs.Ending.{ends_first, ends_heard, ends_done}
+use Rattle.wl_worker.proofs.WholeRounds.{ends_first, ends_heard, ends_done}
 use Rattle.wl_worker.proofs.served.Served.round.Goals as goal
 
 abbrev served : SessionState → List ℕ → ServedState
@@ -21,7 +21,7 @@ seen_as : (old mid x : ServedState) (k l : Option LinkLog) → x ≡ mid → Set
 seen_as old mid x k l is settles = subst (λ (y : ServedState). Settles old y k l None) (sym is) settles
 
 pub returns-in-Some-clause-tells : goal.returns-in-Some-clause-tells
-returns-in-Some-clause-tells g c = ends_first g.T.V.Voucher.signed (asker c.args.connection g.T.V.Voucher.token) c.args.socket _ c.in-Some.end c.in-Some.ensures.settles
+returns-in-Some-clause-tells g c = ends_first g.T.V.Voucher.signed (asker c.args.connection g.T.V.Voucher.token) (g.L.Link.origin c.args.link.now) _ c.in-Some.end c.in-Some.ensures.settles
 
 pub returns-in-Err-clause-tells : goal.returns-in-Err-clause-tells
 returns-in-Err-clause-tells g c =
@@ -29,7 +29,7 @@ returns-in-Err-clause-tells g c =
     let mid : ServedState = served c.self.inside.session left in
     let emptied : mid ≡ c.settle.new.self = c.self.view_is ∙ same_sent c.settle.new.self c.take_output-out.new.self c.take_output-out.ensures.session c.take_output-out.ensures.unsent c.in_default.ensures.settles.end_is.0 in
     let first = seen_as c.args.self.now c.settle.new.self mid (g.L.Link.told c.args.link.now) (g.L.Link.told c.settle.new.link) emptied c.in_default.ensures.settles in
-    ends_heard g.T.V.Voucher.signed (asker c.args.connection g.T.V.Voucher.token) c.args.socket {mid = mid} c.in-Err.end first (rw c.take_output-out.ensures.empty at c.in-Err.ensures.tells) (λ is. ap (λ (s : SessionState). served s left) is)
+    ends_heard g.T.V.Voucher.signed (asker c.args.connection g.T.V.Voucher.token) (g.L.Link.origin c.args.link.now) {mid = mid} c.in-Err.end first (rw c.in_default.ensures.origin at (rw c.take_output-out.ensures.empty at c.in-Err.ensures.tells)) (λ is. ap (λ (s : SessionState). served s left) is)
 
 pub returns-clause-tells : goal.returns-clause-tells
 returns-clause-tells g c =
@@ -38,8 +38,8 @@ returns-clause-tells g c =
     let emptied : mid ≡ c.settle.new.self = c.self.view_is ∙ same_sent c.settle.new.self c.take_output-out.new.self c.take_output-out.ensures.session c.take_output-out.ensures.unsent c.in_default.ensures.settles.end_is.0 in
     let first = seen_as c.args.self.now c.settle.new.self mid (g.L.Link.told c.args.link.now) (g.L.Link.told c.settle.new.link) emptied c.in_default.ensures.settles in
     rw c.end_of.ensures
-    (ends_done g.T.V.Voucher.signed (asker c.args.connection g.T.V.Voucher.token) c.args.socket {mid = mid} {s = c.hear_and_step.new.session} {out = c.hear_and_step.new.out} c.settle-2.result first
-    (rw c.take_output-out.ensures.empty at c.in_default-hear_and_step.ensures.tells) c.settle-2.ensures.settles)
+    (ends_done g.T.V.Voucher.signed (asker c.args.connection g.T.V.Voucher.token) (g.L.Link.origin c.args.link.now) {mid = mid} {s = c.hear_and_step.new.session} {out = c.hear_and_step.new.out} c.settle-2.result first
+    (rw c.in_default.ensures.origin at (rw c.take_output-out.ensures.empty at c.in_default-hear_and_step.ensures.tells)) c.settle-2.ensures.settles)
 
 -- a sending is no round
 not_on : {A : Type 0} (s : SessionState) (left : List ℕ) (e : Option RoundEnd) → SentTo s left e → e ≡ Some ends.On → A

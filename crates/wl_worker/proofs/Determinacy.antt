@@ -3,11 +3,12 @@ use Rattle.std.proofs.Common.{◌≡◌, ℕ, ◌+◌, ◌≤◌, inl, inr, true
 use Rattle.std.specs.Prelude.{IsSome}
 use Rattle.wl_snapshot.specs.Snapshots.{Publication}
 use Rattle.wl_publish.specs.Lists.{NumberedFrom, Numbered}
+use Rattle.wl_edge.specs.declared.origin.Origin.{Origin}
 use Rattle.wl_session.specs.declared.asks.JwtAsk.{JwtAsk}
 use Rattle.wl_session.specs.declared.asks.JwtOutcome.{JwtOutcome}
 use Rattle.wl_session.specs.declared.asks.SessionFault.{SessionFault}
 use Rattle.wl_session.specs.Sessions.{SessionState, unnamed_in, asks_in, failure_in}
-use Rattle.wl_worker.specs.Rounds.{Round, answer_told, answers_told, shown_told, given_told, outcomes_told, heard_told, heard_session, named_session, turned_session, round_told, HaveCalls, HaveAsks, IsAsk, any_outcome, IsWhole, session_after, pieces, answers, numbers, number_of, still, found, looks_of, looks, AreWhole, IsIn, IsKnown, AreKnown}
+use Rattle.wl_worker.specs.Rounds.{Round, answer_told, answers_told, shown_told, given_told, outcomes_told, heard_told, heard_session, named_session, turned_session, round_told, HaveCalls, HaveAsks, IsAsk, any_outcome, IsWhole, session_after, pieces, answers, AskedBy, numbers, number_of, still, found, looks_of, looks, AreWhole, IsIn, IsKnown, AreKnown}
 
 -- ---- lists that end with one item
 
@@ -99,8 +100,9 @@ shown_split seen (Some p) (Some q) u v f numbered known other one two three four
 
 -- ---- one round
 
--- what two rounds took, with what came behind, is the same
+-- what two rounds took, with what came after, is the same
 pub record TookAlike (s : SessionState) (r q : Round) (xs ys : List (Option (List (List ℕ)))) (m n : List ℕ) (u v : List (Option JwtOutcome)) : Type 0 where
+  pub origin : r.origin ≡ q.origin
   pub piece : r.piece ≡ q.piece
   pub answers : r.answers ++ xs ≡ q.answers ++ ys
   pub numbers : number_of r.shown ++ m ≡ number_of q.shown ++ n
@@ -132,7 +134,7 @@ alike seen r q s {xs} {ys} {m} {n} {u} {v} numbered whole other known too took =
     let given = outcomes_split r.outcomes q.outcomes u v (turned_session r s) whole.round.outcomes (subst (λ (t : SessionState). HaveAsks any_outcome q.outcomes t) (sym turned) other.round.outcomes)
     (subst (λ (t : SessionState). (found r.outcomes ++ still (asks_in (outcomes_told r.outcomes (turned_session r s)).after)) ++ u ≡ (found q.outcomes ++ still (asks_in (outcomes_told q.outcomes t).after)) ++ v) (sym turned) looked) in
     record {
-      round = λ i. record { piece = took.piece i; answers = answered.0 i; shown = shown.0 i; outcomes = given.0 i };
+      round = λ i. record { origin = took.origin i; piece = took.piece i; answers = answered.0 i; shown = shown.0 i; outcomes = given.0 i };
       answers = answered.1;
       numbers = shown.1;
       outcomes = given.1;
@@ -152,16 +154,16 @@ behind xs ys us vs a b is = sym (append_assoc xs us a) ∙ (is ∙ append_assoc 
 no_more : {A : Type 0} {P : Type 0} (xs : List A) (x : A) → [] ≡ xs ++ x ∷ [] → P
 no_more xs x is = absurd (omega (arith, ap length is, length-append xs (x ∷ [])))
 
-pub determined : (seen : List Publication) (past other : List Round) (xs ys : List (Option (List (List ℕ)))) (m n : List ℕ) (u v : List (Option JwtOutcome)) → Numbered seen → AreWhole past → AreWhole other → AreKnown seen past → AreKnown seen other
+pub determined : (seen : List Publication) (origin : Origin) (past other : List Round) (xs ys : List (Option (List (List ℕ)))) (m n : List ℕ) (u v : List (Option JwtOutcome)) → Numbered seen → AskedBy origin past → AskedBy origin other → AreWhole past → AreWhole other → AreKnown seen past → AreKnown seen other
     → pieces past ≡ pieces other → answers past ++ xs ≡ answers other ++ ys → numbers past ++ m ≡ numbers other ++ n → looks past ++ u ≡ looks other ++ v → AlikeAll past other xs ys m n u v
-determined seen [] [] xs ys m n u v numbered whole too known also p a k o = record { rounds = refl; answers = a; numbers = k; outcomes = o }
-determined seen [] (q ∷ other) xs ys m n u v numbered whole too known also p a k o = no_more (pieces other) q.piece p
-determined seen (r ∷ past) [] xs ys m n u v numbered whole too known also p a k o = no_more (pieces past) r.piece (sym p)
-determined seen (r ∷ past) (q ∷ other) xs ys m n u v numbered whole too known also p a k o =
+determined seen origin [] [] xs ys m n u v numbered asked asks whole too known also p a k o = record { rounds = refl; answers = a; numbers = k; outcomes = o }
+determined seen origin [] (q ∷ other) xs ys m n u v numbered asked asks whole too known also p a k o = no_more (pieces other) q.piece p
+determined seen origin (r ∷ past) [] xs ys m n u v numbered asked asks whole too known also p a k o = no_more (pieces past) r.piece (sym p)
+determined seen origin (r ∷ past) (q ∷ other) xs ys m n u v numbered asked asks whole too known also p a k o =
     let pieces_are = last_same (pieces past) (pieces other) r.piece q.piece p in
-    let before = determined seen past other (r.answers ++ xs) (q.answers ++ ys) (number_of r.shown ++ m) (number_of q.shown ++ n) (looks_of r (session_after past) ++ u) (looks_of q (session_after other) ++ v) numbered whole.2 too.2 known.1 also.1 pieces_are.0
+    let before = determined seen origin past other (r.answers ++ xs) (q.answers ++ ys) (number_of r.shown ++ m) (number_of q.shown ++ n) (looks_of r (session_after past) ++ u) (looks_of q (session_after other) ++ v) numbered asked.1 asks.1 whole.2 too.2 known.1 also.1 pieces_are.0
     (behind (answers past) (answers other) r.answers q.answers xs ys a) (behind (numbers past) (numbers other) (number_of r.shown) (number_of q.shown) m n k) (behind (looks past) (looks other) (looks_of r (session_after past)) (looks_of q (session_after other)) u v o) in
-    let its : TookAlike (session_after past) r q xs ys m n u v = record { piece = pieces_are.1; answers = before.answers; numbers = before.numbers; outcomes = subst (λ (rs : List Round). looks_of r (session_after past) ++ u ≡ looks_of q (session_after rs) ++ v) (sym before.rounds) before.outcomes } in
+    let its : TookAlike (session_after past) r q xs ys m n u v = record { origin = asked.0 ∙ sym asks.0; piece = pieces_are.1; answers = before.answers; numbers = before.numbers; outcomes = subst (λ (rs : List Round). looks_of r (session_after past) ++ u ≡ looks_of q (session_after rs) ++ v) (sym before.rounds) before.outcomes } in
     let one = alike seen r q (session_after past) numbered whole.1 (subst (λ (rs : List Round). IsWhole q (session_after rs)) (sym before.rounds) too.1) known.0 also.0 its in
     record {
       rounds = λ i. one.round i ∷ before.rounds i;
@@ -170,7 +172,7 @@ determined seen (r ∷ past) (q ∷ other) xs ys m n u v numbered whole too know
       outcomes = one.outcomes;
     }
 
-pub determined_by : (seen : List Publication) (past other : List Round) → Numbered seen → AreWhole past → AreWhole other → AreKnown seen past → AreKnown seen other
+pub determined_by : (seen : List Publication) (origin : Origin) (past other : List Round) → Numbered seen → AskedBy origin past → AskedBy origin other → AreWhole past → AreWhole other → AreKnown seen past → AreKnown seen other
     → pieces past ≡ pieces other → answers past ≡ answers other → numbers past ≡ numbers other → looks past ≡ looks other → past ≡ other
-determined_by seen past other numbered whole too known also p a k o =
-    (determined seen past other [] [] [] [] [] [] numbered whole too known also p (ap (λ xs. xs ++ []) a) (ap (λ ns. ns ++ []) k) (ap (λ os. os ++ []) o)).rounds
+determined_by seen origin past other numbered asked asks whole too known also p a k o =
+    (determined seen origin past other [] [] [] [] [] [] numbered asked asks whole too known also p (ap (λ xs. xs ++ []) a) (ap (λ ns. ns ++ []) k) (ap (λ os. os ++ []) o)).rounds

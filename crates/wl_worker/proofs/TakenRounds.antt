@@ -12,8 +12,8 @@ use Rattle.wl_session.specs.Sessions.{SessionState}
 use Rattle.wl_session.specs.Items.{talk}
 use Rattle.wl_worker.specs.Rounds.{Round, round_told, IsRound, IsWhole, session_after, trace, pieces, AreWhole, AreRounds, GoesOn, pieces_given}
 use Rattle.wl_worker.specs.Served.{ServedState, Stands, Began, log_on, IsPiece, ReadIn}
-use Rattle.wl_worker.proofs.Following.{talk_grows}
-use Rattle.wl_worker.proofs.Reading.{read_prefix, read_known, are_longer, rises_on}
+use Rattle.wl_worker.proofs.RoundTraces.{talk_grows}
+use Rattle.wl_worker.proofs.SeenPublications.{read_prefix, read_known, are_longer, rises_on}
 
 -- ---- pieces
 

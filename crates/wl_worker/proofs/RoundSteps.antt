@@ -8,6 +8,7 @@ use Rattle.wl_entry.specs.declared.signing.Signed.{Signed}
 use Rattle.wl_snapshot.specs.Snapshots.{Publication}
 use Rattle.wl_publish.specs.Listings.{Passing}
 use Rattle.wl_publish.specs.Reading.{Reads}
+use Rattle.wl_edge.specs.declared.origin.Origin.{Origin}
 use Rattle.wl_edge.specs.declared.attestor.AttestorCall.{AttestorCall}
 use Rattle.ask_mail.specs.declared.mail.Delivery.{Delivery}
 use Rattle.wl_session.specs.declared.asks.JwtAsk.{JwtAsk}
@@ -20,8 +21,8 @@ use Rattle.wl_worker.specs.Rounds.{Round, then_told, heard_told, name_told_at, a
 use Rattle.wl_worker.specs.Outcomes.{Asker, IsOutcome}
 use Rattle.wl_worker.specs.Served.{Around, around, last_shown, HasSeenLast}
 use Rattle.wl_worker.specs.Stepping.{Came, Attests, Gives, TurnTells, StepTells}
-use Rattle.wl_worker.proofs.Gaining.{gains_none, ticked_none, rose_none, have_such}
-use Rattle.wl_worker.proofs.Reading.{last_in, keeps_then, keeps_seen, seen_longer}
+use Rattle.wl_worker.proofs.Growth.{gains_none, ticked_none, rose_none, have_such}
+use Rattle.wl_worker.proofs.SeenPublications.{last_in, keeps_then, keeps_seen, seen_longer}
 use Rattle.wl_worker.proofs.Steps.{Fed, FedLast, quiet_came, came_then}
 
 -- ---- a talk that has failed
@@ -86,10 +87,10 @@ round_came r s0 s1 s2 s3 s4 o0 o1 o2 o3 o4 heard named turned given =
     (came_then (heard_told r.piece s0) (answers_told r.answers) s1 s2 o0 o1 o2 heard named) turned) given
 
 -- the talk fails with the piece
-pub step_failed : (valid : Ask → Signed → Type 0) (vouched : Asker) (socket : ℕ) (before : Around) {piece : List ℕ} {s0 s1 : SessionState} {o0 o1 : List ℕ} {f : ConnFault}
-    → FedLast piece s0 s1 o0 o1 f → StepTells valid vouched socket piece s0 s1 o0 o1 before before (Ok tt)
-step_failed valid vouched socket before {piece} {s0} {s1} {o0} {o1} {f} fed =
-    let r : Round = record { piece = piece; answers = []; shown = None; outcomes = [] } in
+pub step_failed : (valid : Ask → Signed → Type 0) (vouched : Asker) (origin : Origin) (before : Around) {piece : List ℕ} {s0 s1 : SessionState} {o0 o1 : List ℕ} {f : ConnFault}
+    → FedLast piece s0 s1 o0 o1 f → StepTells valid vouched origin piece s0 s1 o0 o1 before before (Ok tt)
+step_failed valid vouched origin before {piece} {s0} {s1} {o0} {o1} {f} fed =
+    let r : Round = record { origin = origin; piece = piece; answers = []; shown = None; outcomes = [] } in
     let came : Came (round_told r s0) s1 o0 o1 = round_came r s0 s1 s1 s1 s1 o0 o1 o1 o1 o1 fed.came (no_answers s1 o1) (no_turn s1 o1) (no_outcomes s1 o1) in
     let named : s1 ≡ named_session r s0 = fed.came.after ∙ (no_answers (heard_session r s0) o1).after in
     let fails : failure_in (named_session r s0) ≡ Some (faults.Protocol f) = ap failure_in (sym named) ∙ fed.fails in
@@ -104,6 +105,7 @@ step_failed valid vouched socket before {piece} {s0} {s1} {o0} {o1} {f} fed =
       signed = [];
       times = [];
       piece_is = refl;
+      asked = refl;
       attested = gains_none before.attested;
       attestor_fails = rose_none before.attestor_faults;
       read = refl;
@@ -122,15 +124,16 @@ step_failed valid vouched socket before {piece} {s0} {s1} {o0} {o1} {f} fed =
     }
 
 -- memory runs out with the piece
-pub step_unfed : (valid : Ask → Signed → Type 0) (vouched : Asker) (socket : ℕ) (before : Around) (piece : List ℕ) (s0 s1 : SessionState) (o0 o1 : List ℕ) (m : Memory)
-    → last_shown s1 ≡ None → StepTells valid vouched socket piece s0 s1 o0 o1 before before (Err m)
-step_unfed valid vouched socket before piece s0 s1 o0 o1 m none =
-    let r : Round = record { piece = piece; answers = []; shown = None; outcomes = [] } in
+pub step_unfed : (valid : Ask → Signed → Type 0) (vouched : Asker) (origin : Origin) (before : Around) (piece : List ℕ) (s0 s1 : SessionState) (o0 o1 : List ℕ) (m : Memory)
+    → last_shown s1 ≡ None → StepTells valid vouched origin piece s0 s1 o0 o1 before before (Err m)
+step_unfed valid vouched origin before piece s0 s1 o0 o1 m none =
+    let r : Round = record { origin = origin; piece = piece; answers = []; shown = None; outcomes = [] } in
     record {
       round = r;
       signed = [];
       times = [];
       piece_is = refl;
+      asked = refl;
       attested = gains_none before.attested;
       attestor_fails = rose_none before.attestor_faults;
       read = refl;
@@ -150,17 +153,18 @@ step_unfed valid vouched socket before piece s0 s1 o0 o1 m none =
     }
 
 -- memory runs out with the names, or where nothing was read
-pub step_unread : (valid : Ask → Signed → Type 0) (vouched : Asker) (socket : ℕ) (signed : Option (List Delivery)) (signing : ℕ) (times : Option (List ℕ)) (v w : Passing) (m : Memory)
+pub step_unread : (valid : Ask → Signed → Type 0) (vouched : Asker) (origin : Origin) (signed : Option (List Delivery)) (signing : ℕ) (times : Option (List ℕ)) (v w : Passing) (m : Memory)
     {piece : List ℕ} {s0 s1 s2 : SessionState} {o0 o1 o2 : List ℕ} {c0 c1 : Option (List AttestorCall)} {n0 n1 : ℕ} {r : Result (Unit {0}) Memory}
-    → Fed piece s0 s1 o0 o1 → Attests socket s1 s2 o1 o2 c0 c1 n0 n1 r → w ≡ v
-    → StepTells valid vouched socket piece s0 s2 o0 o2 (around c0 n0 signed signing times v) (around c1 n1 signed signing times w) (Err m)
-step_unread valid vouched socket signed signing times v w m {piece} {s0} {s1} {s2} {o0} {o1} {o2} {c0} {c1} {n0} {n1} {r} fed attests same =
-    let round : Round = record { piece = piece; answers = attests.answers; shown = None; outcomes = [] } in
+    → Fed piece s0 s1 o0 o1 → Attests origin s1 s2 o1 o2 c0 c1 n0 n1 r → w ≡ v
+    → StepTells valid vouched origin piece s0 s2 o0 o2 (around c0 n0 signed signing times v) (around c1 n1 signed signing times w) (Err m)
+step_unread valid vouched origin signed signing times v w m {piece} {s0} {s1} {s2} {o0} {o1} {o2} {c0} {c1} {n0} {n1} {r} fed attests same =
+    let round : Round = record { origin = origin; piece = piece; answers = attests.answers; shown = None; outcomes = [] } in
     record {
       round = round;
       signed = [];
       times = [];
       piece_is = refl;
+      asked = refl;
       attested = attests.calls_are;
       attestor_fails = attests.fails;
       read = same;
@@ -182,9 +186,9 @@ step_unread valid vouched socket signed signing times v w m {piece} {s0} {s1} {s
 -- ---- a publication was read
 
 -- a session whose calls are attested, on the way to its turn
-pub record Attested (socket : ℕ) (piece : List ℕ) (s0 s1 s2 : SessionState) (o0 o1 o2 : List ℕ) (c0 c1 : Option (List AttestorCall)) (n0 n1 : ℕ) : Type 0 where
+pub record Attested (origin : Origin) (piece : List ℕ) (s0 s1 s2 : SessionState) (o0 o1 o2 : List ℕ) (c0 c1 : Option (List AttestorCall)) (n0 n1 : ℕ) : Type 0 where
   pub fed : Fed piece s0 s1 o0 o1
-  pub attests : Attests socket s1 s2 o1 o2 c0 c1 n0 n1 (Ok tt)
+  pub attests : Attests origin s1 s2 o1 o2 c0 c1 n0 n1 (Ok tt)
   pub named : unnamed_in s2 ≡ None
 
 -- what is so of the session there
@@ -194,10 +198,10 @@ record Ready (r : Round) (s0 s2 : SessionState) : Type 0 where
   goes : failure_in (named_session r s0) ≡ None
   named : unnamed_in (named_session r s0) ≡ None
 
-ready : {socket : ℕ} {piece : List ℕ} {s0 s1 s2 : SessionState} {o0 o1 o2 : List ℕ} {c0 c1 : Option (List AttestorCall)} {n0 n1 : ℕ} (a : Attested socket piece s0 s1 s2 o0 o1 o2 c0 c1 n0 n1)
-    (shown : Option Publication) (outcomes : List JwtOutcome) → Ready (record { piece = piece; answers = a.attests.answers; shown = shown; outcomes = outcomes }) s0 s2
-ready {socket} {piece} {s0} {s1} {s2} a shown outcomes =
-    let r : Round = record { piece = piece; answers = a.attests.answers; shown = shown; outcomes = outcomes } in
+ready : {origin : Origin} {piece : List ℕ} {s0 s1 s2 : SessionState} {o0 o1 o2 : List ℕ} {c0 c1 : Option (List AttestorCall)} {n0 n1 : ℕ} (a : Attested origin piece s0 s1 s2 o0 o1 o2 c0 c1 n0 n1)
+    (shown : Option Publication) (outcomes : List JwtOutcome) → Ready (record { origin = origin; piece = piece; answers = a.attests.answers; shown = shown; outcomes = outcomes }) s0 s2
+ready {origin} {piece} {s0} {s1} {s2} a shown outcomes =
+    let r : Round = record { origin = origin; piece = piece; answers = a.attests.answers; shown = shown; outcomes = outcomes } in
     let is : s2 ≡ named_session r s0 = a.attests.came.after ∙ ap (λ (s : SessionState). (answers_told a.attests.answers s).after) a.fed.came.after in
     record {
       is = is;
@@ -214,18 +218,19 @@ read_seen {valid} {v} {w} {p} s reads shows = go (last_shown s) shows
     go (Some last) is = subst (λ (q : Publication). IsIn q w.seen) (sym is) (last_in p w.seen reads.last)
 
 -- memory runs out before the turn, after it was read
-pub step_unturned : (valid : Ask → Signed → Type 0) (vouched : Asker) (socket : ℕ) (signed : Option (List Delivery)) (signing : ℕ) (times : Option (List ℕ)) (m : Memory) (s3 : SessionState) (o3 : List ℕ)
+pub step_unturned : (valid : Ask → Signed → Type 0) (vouched : Asker) (origin : Origin) (signed : Option (List Delivery)) (signing : ℕ) (times : Option (List ℕ)) (m : Memory) (s3 : SessionState) (o3 : List ℕ)
     {v w : Passing} {p : Publication} {piece : List ℕ} {s0 s1 s2 : SessionState} {o0 o1 o2 : List ℕ} {c0 c1 : Option (List AttestorCall)} {n0 n1 : ℕ}
-    → Attested socket piece s0 s1 s2 o0 o1 o2 c0 c1 n0 n1 → Reads valid v p w → (HasSeenLast v.seen s0 → HasSeenLast w.seen s3)
-    → StepTells valid vouched socket piece s0 s3 o0 o3 (around c0 n0 signed signing times v) (around c1 n1 signed signing times w) (Err m)
-step_unturned valid vouched socket signed signing times m s3 o3 {v} {w} {p} {piece} {s0} {s1} {s2} a reads seen =
-    let round : Round = record { piece = piece; answers = a.attests.answers; shown = Some p; outcomes = [] } in
+    → Attested origin piece s0 s1 s2 o0 o1 o2 c0 c1 n0 n1 → Reads valid v p w → (HasSeenLast v.seen s0 → HasSeenLast w.seen s3)
+    → StepTells valid vouched origin piece s0 s3 o0 o3 (around c0 n0 signed signing times v) (around c1 n1 signed signing times w) (Err m)
+step_unturned valid vouched origin signed signing times m s3 o3 {v} {w} {p} {piece} {s0} {s1} {s2} a reads seen =
+    let round : Round = record { origin = origin; piece = piece; answers = a.attests.answers; shown = Some p; outcomes = [] } in
     let there = ready a (Some p) [] in
     record {
       round = round;
       signed = [];
       times = [];
       piece_is = refl;
+      asked = refl;
       attested = a.attests.calls_are;
       attestor_fails = a.attests.fails;
       read = reads;
@@ -244,23 +249,23 @@ step_unturned valid vouched socket signed signing times m s3 o3 {v} {w} {p} {pie
       came = tt;
     }
 
-pub attested_by : {socket : ℕ} {piece : List ℕ} {s0 s1 s2 : SessionState} {o0 o1 o2 : List ℕ} {c0 c1 : Option (List AttestorCall)} {n0 n1 : ℕ}
-    → Fed piece s0 s1 o0 o1 → Attests socket s1 s2 o1 o2 c0 c1 n0 n1 (Ok tt) → unnamed_in s2 ≡ None → Attested socket piece s0 s1 s2 o0 o1 o2 c0 c1 n0 n1
+pub attested_by : {origin : Origin} {piece : List ℕ} {s0 s1 s2 : SessionState} {o0 o1 o2 : List ℕ} {c0 c1 : Option (List AttestorCall)} {n0 n1 : ℕ}
+    → Fed piece s0 s1 o0 o1 → Attests origin s1 s2 o1 o2 c0 c1 n0 n1 (Ok tt) → unnamed_in s2 ≡ None → Attested origin piece s0 s1 s2 o0 o1 o2 c0 c1 n0 n1
 attested_by fed attests named = record { fed = fed; attests = attests; named = named }
 
 -- the session before the turn still has what was seen
-pub unturned_seen : {valid : Ask → Signed → Type 0} {v w : Passing} {p : Publication} {socket : ℕ} {piece : List ℕ} {s0 s1 s2 : SessionState} {o0 o1 o2 : List ℕ} {c0 c1 : Option (List AttestorCall)} {n0 n1 : ℕ}
-    → Attested socket piece s0 s1 s2 o0 o1 o2 c0 c1 n0 n1 → Reads valid v p w → HasSeenLast v.seen s0 → HasSeenLast w.seen s2
-unturned_seen {valid} {v} {w} {p} {socket} {piece} {s0} {s1} {s2} a reads has =
+pub unturned_seen : {valid : Ask → Signed → Type 0} {v w : Passing} {p : Publication} {origin : Origin} {piece : List ℕ} {s0 s1 s2 : SessionState} {o0 o1 o2 : List ℕ} {c0 c1 : Option (List AttestorCall)} {n0 n1 : ℕ}
+    → Attested origin piece s0 s1 s2 o0 o1 o2 c0 c1 n0 n1 → Reads valid v p w → HasSeenLast v.seen s0 → HasSeenLast w.seen s2
+unturned_seen {valid} {v} {w} {p} {origin} {piece} {s0} {s1} {s2} a reads has =
     seen_longer v.seen w.seen s2 reads.seen (keeps_seen v.seen s0 s2 (keeps_then s0 s1 s2 a.fed.keeps a.attests.keeps) has)
 
 -- memory runs out where the pass is read
-pub step_refused : (valid : Ask → Signed → Type 0) (vouched : Asker) (socket : ℕ) (signed : Option (List Delivery)) (signing : ℕ) (times : Option (List ℕ)) (v w : Passing) (m : Memory)
+pub step_refused : (valid : Ask → Signed → Type 0) (vouched : Asker) (origin : Origin) (signed : Option (List Delivery)) (signing : ℕ) (times : Option (List ℕ)) (v w : Passing) (m : Memory)
     {piece : List ℕ} {s0 s1 s2 : SessionState} {o0 o1 o2 : List ℕ} {c0 c1 : Option (List AttestorCall)} {n0 n1 : ℕ}
-    → Attested socket piece s0 s1 s2 o0 o1 o2 c0 c1 n0 n1 → (w ≡ v) ⊎ ((p : Publication) × Reads valid v p w)
-    → StepTells valid vouched socket piece s0 s2 o0 o2 (around c0 n0 signed signing times v) (around c1 n1 signed signing times w) (Err m)
-step_refused valid vouched socket signed signing times v w m a (inl same) = step_unread valid vouched socket signed signing times v w m a.fed a.attests same
-step_refused valid vouched socket signed signing times v w m {piece} {s0} {s1} {s2} {o0} {o1} {o2} a (inr read) = step_unturned valid vouched socket signed signing times m s2 o2 a read.1 (unturned_seen a read.1)
+    → Attested origin piece s0 s1 s2 o0 o1 o2 c0 c1 n0 n1 → (w ≡ v) ⊎ ((p : Publication) × Reads valid v p w)
+    → StepTells valid vouched origin piece s0 s2 o0 o2 (around c0 n0 signed signing times v) (around c1 n1 signed signing times w) (Err m)
+step_refused valid vouched origin signed signing times v w m a (inl same) = step_unread valid vouched origin signed signing times v w m a.fed a.attests same
+step_refused valid vouched origin signed signing times v w m {piece} {s0} {s1} {s2} {o0} {o1} {o2} a (inr read) = step_unturned valid vouched origin signed signing times m s2 o2 a read.1 (unturned_seen a read.1)
 
 pub turned_seen : {valid : Ask → Signed → Type 0} {v w : Passing} {p : Publication} {s2 s3 : SessionState} {o2 o3 : List ℕ} {r : Result (Unit {0}) Memory}
     → Reads valid v p w → TurnTells p s2 s3 o2 o3 r → HasSeenLast w.seen s3
@@ -283,13 +288,13 @@ whole_on (Err m) round s0 s4 o0 o4 fits named shown came = tt
 whole_on (Ok done) round s0 s4 o0 o4 fits named shown came =
     record { round = fits; named = named; read = λ _. shown }
 
-pub step_answered : (valid : Ask → Signed → Type 0) (vouched : Asker) (socket : ℕ)
+pub step_answered : (valid : Ask → Signed → Type 0) (vouched : Asker) (origin : Origin)
     {v w : Passing} {p : Publication} {piece : List ℕ} {s0 s1 s2 s3 s4 : SessionState} {o0 o1 o2 o3 o4 : List ℕ} {c0 c1 : Option (List AttestorCall)} {n0 n1 : ℕ}
     {g0 g1 : Option (List Delivery)} {f0 f1 : ℕ} {t0 t1 : Option (List ℕ)} {r : Result (Unit {0}) Memory}
-    → Attested socket piece s0 s1 s2 o0 o1 o2 c0 c1 n0 n1 → Reads valid v p w → TurnTells p s2 s3 o2 o3 (Ok tt) → Gives vouched s3 s4 o3 o4 g0 g1 f0 f1 t0 t1 r
-    → StepTells valid vouched socket piece s0 s4 o0 o4 (around c0 n0 g0 f0 t0 v) (around c1 n1 g1 f1 t1 w) r
-step_answered valid vouched socket {v} {w} {p} {piece} {s0} {s1} {s2} {s3} {s4} {o0} {o1} {o2} {o3} {o4} {c0} {c1} {n0} {n1} {g0} {g1} {f0} {f1} {t0} {t1} {r} a reads turned gives =
-    let round : Round = record { piece = piece; answers = a.attests.answers; shown = Some p; outcomes = gives.outcomes } in
+    → Attested origin piece s0 s1 s2 o0 o1 o2 c0 c1 n0 n1 → Reads valid v p w → TurnTells p s2 s3 o2 o3 (Ok tt) → Gives vouched s3 s4 o3 o4 g0 g1 f0 f1 t0 t1 r
+    → StepTells valid vouched origin piece s0 s4 o0 o4 (around c0 n0 g0 f0 t0 v) (around c1 n1 g1 f1 t1 w) r
+step_answered valid vouched origin {v} {w} {p} {piece} {s0} {s1} {s2} {s3} {s4} {o0} {o1} {o2} {o3} {o4} {c0} {c1} {n0} {n1} {g0} {g1} {f0} {f1} {t0} {t1} {r} a reads turned gives =
+    let round : Round = record { origin = origin; piece = piece; answers = a.attests.answers; shown = Some p; outcomes = gives.outcomes } in
     let there = ready a (Some p) gives.outcomes in
     let shown : Came (shown_told (Some p) s2) s3 o2 o3 = shown_came p s2 s3 o2 o3 turned.came in
     let is : s3 ≡ turned_session round s0 = shown.after ∙ ap (λ (s : SessionState). (shown_told (Some p) s).after) there.is in
@@ -307,6 +312,7 @@ step_answered valid vouched socket {v} {w} {p} {piece} {s0} {s1} {s2} {s3} {s4} 
       signed = gives.signs;
       times = gives.ticks;
       piece_is = refl;
+      asked = refl;
       attested = a.attests.calls_are;
       attestor_fails = a.attests.fails;
       read = reads;

@@ -8,7 +8,7 @@ use Rattle.wl_snapshot.specs.Snapshots.{Publication}
 use Rattle.svid_cache.specs.Caches.{lasts}
 use Rattle.wl_store.specs.Stores.{Store, after_claim, shows_parts}
 use Rattle.wl_store.specs.Steps.{Stored, stored_after}
-use Rattle.wl_store.proofs.Settling.{settled_same, settled_new}
+use Rattle.wl_store.proofs.StoreSteps.{settled_same, settled_new}
 use Rattle.wl_publish.specs.Lists.{IsLast}
 use Rattle.wl_worker.specs.Upkeep.{NoneEnded}
 

@@ -14,7 +14,7 @@ use Rattle.wl_worker.specs.declared.ended.RoundEnd.TheVariants as ends
 use Rattle.wl_worker.specs.Rounds.{Round, session_after, trace, numbers, pieces_given}
 use Rattle.wl_worker.specs.Served.{ServedState, Stands, log_on, EndIs}
 use Rattle.wl_worker.specs.Connections.{GaveEnd, CameTo}
-use Rattle.wl_worker.proofs.Counting.{all_read, one_unread}
+use Rattle.wl_worker.proofs.RoundNumbers.{all_read, one_unread}
 
 pub all_taken : (log : LinkLog) (s : ServedState) (seen : List Publication) (past : List Round) → s.unsent ≡ [] → Stands log s seen past → log.took ≡ talk (trace past)
 all_taken log s seen past none stands = sym (append-nil log.took) ∙ (ap (λ (xs : List ℕ). log.took ++ xs) (sym none) ∙ stands.talked)

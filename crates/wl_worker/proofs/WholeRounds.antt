@@ -5,6 +5,7 @@ use Rattle.wl_octets.specs.declared.memory.Memory.{Memory}
 use Rattle.wl_entry.specs.declared.asks.Ask.{Ask}
 use Rattle.wl_entry.specs.declared.signing.Signed.{Signed}
 use Rattle.wl_snapshot.specs.Snapshots.{Publication}
+use Rattle.wl_edge.specs.declared.origin.Origin.{Origin}
 use Rattle.wl_edge.specs.Links.{LinkLog}
 use Rattle.wl_edge.specs.declared.link.Heard.{Heard}
 use Rattle.wl_edge.specs.declared.link.Heard.TheVariants as heard
@@ -18,10 +19,10 @@ use Rattle.wl_worker.specs.Outcomes.{Asker, IsOutcome}
 use Rattle.wl_worker.specs.Served.{ServedState, Around, Stands, Began, StandsAt, log_on, LinkGains, HeardOne, EndIs, IsPiece, RoundTells}
 use Rattle.wl_worker.specs.Sending.{SentTo, Settles, end_of}
 use Rattle.wl_worker.specs.Stepping.{StepTells, HearTells}
-use Rattle.wl_worker.proofs.Gaining.{gains_none, ticked_none, rose_none, link_then, log_then}
-use Rattle.wl_worker.proofs.Standing.{stands_sent, stands_round, began, began_round}
+use Rattle.wl_worker.proofs.Growth.{gains_none, ticked_none, rose_none, link_then, log_then}
+use Rattle.wl_worker.proofs.TakenRounds.{stands_sent, stands_round, began, began_round}
 
-module _ (valid : Ask → Signed → Type 0) (vouched : Asker) (socket : ℕ) where
+module _ (valid : Ask → Signed → Type 0) (vouched : Asker) (origin : Origin) where
   -- ---- it ends with the first sending
 
   done_open : (s : SessionState) → is_done_in s ≡ true → failure_in s ≡ None
@@ -47,7 +48,7 @@ module _ (valid : Ask → Signed → Type 0) (vouched : Asker) (socket : ℕ) wh
   stands_at (ends.Ended ended.WriteFault) log s seen past stands = began log s seen past stands
   stands_at (ends.Ended ended.Memory) log s seen past stands = began log s seen past stands
 
-  pub ends_first : {old new : ServedState} {k m : Option LinkLog} (before : Around) (e : RoundEnd) → Settles old new k m (Some e) → RoundTells valid vouched socket old new k m before before e
+  pub ends_first : {old new : ServedState} {k m : Option LinkLog} (before : Around) (e : RoundEnd) → Settles old new k m (Some e) → RoundTells valid vouched origin old new k m before before e
   ends_first {old} {new} {k} {m} before e settles = record {
     heards = [];
     took = settles.passes.took;
@@ -56,6 +57,7 @@ module _ (valid : Ask → Signed → Type 0) (vouched : Asker) (socket : ℕ) wh
     times = [];
     link = settles.passes.link;
     end_is = first_end e new settles.end_is;
+    asked = tt;
     attested = gains_none before.attested;
     attestor_fails = rose_none before.attestor_faults;
     read = refl;
@@ -71,9 +73,9 @@ module _ (valid : Ask → Signed → Type 0) (vouched : Asker) (socket : ℕ) wh
 
   -- all was sent, and then nothing was done but to hear this
   pub ends_unheard : {old mid new : ServedState} {k l m : Option LinkLog} (before now : Around) (e : Ended) (heards : List Heard) → Settles old mid k l None → LinkGains l m heards [] → new ≡ mid → now ≡ before
-      → pieces_given heards ≡ [] → EndIs (ends.Ended e) mid heards [] → RoundTells valid vouched socket old new k m before now (ends.Ended e)
+      → pieces_given heards ≡ [] → EndIs (ends.Ended e) mid heards [] → RoundTells valid vouched origin old new k m before now (ends.Ended e)
   ends_unheard {old} {mid} {new} {k} {l} {m} before now e heards settles heard same still none end_is =
-      subst (λ (x : ServedState × Around). RoundTells valid vouched socket old x.0 k m before x.1 (ends.Ended e)) (λ i. (sym same i, sym still i))
+      subst (λ (x : ServedState × Around). RoundTells valid vouched origin old x.0 k m before x.1 (ends.Ended e)) (λ i. (sym same i, sym still i))
       (record {
         heards = heards;
         took = settles.passes.took ++ [];
@@ -82,6 +84,7 @@ module _ (valid : Ask → Signed → Type 0) (vouched : Asker) (socket : ℕ) wh
         times = [];
         link = link_then k l m [] heards settles.passes.took [] settles.passes.link heard;
         end_is = end_is;
+        asked = tt;
         attested = gains_none before.attested;
         attestor_fails = rose_none before.attestor_faults;
         read = refl;
@@ -116,8 +119,8 @@ module _ (valid : Ask → Signed → Type 0) (vouched : Asker) (socket : ℕ) wh
   three_logs log answer first last = ap (λ (k : LinkLog). log_on k [] last) (two_logs log answer first) ∙ log_then log (answer ∷ []) [] (first ++ []) last
 
   pub ends_round : {old mid new : ServedState} {s : SessionState} {out : List ℕ} {k l m q : Option LinkLog} {before now : Around} {piece : List ℕ} (e : Option RoundEnd) (answer : Heard)
-      → Settles old mid k l None → LinkGains l m (answer ∷ []) [] → IsPiece answer piece → StepTells valid vouched socket piece mid.session s [] out before now (Ok tt)
-      → Settles (record { session = s; unsent = out }) new m q e → RoundTells valid vouched socket old new k q before now (end_of e)
+      → Settles old mid k l None → LinkGains l m (answer ∷ []) [] → IsPiece answer piece → StepTells valid vouched origin piece mid.session s [] out before now (Ok tt)
+      → Settles (record { session = s; unsent = out }) new m q e → RoundTells valid vouched origin old new k q before now (end_of e)
   ends_round {old} {mid} {new} {s} {out} {k} {l} {m} {q} {before} {now} {piece} e answer first heard is_piece step last =
       let r = step.round in
       let its : IsPiece answer r.piece = subst (λ (p : List ℕ). IsPiece answer p) (sym step.piece_is) is_piece in
@@ -129,6 +132,7 @@ module _ (valid : Ask → Signed → Type 0) (vouched : Asker) (socket : ℕ) wh
         times = step.times;
         link = link_then k m q (answer ∷ []) [] (first.passes.took ++ []) last.passes.took (link_then k l m [] (answer ∷ []) first.passes.took [] first.passes.link heard) last.passes.link;
         end_is = last_end e new answer r its last.end_is;
+        asked = (step.asked, tt);
         attested = step.attested;
         attestor_fails = step.attestor_fails;
         read = (refl, step.read);
@@ -149,8 +153,8 @@ module _ (valid : Ask → Signed → Type 0) (vouched : Asker) (socket : ℕ) wh
 
   -- memory ran out in the step
   pub ends_broken : {old mid new : ServedState} {s : SessionState} {out : List ℕ} {k l m : Option LinkLog} {before now : Around} {piece : List ℕ} {why : Memory} (answer : Heard)
-      → Settles old mid k l None → LinkGains l m (answer ∷ []) [] → IsPiece answer piece → StepTells valid vouched socket piece mid.session s [] out before now (Err why)
-      → RoundTells valid vouched socket old new k m before now (ends.Ended ended.Memory)
+      → Settles old mid k l None → LinkGains l m (answer ∷ []) [] → IsPiece answer piece → StepTells valid vouched origin piece mid.session s [] out before now (Err why)
+      → RoundTells valid vouched origin old new k m before now (ends.Ended ended.Memory)
   ends_broken {old} {mid} {new} {s} {out} {k} {l} {m} {before} {now} {piece} answer first heard is_piece step =
       let r = step.round in
       let its : IsPiece answer r.piece = subst (λ (p : List ℕ). IsPiece answer p) (sym step.piece_is) is_piece in
@@ -162,6 +166,7 @@ module _ (valid : Ask → Signed → Type 0) (vouched : Asker) (socket : ℕ) wh
         times = step.times;
         link = link_then k l m [] (answer ∷ []) first.passes.took [] first.passes.link heard;
         end_is = inr (one_heard answer r its);
+        asked = (step.asked, tt);
         attested = step.attested;
         attestor_fails = step.attestor_fails;
         read = (refl, step.read);
@@ -183,8 +188,8 @@ module _ (valid : Ask → Signed → Type 0) (vouched : Asker) (socket : ℕ) wh
   no_pieces heards (inr is) = ap pieces_given is
 
   pub ends_heard : {old mid new : ServedState} {s : SessionState} {out : List ℕ} {k l m : Option LinkLog} {before now : Around} (e : Ended)
-      → Settles old mid k l None → HearTells valid vouched socket mid.session s [] out l m before now (Err e)
-      → (s ≡ mid.session → new ≡ mid) → RoundTells valid vouched socket old new k m before now (ends.Ended e)
+      → Settles old mid k l None → HearTells valid vouched origin mid.session s [] out l m before now (Err e)
+      → (s ≡ mid.session → new ≡ mid) → RoundTells valid vouched origin old new k m before now (ends.Ended e)
   ends_heard {old} {mid} {new} {s} {out} {k} {l} {m} {before} {now} ended.Closed first heard still =
       ends_unheard before now ended.Closed heard.heards first heard.link (still heard.step.1) heard.step.2 (ap pieces_given heard.step.0) (first.end_is.0, first.end_is.1.0, inl (heard.step.0, refl))
   ends_heard {old} {mid} {new} {s} {out} {k} {l} {m} {before} {now} ended.ReadFault first heard still =
@@ -195,7 +200,7 @@ module _ (valid : Ask → Signed → Type 0) (vouched : Asker) (socket : ℕ) wh
   ends_heard ended.WriteFault first heard still = absurd heard.step
 
   pub ends_done : {old mid new : ServedState} {s : SessionState} {out : List ℕ} {k l m q : Option LinkLog} {before now : Around} (e : Option RoundEnd)
-      → Settles old mid k l None → HearTells valid vouched socket mid.session s [] out l m before now (Ok tt)
-      → Settles (record { session = s; unsent = out }) new m q e → RoundTells valid vouched socket old new k q before now (end_of e)
+      → Settles old mid k l None → HearTells valid vouched origin mid.session s [] out l m before now (Ok tt)
+      → Settles (record { session = s; unsent = out }) new m q e → RoundTells valid vouched origin old new k q before now (end_of e)
   ends_done {old} {mid} {new} {s} {out} {k} {l} {m} {q} {before} {now} e first heard last =
       ends_round {s = s} {out = out} e heard.step.0 first (subst (λ (hs : List Heard). LinkGains l m hs []) heard.step.2 heard.link) heard.step.3 heard.step.4 last

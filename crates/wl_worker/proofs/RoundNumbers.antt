@@ -1,4 +1,4 @@
--- One number is read in each round, but for the one in which the talk fails.
+-- One number is read in each round, except the one in which the talk fails.
 use Rattle.std.proofs.Common.{◌≡◌, ◌+◌, List, [], ◌∷◌, length, Option, Some, None, refl, ap, ◌∙◌, arith, length-append}
 use Rattle.std.specs.Prelude.{IsSome}
 use Rattle.wl_snapshot.specs.Snapshots.{Publication}

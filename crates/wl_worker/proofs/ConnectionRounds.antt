@@ -1,6 +1,6 @@
 -- A connection goes through its rounds, from its start to its end.
 use Rattle.std.proofs.Common.{◌≡◌, ℕ, List, [], ◌∷◌, ◌++◌, Option, Some, None, refl, sym, ap, subst, ◌∙◌, append_assoc}
-use Rattle.std.proofs.lemmas.List.{append-nil, map-append}
+use Rattle.std.proofs.lemmas.List.{append-nil}
 use mathlib.Core.List.{IsPrefix}
 use Rattle.list_laws.specs.Lists.{BeginsWith}
 use Rattle.wl_entry.specs.declared.asks.Ask.{Ask}
@@ -8,6 +8,7 @@ use Rattle.wl_entry.specs.declared.signing.Signed.{Signed}
 use Rattle.wl_snapshot.specs.Snapshots.{Publication}
 use Rattle.wl_publish.specs.Lists.{NonFallingFrom}
 use Rattle.wl_publish.specs.Listings.{Passing}
+use Rattle.wl_edge.specs.declared.origin.Origin.{Origin}
 use Rattle.wl_edge.specs.Links.{LinkLog}
 use Rattle.wl_edge.specs.declared.link.Heard.{Heard}
 use Rattle.wl_edge.specs.declared.attestor.AttestorCall.{AttestorCall}
@@ -20,21 +21,29 @@ use Rattle.wl_worker.specs.declared.ended.Ended.{Ended}
 use Rattle.wl_worker.specs.declared.ended.Ended.TheVariants as ended
 use Rattle.wl_worker.specs.declared.ended.RoundEnd.{RoundEnd}
 use Rattle.wl_worker.specs.declared.ended.RoundEnd.TheVariants as ends
-use Rattle.wl_worker.specs.Rounds.{Round, HaveAsks, turned_session, session_after, trace, numbers, number_of, answers, outcomes, AreRounds, AreOutcomes, AreKnown, IsIn}
+use Rattle.wl_worker.specs.Rounds.{Round, HaveAsks, turned_session, session_after, trace, numbers, number_of, answers, outcomes, AskedBy, AreRounds, AreOutcomes, AreKnown, IsIn}
 use Rattle.wl_worker.specs.Counts.{RoseBy}
-use Rattle.wl_worker.specs.Outcomes.{Asker, unanswered, unsigned, GainsAll, attestor_call, attestor_calls, IsOutcome}
+use Rattle.wl_worker.specs.Outcomes.{Asker, unanswered, unsigned, GainsAll, calls_by, attestor_calls, IsOutcome}
 use Rattle.wl_worker.specs.Served.{ServedState, Around, Stands, Began, ReadIn, ReadBy, OutcomesBy, RoundTells, HasSeenLast}
 use Rattle.wl_worker.specs.Connections.{CameTo, Gathers, ConnectionTells, Serving}
-use Rattle.wl_worker.proofs.Gaining.{gains_none, gains_then, ticked_none, ticked_then, link_none, link_then, rose_none, rose_then, unanswered_append, unsigned_append, in_front, in_back, outcome_grows, have_such}
-use Rattle.wl_worker.proofs.Reading.{read_prefix, rises_over, prefix_then, prefix_same, known_longer}
-use Rattle.wl_worker.proofs.Following.{nothing_talked}
-use Rattle.wl_worker.proofs.Coming.{all_taken, each_read, came_closed, came_failed}
+use Rattle.wl_worker.proofs.Growth.{gains_none, gains_then, ticked_none, ticked_then, link_none, link_then, rose_none, rose_then, unanswered_append, unsigned_append, in_front, in_back, outcome_grows, have_such}
+use Rattle.wl_worker.proofs.SeenPublications.{read_prefix, rises_over, prefix_then, prefix_same, known_longer}
+use Rattle.wl_worker.proofs.RoundTraces.{nothing_talked}
+use Rattle.wl_worker.proofs.LinkEnds.{all_taken, each_read, came_closed, came_failed}
 
 -- ---- lists of rounds
 
 pub answers_added : (added past : List Round) → answers (added ++ past) ≡ answers past ++ answers added
 answers_added [] past = sym (append-nil (answers past))
 answers_added (r ∷ more) past = ap (λ (xs : List (Option (List (List ℕ)))). xs ++ r.answers) (answers_added more past) ∙ append_assoc (answers past) (answers more) r.answers
+
+pub calls_added : (added past : List Round) → attestor_calls (added ++ past) ≡ attestor_calls past ++ attestor_calls added
+calls_added [] past = sym (append-nil (attestor_calls past))
+calls_added (r ∷ more) past = ap (λ (xs : List AttestorCall). xs ++ calls_by r.origin r.answers) (calls_added more past) ∙ append_assoc (attestor_calls past) (attestor_calls more) (calls_by r.origin r.answers)
+
+pub asked_added : (origin : Origin) (added past : List Round) → AskedBy origin added → AskedBy origin past → AskedBy origin (added ++ past)
+asked_added origin [] past asked before = before
+asked_added origin (r ∷ more) past asked before = (asked.0, asked_added origin more past asked.1 before)
 
 pub outcomes_added : (added past : List Round) → outcomes (added ++ past) ≡ outcomes past ++ outcomes added
 outcomes_added [] past = sym (append-nil (outcomes past))
@@ -77,17 +86,18 @@ module _ (valid : Ask → Signed → Type 0) where
 
 -- ---- from round to round
 
-module _ (valid : Ask → Signed → Type 0) (vouched : Asker) (socket : ℕ) where
+module _ (valid : Ask → Signed → Type 0) (vouched : Asker) (origin : Origin) where
   pub gathers_on : {old new : ServedState} {k l m : Option LinkLog} {before mid now : Around} {e : RoundEnd} {heards : List Heard} {took : List ℕ} {past : List Round} {signed : List Delivery} {times : List ℕ}
-      → Gathers vouched socket k l before mid heards took past signed times → old.session ≡ session_after past → AreKnown mid.pass.seen past → (tells : RoundTells valid vouched socket old new l m mid now e)
-      → Gathers vouched socket k m before now (heards ++ tells.heards) (took ++ tells.took) (tells.added ++ past) (signed ++ tells.signed) (times ++ tells.times)
+      → Gathers vouched origin k l before mid heards took past signed times → old.session ≡ session_after past → AreKnown mid.pass.seen past → (tells : RoundTells valid vouched origin old new l m mid now e)
+      → Gathers vouched origin k m before now (heards ++ tells.heards) (took ++ tells.took) (tells.added ++ past) (signed ++ tells.signed) (times ++ tells.times)
   gathers_on {old} {new} {k} {l} {m} {before} {mid} {now} {e} {heards} {took} {past} {signed} {times} so_far session known tells =
       let P = IsOutcome vouched (signed ++ tells.signed) (times ++ tells.times) in
       record {
         link = link_then k l m heards tells.heards took tells.took so_far.link tells.link;
+        asked = asked_added origin tells.added past tells.asked so_far.asked;
         attested = subst (λ (calls : List AttestorCall). GainsAll before.attested now.attested calls)
-            (sym (ap (attestor_calls socket) (answers_added tells.added past) ∙ map-append (attestor_call socket) (answers past) (answers tells.added)))
-            (gains_then before.attested mid.attested now.attested (attestor_calls socket (answers past)) (attestor_calls socket (answers tells.added)) so_far.attested tells.attested);
+            (sym (calls_added tells.added past))
+            (gains_then before.attested mid.attested now.attested (attestor_calls past) (attestor_calls tells.added) so_far.attested tells.attested);
         attestor_fails = subst (λ (much : ℕ). RoseBy much before.attestor_faults now.attestor_faults)
             (sym (ap unanswered (answers_added tells.added past) ∙ unanswered_append (answers past) (answers tells.added)))
             (rose_then before.attestor_faults mid.attestor_faults now.attestor_faults (unanswered (answers past)) (unanswered (answers tells.added)) so_far.attestor_fails tells.attestor_fails);
@@ -106,9 +116,10 @@ module _ (valid : Ask → Signed → Type 0) (vouched : Asker) (socket : ℕ) wh
         recent = λ p is. recent_on valid tells.added past mid.pass now.pass p tells.read known (known_longer p before.pass.seen mid.pass.seen so_far.seen is) (so_far.recent p is);
       }
 
-  pub gathers_none : (k : Option LinkLog) (before : Around) → Gathers vouched socket k k before before [] [] [] [] []
+  pub gathers_none : (k : Option LinkLog) (before : Around) → Gathers vouched origin k k before before [] [] [] [] []
   gathers_none k before = record {
     link = link_none k;
+    asked = tt;
     attested = gains_none before.attested;
     attestor_fails = rose_none before.attestor_faults;
     mine = sym (append-nil before.pass.mine);
@@ -121,9 +132,9 @@ module _ (valid : Ask → Signed → Type 0) (vouched : Asker) (socket : ℕ) wh
   }
 
   -- at the start
-  pub serving_none : (k : Option LinkLog) (before : Around) (served : ServedState) → served ≡ record { session = fresh_session; unsent = [] } → Serving vouched socket served k k before before
+  pub serving_none : (k : Option LinkLog) (before : Around) (served : ServedState) → served ≡ record { session = fresh_session; unsent = [] } → Serving vouched origin served k k before before
   serving_none k before served is =
-      subst (λ (s : ServedState). Serving vouched socket s k k before before) (sym is)
+      subst (λ (s : ServedState). Serving vouched origin s k k before before) (sym is)
       (record {
         heards = [];
         took = [];
@@ -138,7 +149,7 @@ module _ (valid : Ask → Signed → Type 0) (vouched : Asker) (socket : ℕ) wh
   fresh_seen seen served is = subst (λ (s : ServedState). HasSeenLast seen s.session) (sym is) tt
 
   -- no room for a start
-  pub never_served : (k : Option LinkLog) (before : Around) → ConnectionTells vouched socket k k before before ended.Memory
+  pub never_served : (k : Option LinkLog) (before : Around) → ConnectionTells vouched origin k k before before ended.Memory
   never_served k before = record {
     heards = [];
     took = [];
@@ -153,8 +164,8 @@ module _ (valid : Ask → Signed → Type 0) (vouched : Asker) (socket : ℕ) wh
   }
 
   -- the connection goes on
-  pub serving_on : {old new : ServedState} {k l m : Option LinkLog} {before mid now : Around} → Serving vouched socket old k l before mid → RoundTells valid vouched socket old new l m mid now ends.On
-      → Serving vouched socket new k m before now
+  pub serving_on : {old new : ServedState} {k l m : Option LinkLog} {before mid now : Around} → Serving vouched origin old k l before mid → RoundTells valid vouched origin old new l m mid now ends.On
+      → Serving vouched origin new k m before now
   serving_on so_far tells = record {
     heards = so_far.heards ++ tells.heards;
     took = so_far.took ++ tells.took;
@@ -165,8 +176,8 @@ module _ (valid : Ask → Signed → Type 0) (vouched : Asker) (socket : ℕ) wh
     stands = tells.goes_on (record { gave = so_far.heards; took = so_far.took }) so_far.past so_far.stands;
   }
 
-  pub serving_later : {old new : ServedState} {k l m : Option LinkLog} {before mid now : Around} → Serving vouched socket old k l before mid → RoundTells valid vouched socket old new l m mid now ends.Later
-      → Serving vouched socket new k m before now
+  pub serving_later : {old new : ServedState} {k l m : Option LinkLog} {before mid now : Around} → Serving vouched origin old k l before mid → RoundTells valid vouched origin old new l m mid now ends.Later
+      → Serving vouched origin new k m before now
   serving_later so_far tells = record {
     heards = so_far.heards ++ tells.heards;
     took = so_far.took ++ tells.took;
@@ -177,8 +188,8 @@ module _ (valid : Ask → Signed → Type 0) (vouched : Asker) (socket : ℕ) wh
     stands = tells.goes_on (record { gave = so_far.heards; took = so_far.took }) so_far.past so_far.stands;
   }
 
-  pub serving_still : {old new : ServedState} {k l m : Option LinkLog} {before mid now : Around} (e : RoundEnd) → ((x : Ended) → e ≡ ends.Ended x → ⊥) → Serving vouched socket old k l before mid
-      → RoundTells valid vouched socket old new l m mid now e → Serving vouched socket new k m before now
+  pub serving_still : {old new : ServedState} {k l m : Option LinkLog} {before mid now : Around} (e : RoundEnd) → ((x : Ended) → e ≡ ends.Ended x → ⊥) → Serving vouched origin old k l before mid
+      → RoundTells valid vouched origin old new l m mid now e → Serving vouched origin new k m before now
   serving_still ends.On never so_far tells = serving_on so_far tells
   serving_still ends.Later never so_far tells = serving_later so_far tells
   serving_still (ends.Ended x) never so_far tells = absurd (never x refl)
@@ -186,10 +197,10 @@ module _ (valid : Ask → Signed → Type 0) (vouched : Asker) (socket : ℕ) wh
   -- ---- the end
 
   -- it broke off
-  broke : {old new : ServedState} {k l m : Option LinkLog} {before mid now : Around} (e : Ended) (so_far : Serving vouched socket old k l before mid) (tells : RoundTells valid vouched socket old new l m mid now (ends.Ended e))
+  broke : {old new : ServedState} {k l m : Option LinkLog} {before mid now : Around} (e : Ended) (so_far : Serving vouched origin old k l before mid) (tells : RoundTells valid vouched origin old new l m mid now (ends.Ended e))
       → Began (record { gave = so_far.heards ++ tells.heards; took = so_far.took ++ tells.took }) now.pass.seen (tells.added ++ so_far.past)
       → (BeginsWith (talk (trace (tells.added ++ so_far.past))) (so_far.took ++ tells.took) → AreRounds (tells.added ++ so_far.past) → CameTo e (so_far.heards ++ tells.heards) (so_far.took ++ tells.took) (tells.added ++ so_far.past))
-      → ConnectionTells vouched socket k m before now e
+      → ConnectionTells vouched origin k m before now e
   broke e so_far tells began came = record {
     heards = so_far.heards ++ tells.heards;
     took = so_far.took ++ tells.took;
@@ -203,8 +214,8 @@ module _ (valid : Ask → Signed → Type 0) (vouched : Asker) (socket : ℕ) wh
     came_to = came began.part began.rounds;
   }
 
-  pub ends_serving : {old new : ServedState} {k l m : Option LinkLog} {before mid now : Around} (e : Ended) → Serving vouched socket old k l before mid → RoundTells valid vouched socket old new l m mid now (ends.Ended e)
-      → ConnectionTells vouched socket k m before now e
+  pub ends_serving : {old new : ServedState} {k l m : Option LinkLog} {before mid now : Around} (e : Ended) → Serving vouched origin old k l before mid → RoundTells valid vouched origin old new l m mid now (ends.Ended e)
+      → ConnectionTells vouched origin k m before now e
   ends_serving {old} {new} {k} {l} {m} {before} {mid} {now} ended.Closed so_far tells =
       let log : LinkLog = record { gave = so_far.heards ++ tells.heards; took = so_far.took ++ tells.took } in
       let past = tells.added ++ so_far.past in

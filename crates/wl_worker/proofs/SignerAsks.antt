@@ -39,7 +39,7 @@ answered_once call (Err edge.Memory) old new before now answers = same_asked old
 
 -- whatever came of an ask
 pub asked_once : {V : Type 0} (ask : Ask) (old new : Option (List SignerCall)) (before now : ℕ) (answer : Asked V) → Asks ask old new before now answer → AskedOn old new
-asked_once ask old new before now (asked.Kept note) asks = gained old new (X509 ask (Some asks.gives.0)) asks.gives.1
+asked_once ask old new before now (asked.Kept note rest) asks = gained old new (X509 ask (Some asks.gives.0)) asks.gives.1
 asked_once ask old new before now asked.Refused asks = gained old new (X509 ask (Some asks.gives.0)) asks.gives.1
 asked_once ask old new before now (asked.Failed ticket) asks = gained old new (X509 ask None) asks.gives.1
 asked_once ask old new before now (asked.Starved ticket) asks = same_asked old new asks.gives.1

@@ -11,34 +11,31 @@ use Rattle.wl_edge.specs.declared.attestor.AttestorCall.{AttestorCall}
 use Rattle.ask_mail.specs.declared.mail.Delivery.{Delivery}
 use Rattle.wl_edge.specs.declared.listener.AcceptKind.{AcceptKind}
 use Rattle.wl_edge.specs.declared.listener.AcceptKind.TheVariants as kind
+use Rattle.wl_edge.specs.declared.origin.Origin.{Origin}
 use Rattle.wl_edge.specs.Links.{LinkLog}
-use Rattle.wl_edge.specs.Listeners.{ListenerLog, FinishedLink, links_given, with_kind, Finishes}
-use Rattle.wl_worker.specs.Outcomes.{Asker, asker, unanswered, unsigned, GainsAll, Ticked, attestor_calls, attestor_call, IsOutcome}
+use Rattle.wl_edge.specs.Listeners.{ListenerLog, FinishedLink, BoundSocket, links_given, with_kind, Finishes}
+use Rattle.wl_worker.specs.Outcomes.{Asker, asker, unanswered, unsigned, GainsAll, Ticked, attestor_calls, IsOutcome}
 use Rattle.wl_worker.specs.Owners.{owned_by, items_of, tag, one_apart, tally}
 use Rattle.wl_worker.specs.Numbering.{Numbered, none_apart}
-use Rattle.wl_worker.specs.Rounds.{Round, numbers, answers, outcomes, number_of, AreOutcomes}
+use Rattle.wl_worker.specs.Rounds.{Round, numbers, answers, outcomes, number_of, AreOutcomes, IsIn}
 use Rattle.wl_worker.specs.Served.{Around, ServedState, Stands, Began, ReadBy, ReadIn}
 use Rattle.wl_worker.specs.Counts.{RoseBy}
-use Rattle.wl_worker.specs.Tended.{Known, AreJudged, TookAllUnless, TookFully, TookPart, SeatWorld, ListenerGains, SeatGathers, known, Tends}
+use Rattle.wl_worker.specs.Tended.{Known, AreJudged, IsOwn, TookAllUnless, TookFully, TookPart, SeatWorld, seat_world, ListenerGains, SeatGathers, known, Tends}
 use Rattle.wl_worker.specs.Seating.{Under, Runs, Tending}
 use Rattle.wl_worker.specs.declared.seat.SeatEnd.{SeatEnd}
 use Rattle.wl_worker.specs.declared.seat.SeatEnd.TheVariants as seat
-use Rattle.wl_worker.proofs.Gaining.{gains_none, gains_then, ticked_none, ticked_then, rose_none, rose_then, unanswered_append, unsigned_append, in_front, outcome_grows}
-use Rattle.wl_worker.proofs.Reading.{are_longer, prefix_then, prefix_same}
-use Rattle.wl_worker.proofs.Connecting.{answers_added, outcomes_added, outcomes_such}
-use Rattle.wl_worker.proofs.Going.{given_append}
+use Rattle.wl_worker.proofs.Growth.{gains_none, gains_then, ticked_none, ticked_then, rose_none, rose_then, unanswered_append, unsigned_append, in_front, outcome_grows}
+use Rattle.wl_worker.proofs.SeenPublications.{are_longer, prefix_then, prefix_same}
+use Rattle.wl_worker.proofs.ConnectionRounds.{answers_added, calls_added, outcomes_added, outcomes_such}
+use Rattle.wl_worker.proofs.SeatParts.{given_append}
 use Rattle.wl_worker.proofs.Owners.{none_after, items_append, items_tag, split}
-use Rattle.wl_worker.proofs.Numbering as numbering
+use Rattle.wl_worker.proofs.NumberedLinks as numbering
 
 -- ---- what rounds took from the outside
 
 pub numbers_append : (xs ys : List Round) → numbers (xs ++ ys) ≡ numbers ys ++ numbers xs
 numbers_append [] ys = sym (none_after (numbers ys))
 numbers_append (r ∷ xs) ys = ap (λ (l : List ℕ). l ++ number_of r.shown) (numbers_append xs ys) ∙ append_assoc (numbers ys) (numbers xs) (number_of r.shown)
-
-calls_append : (socket : ℕ) (xs ys : List (Option (List (List ℕ)))) → attestor_calls socket (xs ++ ys) ≡ attestor_calls socket xs ++ attestor_calls socket ys
-calls_append socket [] ys = refl
-calls_append socket (x ∷ xs) ys = ap (λ (l : List AttestorCall). attestor_call socket x ∷ l) (calls_append socket xs ys)
 
 -- ---- what a round adds
 
@@ -126,8 +123,8 @@ finished_on (Some before) mid new finished n link gained ends =
 
 -- ---- what is gathered
 
-pub gathers_none : (socket : ℕ) (w : SeatWorld) → SeatGathers socket w w [] [] [] [] 0
-gathers_none socket w =
+pub gathers_none : (w : SeatWorld) → SeatGathers w w [] [] [] [] [] 0
+gathers_none w =
     record {
       listener = nothing_gained w.listener;
       attested = gains_none w.around.attested;
@@ -138,29 +135,32 @@ gathers_none socket w =
       signs = gains_none w.around.signed;
       clock = ticked_none w.around.times;
       ask_fails = rose_none w.around.ask_faults;
+      starves = rose_none w.starved;
     }
 
 -- what a round adds to a seat
-pub record Adds (socket : ℕ) (old new : SeatWorld) (added : List Round) (signed : List Delivery) (times : List ℕ) : Type 0 where
+pub record Adds (old new : SeatWorld) (added : List Round) (signed : List Delivery) (times : List ℕ) : Type 0 where
+  pub sockets : new.sockets ≡ old.sockets
   pub listener : new.listener ≡ old.listener
-  pub attested : GainsAll old.around.attested new.around.attested (attestor_calls socket (answers added))
+  pub starved : new.starved ≡ old.starved
+  pub attested : GainsAll old.around.attested new.around.attested (attestor_calls added)
   pub attestor_fails : RoseBy (unanswered (answers added)) old.around.attestor_faults new.around.attestor_faults
   pub pass : Passed old.around.pass new.around.pass added
   pub signs : GainsAll old.around.signed new.around.signed signed
   pub clock : Ticked old.around.times new.around.times times
   pub ask_fails : RoseBy (unsigned (outcomes added)) old.around.ask_faults new.around.ask_faults
 
-pub gathers_round : (socket : ℕ) (old mid new : SeatWorld) (rounds added : List Round) (signed more : List Delivery) (times later : List ℕ) (finished : List FinishedLink) (n : ℕ) →
-    SeatGathers socket old mid rounds signed times finished n → Adds socket mid new added more later → SeatGathers socket old new (added ++ rounds) (signed ++ more) (times ++ later) finished n
-gathers_round socket old mid new rounds added signed more times later finished n gathers adds =
+pub gathers_round : (old mid new : SeatWorld) (rounds added : List Round) (signed more : List Delivery) (times later starved : List ℕ) (finished : List FinishedLink) (n : ℕ) →
+    SeatGathers old mid rounds signed times starved finished n → Adds mid new added more later → SeatGathers old new (added ++ rounds) (signed ++ more) (times ++ later) starved finished n
+gathers_round old mid new rounds added signed more times later starved finished n gathers adds =
     let fails = rose_then old.around.attestor_faults mid.around.attestor_faults new.around.attestor_faults (unanswered (answers rounds)) (unanswered (answers added)) gathers.attestor_fails adds.attestor_fails in
     let sign_fails = rose_then old.around.ask_faults mid.around.ask_faults new.around.ask_faults (unsigned (outcomes rounds)) (unsigned (outcomes added)) gathers.ask_fails adds.ask_fails in
     record {
       listener = subst (λ (l : Option ListenerLog). ListenerGains old.listener l finished n) (sym adds.listener) gathers.listener;
       attested =
           subst (λ (calls : List AttestorCall). GainsAll old.around.attested new.around.attested calls)
-          (sym (calls_append socket (answers rounds) (answers added)) ∙ ap (λ (l : List (Option (List (List ℕ)))). attestor_calls socket l) (sym (answers_added added rounds)))
-          (gains_then old.around.attested mid.around.attested new.around.attested (attestor_calls socket (answers rounds)) (attestor_calls socket (answers added)) gathers.attested adds.attested);
+          (sym (calls_added added rounds))
+          (gains_then old.around.attested mid.around.attested new.around.attested (attestor_calls rounds) (attestor_calls added) gathers.attested adds.attested);
       attestor_fails = subst (λ (m : ℕ). RoseBy m old.around.attestor_faults new.around.attestor_faults) (sym (unanswered_append (answers rounds) (answers added)) ∙ ap unanswered (sym (answers_added added rounds))) fails;
       mine =
           adds.pass.mine
@@ -172,15 +172,21 @@ gathers_round socket old mid new rounds added signed more times later finished n
       signs = gains_then old.around.signed mid.around.signed new.around.signed signed more gathers.signs adds.signs;
       clock = ticked_then old.around.times mid.around.times new.around.times times later gathers.clock adds.clock;
       ask_fails = subst (λ (m : ℕ). RoseBy m old.around.ask_faults new.around.ask_faults) (sym (unsigned_append (outcomes rounds) (outcomes added)) ∙ ap unsigned (sym (outcomes_added added rounds))) sign_fails;
+      starves = subst (λ (count : ℕ). RoseBy (length starved) old.starved count) (sym adds.starved) gathers.starves;
     }
 
+-- a seat's world without what its listener recorded
+abbrev pub without_listener : SeatWorld → SeatWorld
+without_listener w = seat_world w.sockets None w.starved w.around
+
 -- only the listener changed
-pub gathers_listener : (socket : ℕ) (old mid new : SeatWorld) (rounds : List Round) (signed : List Delivery) (times : List ℕ) (finished finished_then : List FinishedLink) (n m : ℕ) →
-    SeatGathers socket old mid rounds signed times finished n → new.around ≡ mid.around → ListenerGains old.listener new.listener finished_then m → SeatGathers socket old new rounds signed times finished_then m
-gathers_listener socket old mid new rounds signed times finished finished_then n m gathers same gained =
+pub gathers_listener : (old mid new : SeatWorld) (rounds : List Round) (signed : List Delivery) (times starved : List ℕ) (finished finished_then : List FinishedLink) (n m : ℕ) →
+    SeatGathers old mid rounds signed times starved finished n → without_listener new ≡ without_listener mid → ListenerGains old.listener new.listener finished_then m → SeatGathers old new rounds signed times starved finished_then m
+gathers_listener old mid new rounds signed times starved finished finished_then n m gathers rest gained =
+    let same : new.around ≡ mid.around = ap (λ (w : SeatWorld). w.around) rest in
     record {
       listener = gained;
-      attested = subst (λ (a : Around). GainsAll old.around.attested a.attested (attestor_calls socket (answers rounds))) (sym same) gathers.attested;
+      attested = subst (λ (a : Around). GainsAll old.around.attested a.attested (attestor_calls rounds)) (sym same) gathers.attested;
       attestor_fails = subst (λ (a : Around). RoseBy (unanswered (answers rounds)) old.around.attestor_faults a.attestor_faults) (sym same) gathers.attestor_fails;
       mine = ap (λ (a : Around). a.pass.mine) same ∙ gathers.mine;
       seen = subst (λ (a : Around). IsPrefix old.around.pass.seen a.pass.seen) (sym same) gathers.seen;
@@ -188,6 +194,7 @@ gathers_listener socket old mid new rounds signed times finished finished_then n
       signs = subst (λ (a : Around). GainsAll old.around.signed a.signed signed) (sym same) gathers.signs;
       clock = subst (λ (a : Around). Ticked old.around.times a.times times) (sym same) gathers.clock;
       ask_fails = subst (λ (a : Around). RoseBy (unsigned (outcomes rounds)) old.around.ask_faults a.ask_faults) (sym same) gathers.ask_fails;
+      starves = subst (λ (w : SeatWorld). RoseBy (length starved) old.starved w.starved) (sym rest) gathers.starves;
     }
 
 -- ---- what is known stays known
@@ -202,27 +209,30 @@ began_longer log seen list past pre began = record { pieces = began.pieces; part
 stands_longer : (log : LinkLog) (s : ServedState) (seen list : List Publication) (past : List Round) → IsPrefix seen list → Stands log s seen past → Stands log s list past
 stands_longer log s seen list past pre stands = record { pieces = stands.pieces; session = stands.session; talked = stands.talked; whole = stands.whole; known = are_longer seen list past pre stands.known; rising = stands.rising }
 
-module _ (vouched : Ask → List (List ℕ) → JwtToken → Type 0) (mid new : SeatWorld) (signed more : List Delivery) (times later : List ℕ) (pre : IsPrefix mid.around.pass.seen new.around.pass.seen) (n : ℕ) where
-  runs_at : (told : Option LinkLog) (served : ServedState) (past : List Round) → IfSome told (λ log. Stands log served mid.around.pass.seen past × AreJudged (known vouched mid signed times) n past) → IfSome told (λ log. Stands log served new.around.pass.seen past × AreJudged (known vouched new (signed ++ more) (times ++ later)) n past)
+module _ (vouched : Ask → List (List ℕ) → JwtToken → Type 0) (mid new : SeatWorld) (signed more : List Delivery) (times later starved : List ℕ) (sockets_kept : new.sockets ≡ mid.sockets) (pre : IsPrefix mid.around.pass.seen new.around.pass.seen) (n : ℕ) where
+  own_longer : (origin : Origin) (past : List Round) → IsOwn mid.sockets origin past → IsOwn new.sockets origin past
+  own_longer origin past own = subst (λ (s : Option (List BoundSocket)). IsOwn s origin past) (sym sockets_kept) own
+
+  runs_at : (told : Option LinkLog) (served : ServedState) (past : List Round) → IfSome told (λ log. Stands log served mid.around.pass.seen past × AreJudged (known vouched mid signed times starved) n past) → IfSome told (λ log. Stands log served new.around.pass.seen past × AreJudged (known vouched new (signed ++ more) (times ++ later) starved) n past)
   runs_at None served past is = tt
   runs_at (Some log) served past is = (stands_longer log served mid.around.pass.seen new.around.pass.seen past pre is.0, outcomes_longer (asker n vouched) signed more times later past is.1)
 
-  runs_longer : (u : Under) (past : List Round) → Runs (known vouched mid signed times) n u past → Runs (known vouched new (signed ++ more) (times ++ later)) n u past
-  runs_longer u past is = (is.0, runs_at u.link.log u.served past is.1)
+  runs_longer : (u : Under) (past : List Round) → Runs (known vouched mid signed times starved) n u past → Runs (known vouched new (signed ++ more) (times ++ later) starved) n u past
+  runs_longer u past is = (is.0, own_longer u.link.origin past is.1, runs_at u.link.log u.served past is.2)
 
-  part_at : (told : Option LinkLog) (past : List Round) → IfSome told (λ log. Began log mid.around.pass.seen past × AreJudged (known vouched mid signed times) n past) → IfSome told (λ log. Began log new.around.pass.seen past × AreJudged (known vouched new (signed ++ more) (times ++ later)) n past)
+  part_at : (told : Option LinkLog) (past : List Round) → IfSome told (λ log. Began log mid.around.pass.seen past × AreJudged (known vouched mid signed times starved) n past) → IfSome told (λ log. Began log new.around.pass.seen past × AreJudged (known vouched new (signed ++ more) (times ++ later) starved) n past)
   part_at None past is = tt
   part_at (Some log) past is = (began_longer log mid.around.pass.seen new.around.pass.seen past pre is.0, outcomes_longer (asker n vouched) signed more times later past is.1)
 
-  part_longer : (f : FinishedLink) (past : List Round) → TookPart (known vouched mid signed times) n f past → TookPart (known vouched new (signed ++ more) (times ++ later)) n f past
-  part_longer f past is = part_at f.log past is
+  part_longer : (f : FinishedLink) (past : List Round) → TookPart (known vouched mid signed times starved) n f past → TookPart (known vouched new (signed ++ more) (times ++ later) starved) n f past
+  part_longer f past is = (own_longer f.origin past is.0, part_at f.log past is.1)
 
-  fully_at : (told : Option LinkLog) (receives sends : ℕ) (past : List Round) → IfSome told (λ log. Began log mid.around.pass.seen past × AreJudged (known vouched mid signed times) n past × TookAllUnless receives sends log past) → IfSome told (λ log. Began log new.around.pass.seen past × AreJudged (known vouched new (signed ++ more) (times ++ later)) n past × TookAllUnless receives sends log past)
+  fully_at : (told : Option LinkLog) (receives sends : ℕ) (past : List Round) → IfSome told (λ log. Began log mid.around.pass.seen past × AreJudged (known vouched mid signed times starved) n past × (IsIn n starved ⊎ TookAllUnless receives sends log past)) → IfSome told (λ log. Began log new.around.pass.seen past × AreJudged (known vouched new (signed ++ more) (times ++ later) starved) n past × (IsIn n starved ⊎ TookAllUnless receives sends log past))
   fully_at None receives sends past is = tt
   fully_at (Some log) receives sends past is = (began_longer log mid.around.pass.seen new.around.pass.seen past pre is.0, outcomes_longer (asker n vouched) signed more times later past is.1, is.2)
 
-  fully_longer : (f : FinishedLink) (past : List Round) → TookFully (known vouched mid signed times) n f past → TookFully (known vouched new (signed ++ more) (times ++ later)) n f past
-  fully_longer f past is = fully_at f.log f.failed_receives f.failed_sends past is
+  fully_longer : (f : FinishedLink) (past : List Round) → TookFully (known vouched mid signed times starved) n f past → TookFully (known vouched new (signed ++ more) (times ++ later) starved) n f past
+  fully_longer f past is = (own_longer f.origin past is.0, fully_at f.log f.failed_receives f.failed_sends past is.1)
 
 -- ---- what was finished
 
@@ -238,14 +248,10 @@ finished_full fulls lates o f none =
 finished_late : (fulls lates : List (ℕ × FinishedLink)) (o : ℕ) (f : FinishedLink) → items_of fulls ++ items_of (lates ++ (o, f) ∷ []) ≡ (items_of fulls ++ items_of lates) ++ f ∷ []
 finished_late fulls lates o f = ap (λ (l : List FinishedLink). items_of fulls ++ l) (items_append lates ((o, f) ∷ [])) ∙ sym (append_assoc (items_of fulls) (items_of lates) (f ∷ []))
 
--- what is known of these things of the outside
-abbrev knowing : (Ask → List (List ℕ) → JwtToken → Type 0) → Around → List Delivery → List ℕ → Known
-knowing vouched a signed times = record { seen = a.pass.seen; vouched = vouched; signed = signed; times = times }
-
 -- ---- the steps of a seat
 
 -- A seat while it serves, where one link is held apart, which stood between these; P holds of its number and rounds.
-pub record Beside (P : Known → ℕ → List Round → Type 0) (vouched : Ask → List (List ℕ) → JwtToken → Type 0) (socket next : ℕ) (old new : SeatWorld) (broken : ℕ) (before after : List Under) : Type 0 where
+pub record Beside (P : Known → ℕ → List Round → Type 0) (vouched : Ask → List (List ℕ) → JwtToken → Type 0) (next : ℕ) (old new : SeatWorld) (broken : ℕ) (before after : List Under) : Type 0 where
   pub front : List (ℕ × Under)
   pub back : List (ℕ × Under)
   pub owner : ℕ
@@ -254,16 +260,17 @@ pub record Beside (P : Known → ℕ → List Round → Type 0) (vouched : Ask �
   pub rounds : List (ℕ × Round)
   pub signed : List Delivery
   pub times : List ℕ
+  pub starved : List ℕ
   pub before_are : items_of front ≡ before
   pub after_are : items_of back ≡ after
   pub count : length lates ≡ broken
-  pub gathers : SeatGathers socket old new (items_of rounds) signed times (items_of fulls ++ items_of lates) (length before + length after + 1)
-  pub numbered : Numbered (Runs (known vouched new signed times)) (TookFully (known vouched new signed times)) (TookPart (known vouched new signed times)) (one_apart owner) (front ++ back) fulls lates rounds next
-  pub one : P (known vouched new signed times) owner (owned_by owner rounds)
+  pub gathers : SeatGathers old new (items_of rounds) signed times starved (items_of fulls ++ items_of lates) (length before + length after + 1)
+  pub numbered : Numbered (Runs (known vouched new signed times starved)) (TookFully (known vouched new signed times starved)) (TookPart (known vouched new signed times starved)) (one_apart owner) (front ++ back) fulls lates rounds next
+  pub one : P (known vouched new signed times starved) owner (owned_by owner rounds)
 
 -- before any link came
-pub tending_none : {next : ℕ} (vouched : Ask → List (List ℕ) → JwtToken → Type 0) (socket : ℕ) (w : SeatWorld) → Tending vouched socket next w w 0 []
-tending_none {next} vouched socket w =
+pub tending_none : {next : ℕ} (vouched : Ask → List (List ℕ) → JwtToken → Type 0) (w : SeatWorld) → Tending vouched next w w 0 []
+tending_none {next} vouched w =
     record {
       running = [];
       fulls = [];
@@ -271,16 +278,17 @@ tending_none {next} vouched socket w =
       rounds = [];
       signed = [];
       times = [];
+      starved = [];
       links_are = refl;
       count = refl;
-      gathers = gathers_none socket w;
-      numbered = numbering.none_numbered (Runs (known vouched w [] [])) (TookFully (known vouched w [] [])) (TookPart (known vouched w [] [])) next;
+      gathers = gathers_none w;
+      numbered = numbering.none_numbered (Runs (known vouched w [] [] [])) (TookFully (known vouched w [] [] [])) (TookPart (known vouched w [] [] [])) next;
     }
 
 -- the listener gave no link, and none was finished
-pub tending_listened : {next : ℕ} (vouched : Ask → List (List ℕ) → JwtToken → Type 0) (socket : ℕ) (old mid new : SeatWorld) (broken : ℕ) (links : List Under) →
-    Tending vouched socket next old mid broken links → new.around ≡ mid.around → ((finished : List FinishedLink) (n : ℕ) → ListenerGains old.listener mid.listener finished n → ListenerGains old.listener new.listener finished n) → Tending vouched socket next old new broken links
-tending_listened {next} vouched socket old mid new broken links held same keeps =
+pub tending_listened : {next : ℕ} (vouched : Ask → List (List ℕ) → JwtToken → Type 0) (old mid new : SeatWorld) (broken : ℕ) (links : List Under) →
+    Tending vouched next old mid broken links → without_listener new ≡ without_listener mid → ((finished : List FinishedLink) (n : ℕ) → ListenerGains old.listener mid.listener finished n → ListenerGains old.listener new.listener finished n) → Tending vouched next old new broken links
+tending_listened {next} vouched old mid new broken links held same keeps =
     let all = items_of held.fulls ++ items_of held.lates in
     record {
       running = held.running;
@@ -289,10 +297,11 @@ tending_listened {next} vouched socket old mid new broken links held same keeps 
       rounds = held.rounds;
       signed = held.signed;
       times = held.times;
+      starved = held.starved;
       links_are = held.links_are;
       count = held.count;
-      gathers = gathers_listener socket old mid new (items_of held.rounds) held.signed held.times all all (length links) (length links) held.gathers same (keeps all (length links) held.gathers.listener);
-      numbered = subst (λ (a : Around). Numbered (Runs (knowing vouched a held.signed held.times)) (TookFully (knowing vouched a held.signed held.times)) (TookPart (knowing vouched a held.signed held.times)) none_apart held.running held.fulls held.lates held.rounds next) (sym same) held.numbered;
+      gathers = gathers_listener old mid new (items_of held.rounds) held.signed held.times held.starved all all (length links) (length links) held.gathers same (keeps all (length links) held.gathers.listener);
+      numbered = subst (λ (w : SeatWorld). Numbered (Runs (known vouched w held.signed held.times held.starved)) (TookFully (known vouched w held.signed held.times held.starved)) (TookPart (known vouched w held.signed held.times held.starved)) none_apart held.running held.fulls held.lates held.rounds next) (sym same) held.numbered;
     }
 
 -- a newcomer has the next number, and no round
@@ -300,14 +309,14 @@ abbrev pub HasNone : ℕ → Known → ℕ → List Round → Type 0
 HasNone next k n past = (n ≡ next) × (past ≡ [])
 
 -- a link comes
-pub tending_comes : {next : ℕ} (vouched : Ask → List (List ℕ) → JwtToken → Type 0) (socket : ℕ) (old mid new : SeatWorld) (broken : ℕ) (links : List Under) →
-    Tending vouched socket next old mid broken links → new.around ≡ mid.around → IfSome mid.listener (λ log. new.listener ≡ Some (with_kind log kind.Link)) → Beside (HasNone next) vouched socket (next + 1) old new broken links []
-tending_comes {next} vouched socket old mid new broken links held same answers =
+pub tending_comes : {next : ℕ} (vouched : Ask → List (List ℕ) → JwtToken → Type 0) (old mid new : SeatWorld) (broken : ℕ) (links : List Under) →
+    Tending vouched next old mid broken links → without_listener new ≡ without_listener mid → IfSome mid.listener (λ log. new.listener ≡ Some (with_kind log kind.Link)) → Beside (HasNone next) vouched (next + 1) old new broken links []
+tending_comes {next} vouched old mid new broken links held same answers =
     let all = items_of held.fulls ++ items_of held.lates in
     let gained = answered_on old.listener mid.listener new.listener all (length links) kind.Link held.gathers.listener answers in
     let one_link : links_given (kind.Link ∷ []) ≡ 1 = refl in
     let one_open : length links + links_given (kind.Link ∷ []) ≡ length links + 0 + 1 = omega (arith, one_link) in
-    let one = numbering.comes (Runs (known vouched mid held.signed held.times)) (TookFully (known vouched mid held.signed held.times)) (TookPart (known vouched mid held.signed held.times)) held.running held.fulls held.lates held.rounds next held.numbered in
+    let one = numbering.comes (Runs (known vouched mid held.signed held.times held.starved)) (TookFully (known vouched mid held.signed held.times held.starved)) (TookPart (known vouched mid held.signed held.times held.starved)) held.running held.fulls held.lates held.rounds next held.numbered in
     record {
       front = held.running;
       back = [];
@@ -317,24 +326,25 @@ tending_comes {next} vouched socket old mid new broken links held same answers =
       rounds = held.rounds;
       signed = held.signed;
       times = held.times;
+      starved = held.starved;
       before_are = held.links_are;
       after_are = refl;
       count = held.count;
-      gathers = gathers_listener socket old mid new (items_of held.rounds) held.signed held.times all all (length links) (length links + 0 + 1) held.gathers same (subst (λ (n : ℕ). ListenerGains old.listener new.listener all n) one_open gained);
+      gathers = gathers_listener old mid new (items_of held.rounds) held.signed held.times held.starved all all (length links) (length links + 0 + 1) held.gathers same (subst (λ (n : ℕ). ListenerGains old.listener new.listener all n) one_open gained);
       numbered =
-          subst (λ (running : List (ℕ × Under)). Numbered (Runs (known vouched new held.signed held.times)) (TookFully (known vouched new held.signed held.times)) (TookPart (known vouched new held.signed held.times)) (one_apart next) running held.fulls held.lates held.rounds (next + 1)) (sym (none_after held.running))
-          (subst (λ (a : Around). Numbered (Runs (knowing vouched a held.signed held.times)) (TookFully (knowing vouched a held.signed held.times)) (TookPart (knowing vouched a held.signed held.times)) (one_apart next) held.running held.fulls held.lates held.rounds (next + 1)) (sym same) one.0);
+          subst (λ (running : List (ℕ × Under)). Numbered (Runs (known vouched new held.signed held.times held.starved)) (TookFully (known vouched new held.signed held.times held.starved)) (TookPart (known vouched new held.signed held.times held.starved)) (one_apart next) running held.fulls held.lates held.rounds (next + 1)) (sym (none_after held.running))
+          (subst (λ (w : SeatWorld). Numbered (Runs (known vouched w held.signed held.times held.starved)) (TookFully (known vouched w held.signed held.times held.starved)) (TookPart (known vouched w held.signed held.times held.starved)) (one_apart next) held.running held.fulls held.lates held.rounds (next + 1)) (sym same) one.0);
       one = (refl, one.1);
     }
 
 -- a link is taken out
-pub tending_taken : {next : ℕ} (vouched : Ask → List (List ℕ) → JwtToken → Type 0) (socket : ℕ) (old new : SeatWorld) (broken : ℕ) (before after : List Under) (u : Under) →
-    Tending vouched socket next old new broken (before ++ u ∷ after) → Beside (λ k n past. Runs k n u past) vouched socket next old new broken before after
-tending_taken {next} vouched socket old new broken before after u held =
+pub tending_taken : {next : ℕ} (vouched : Ask → List (List ℕ) → JwtToken → Type 0) (old new : SeatWorld) (broken : ℕ) (before after : List Under) (u : Under) →
+    Tending vouched next old new broken (before ++ u ∷ after) → Beside (λ k n past. Runs k n u past) vouched next old new broken before after
+tending_taken {next} vouched old new broken before after u held =
     let at = split u before after held.running held.links_are in
-    let stood = subst (λ (running : List (ℕ × Under)). Numbered (Runs (known vouched new held.signed held.times)) (TookFully (known vouched new held.signed held.times)) (TookPart (known vouched new held.signed held.times)) none_apart running held.fulls held.lates held.rounds next) at.is held.numbered in
+    let stood = subst (λ (running : List (ℕ × Under)). Numbered (Runs (known vouched new held.signed held.times held.starved)) (TookFully (known vouched new held.signed held.times held.starved)) (TookPart (known vouched new held.signed held.times held.starved)) none_apart running held.fulls held.lates held.rounds next) at.is held.numbered in
     let count : length (before ++ u ∷ after) ≡ length before + length after + 1 = omega (arith, length-append before (u ∷ after)) in
-    let out = numbering.taken (Runs (known vouched new held.signed held.times)) (TookFully (known vouched new held.signed held.times)) (TookPart (known vouched new held.signed held.times)) at.front at.back at.owner u held.fulls held.lates held.rounds next stood in
+    let out = numbering.taken (Runs (known vouched new held.signed held.times held.starved)) (TookFully (known vouched new held.signed held.times held.starved)) (TookPart (known vouched new held.signed held.times held.starved)) at.front at.back at.owner u held.fulls held.lates held.rounds next stood in
     record {
       front = at.front;
       back = at.back;
@@ -344,18 +354,19 @@ tending_taken {next} vouched socket old new broken before after u held =
       rounds = held.rounds;
       signed = held.signed;
       times = held.times;
+      starved = held.starved;
       before_are = at.front_is;
       after_are = at.back_is;
       count = held.count;
-      gathers = subst (λ (n : ℕ). SeatGathers socket old new (items_of held.rounds) held.signed held.times (items_of held.fulls ++ items_of held.lates) n) count held.gathers;
+      gathers = subst (λ (n : ℕ). SeatGathers old new (items_of held.rounds) held.signed held.times held.starved (items_of held.fulls ++ items_of held.lates) n) count held.gathers;
       numbered = out.0;
       one = out.1;
     }
 
 -- it is put back where it stood
-pub tending_put : {next : ℕ} (vouched : Ask → List (List ℕ) → JwtToken → Type 0) (socket : ℕ) (old new : SeatWorld) (broken : ℕ) (before after : List Under) (u : Under) →
-    Beside (λ k n past. Runs k n u past) vouched socket next old new broken before after → Tending vouched socket next old new broken (before ++ u ∷ after)
-tending_put {next} vouched socket old new broken before after u beside =
+pub tending_put : {next : ℕ} (vouched : Ask → List (List ℕ) → JwtToken → Type 0) (old new : SeatWorld) (broken : ℕ) (before after : List Under) (u : Under) →
+    Beside (λ k n past. Runs k n u past) vouched next old new broken before after → Tending vouched next old new broken (before ++ u ∷ after)
+tending_put {next} vouched old new broken before after u beside =
     let count : length before + length after + 1 ≡ length (before ++ u ∷ after) = omega (arith, length-append before (u ∷ after)) in
     record {
       running = beside.front ++ (beside.owner, u) ∷ beside.back;
@@ -364,16 +375,17 @@ tending_put {next} vouched socket old new broken before after u beside =
       rounds = beside.rounds;
       signed = beside.signed;
       times = beside.times;
+      starved = beside.starved;
       links_are = items_append beside.front ((beside.owner, u) ∷ beside.back) ∙ (λ i. beside.before_are i ++ u ∷ beside.after_are i);
       count = beside.count;
-      gathers = subst (λ (n : ℕ). SeatGathers socket old new (items_of beside.rounds) beside.signed beside.times (items_of beside.fulls ++ items_of beside.lates) n) count beside.gathers;
-      numbered = numbering.put (Runs (known vouched new beside.signed beside.times)) (TookFully (known vouched new beside.signed beside.times)) (TookPart (known vouched new beside.signed beside.times)) beside.front beside.back beside.owner u beside.fulls beside.lates beside.rounds next beside.numbered beside.one;
+      gathers = subst (λ (n : ℕ). SeatGathers old new (items_of beside.rounds) beside.signed beside.times beside.starved (items_of beside.fulls ++ items_of beside.lates) n) count beside.gathers;
+      numbered = numbering.put (Runs (known vouched new beside.signed beside.times beside.starved)) (TookFully (known vouched new beside.signed beside.times beside.starved)) (TookPart (known vouched new beside.signed beside.times beside.starved)) beside.front beside.back beside.owner u beside.fulls beside.lates beside.rounds next beside.numbered beside.one;
     }
 
 -- to the end of the queue
-pub beside_aside : {next : ℕ} (P : Known → ℕ → List Round → Type 0) (vouched : Ask → List (List ℕ) → JwtToken → Type 0) (socket : ℕ) (old new : SeatWorld) (broken : ℕ) (links : List Under) →
-    Beside P vouched socket next old new broken [] links → Beside P vouched socket next old new broken links []
-beside_aside {next} P vouched socket old new broken links beside =
+pub beside_aside : {next : ℕ} (P : Known → ℕ → List Round → Type 0) (vouched : Ask → List (List ℕ) → JwtToken → Type 0) (old new : SeatWorld) (broken : ℕ) (links : List Under) →
+    Beside P vouched next old new broken [] links → Beside P vouched next old new broken links []
+beside_aside {next} P vouched old new broken links beside =
     let count : 0 + length links + 1 ≡ length links + 0 + 1 = omega arith in
     record {
       front = beside.front ++ beside.back;
@@ -384,17 +396,18 @@ beside_aside {next} P vouched socket old new broken links beside =
       rounds = beside.rounds;
       signed = beside.signed;
       times = beside.times;
+      starved = beside.starved;
       before_are = items_append beside.front beside.back ∙ (λ i. beside.before_are i ++ beside.after_are i);
       after_are = refl;
       count = beside.count;
-      gathers = subst (λ (n : ℕ). SeatGathers socket old new (items_of beside.rounds) beside.signed beside.times (items_of beside.fulls ++ items_of beside.lates) n) count beside.gathers;
-      numbered = subst (λ (running : List (ℕ × Under)). Numbered (Runs (known vouched new beside.signed beside.times)) (TookFully (known vouched new beside.signed beside.times)) (TookPart (known vouched new beside.signed beside.times)) (one_apart beside.owner) running beside.fulls beside.lates beside.rounds next) (sym (none_after (beside.front ++ beside.back))) beside.numbered;
+      gathers = subst (λ (n : ℕ). SeatGathers old new (items_of beside.rounds) beside.signed beside.times beside.starved (items_of beside.fulls ++ items_of beside.lates) n) count beside.gathers;
+      numbered = subst (λ (running : List (ℕ × Under)). Numbered (Runs (known vouched new beside.signed beside.times beside.starved)) (TookFully (known vouched new beside.signed beside.times beside.starved)) (TookPart (known vouched new beside.signed beside.times beside.starved)) (one_apart beside.owner) running beside.fulls beside.lates beside.rounds next) (sym (none_after (beside.front ++ beside.back))) beside.numbered;
       one = beside.one;
     }
 
-pub beside_weaken : {next : ℕ} (P Q : Known → ℕ → List Round → Type 0) (vouched : Ask → List (List ℕ) → JwtToken → Type 0) (socket : ℕ) (old new : SeatWorld) (broken : ℕ) (before after : List Under) →
-    ((signed : List Delivery) (times : List ℕ) (n : ℕ) (past : List Round) → P (known vouched new signed times) n past → Q (known vouched new signed times) n past) → Beside P vouched socket next old new broken before after → Beside Q vouched socket next old new broken before after
-beside_weaken {next} P Q vouched socket old new broken before after follows beside =
+pub beside_weaken : {next : ℕ} (P Q : Known → ℕ → List Round → Type 0) (vouched : Ask → List (List ℕ) → JwtToken → Type 0) (old new : SeatWorld) (broken : ℕ) (before after : List Under) →
+    ((signed : List Delivery) (times starved : List ℕ) (n : ℕ) (past : List Round) → P (known vouched new signed times starved) n past → Q (known vouched new signed times starved) n past) → Beside P vouched next old new broken before after → Beside Q vouched next old new broken before after
+beside_weaken {next} P Q vouched old new broken before after follows beside =
     record {
       front = beside.front;
       back = beside.back;
@@ -404,24 +417,26 @@ beside_weaken {next} P Q vouched socket old new broken before after follows besi
       rounds = beside.rounds;
       signed = beside.signed;
       times = beside.times;
+      starved = beside.starved;
       before_are = beside.before_are;
       after_are = beside.after_are;
       count = beside.count;
       gathers = beside.gathers;
       numbered = beside.numbered;
-      one = follows beside.signed beside.times beside.owner (owned_by beside.owner beside.rounds) beside.one;
+      one = follows beside.signed beside.times beside.starved beside.owner (owned_by beside.owner beside.rounds) beside.one;
     }
 
 -- the link that is held apart gains a round
-pub beside_gains : {next : ℕ} (P Q : Known → ℕ → List Round → Type 0) (vouched : Ask → List (List ℕ) → JwtToken → Type 0) (socket : ℕ) (old mid new : SeatWorld) (broken : ℕ) (before after : List Under) (added : List Round) (more : List Delivery) (later : List ℕ) →
-    Adds socket mid new added more later →
-    ((signed : List Delivery) (times : List ℕ) (n : ℕ) (past : List Round) → P (known vouched mid signed times) n past → Q (known vouched new (signed ++ more) (times ++ later)) n (added ++ past)) →
-    Beside P vouched socket next old mid broken before after → Beside Q vouched socket next old new broken before after
-beside_gains {next} P Q vouched socket old mid new broken before after added more later adds follows beside =
+pub beside_gains : {next : ℕ} (P Q : Known → ℕ → List Round → Type 0) (vouched : Ask → List (List ℕ) → JwtToken → Type 0) (old mid new : SeatWorld) (broken : ℕ) (before after : List Under) (added : List Round) (more : List Delivery) (later : List ℕ) →
+    Adds mid new added more later →
+    ((signed : List Delivery) (times starved : List ℕ) (n : ℕ) (past : List Round) → P (known vouched mid signed times starved) n past → Q (known vouched new (signed ++ more) (times ++ later) starved) n (added ++ past)) →
+    Beside P vouched next old mid broken before after → Beside Q vouched next old new broken before after
+beside_gains {next} P Q vouched old mid new broken before after added more later adds follows beside =
     let signed = beside.signed in
     let times = beside.times in
-    let known_then : Known = known vouched new (signed ++ more) (times ++ later) in
-    let wider = numbering.weaken (Runs (known vouched mid signed times)) (Runs known_then) (TookFully (known vouched mid signed times)) (TookFully known_then) (TookPart (known vouched mid signed times)) (TookPart known_then) (one_apart beside.owner) (beside.front ++ beside.back) beside.fulls beside.lates beside.rounds next (runs_longer vouched mid new signed more times later adds.pass.seen) (fully_longer vouched mid new signed more times later adds.pass.seen) (part_longer vouched mid new signed more times later adds.pass.seen) beside.numbered in
+    let starved = beside.starved in
+    let known_then : Known = known vouched new (signed ++ more) (times ++ later) starved in
+    let wider = numbering.weaken (Runs (known vouched mid signed times starved)) (Runs known_then) (TookFully (known vouched mid signed times starved)) (TookFully known_then) (TookPart (known vouched mid signed times starved)) (TookPart known_then) (one_apart beside.owner) (beside.front ++ beside.back) beside.fulls beside.lates beside.rounds next (runs_longer vouched mid new signed more times later starved adds.sockets adds.pass.seen) (fully_longer vouched mid new signed more times later starved adds.sockets adds.pass.seen) (part_longer vouched mid new signed more times later starved adds.sockets adds.pass.seen) beside.numbered in
     record {
       front = beside.front;
       back = beside.back;
@@ -431,21 +446,22 @@ beside_gains {next} P Q vouched socket old mid new broken before after added mor
       rounds = tag beside.owner added ++ beside.rounds;
       signed = signed ++ more;
       times = times ++ later;
+      starved = starved;
       before_are = beside.before_are;
       after_are = beside.after_are;
       count = beside.count;
       gathers =
-          subst (λ (all : List Round). SeatGathers socket old new all (signed ++ more) (times ++ later) (items_of beside.fulls ++ items_of beside.lates) (length before + length after + 1))
+          subst (λ (all : List Round). SeatGathers old new all (signed ++ more) (times ++ later) starved (items_of beside.fulls ++ items_of beside.lates) (length before + length after + 1))
           (sym (items_append (tag beside.owner added) beside.rounds ∙ ap (λ (l : List Round). l ++ items_of beside.rounds) (items_tag beside.owner added)))
-          (gathers_round socket old mid new (items_of beside.rounds) added signed more times later (items_of beside.fulls ++ items_of beside.lates) (length before + length after + 1) beside.gathers adds);
+          (gathers_round old mid new (items_of beside.rounds) added signed more times later starved (items_of beside.fulls ++ items_of beside.lates) (length before + length after + 1) beside.gathers adds);
       numbered = numbering.gains (Runs known_then) (TookFully known_then) (TookPart known_then) (beside.front ++ beside.back) beside.fulls beside.lates beside.rounds next beside.owner added wider;
-      one = subst (λ (past : List Round). Q known_then beside.owner past) (sym (numbering.own_front beside.owner added beside.rounds)) (follows signed times beside.owner (owned_by beside.owner beside.rounds) beside.one);
+      one = subst (λ (past : List Round). Q known_then beside.owner past) (sym (numbering.own_front beside.owner added beside.rounds)) (follows signed times starved beside.owner (owned_by beside.owner beside.rounds) beside.one);
     }
 
 -- it was over, and is finished
-pub beside_finishes : {next : ℕ} (vouched : Ask → List (List ℕ) → JwtToken → Type 0) (socket : ℕ) (old mid new : SeatWorld) (before after : List Under) (f : FinishedLink) →
-    Beside (λ k n past. TookFully k n f past) vouched socket next old mid 0 before after → new.around ≡ mid.around → Finishes mid.listener new.listener f → Tending vouched socket next old new 0 (before ++ after)
-beside_finishes {next} vouched socket old mid new before after f beside same ends =
+pub beside_finishes : {next : ℕ} (vouched : Ask → List (List ℕ) → JwtToken → Type 0) (old mid new : SeatWorld) (before after : List Under) (f : FinishedLink) →
+    Beside (λ k n past. TookFully k n f past) vouched next old mid 0 before after → without_listener new ≡ without_listener mid → Finishes mid.listener new.listener f → Tending vouched next old new 0 (before ++ after)
+beside_finishes {next} vouched old mid new before after f beside same ends =
     let none : beside.lates ≡ [] = no_items beside.lates beside.count in
     let gained = finished_on old.listener mid.listener new.listener (items_of beside.fulls ++ items_of beside.lates) (length before + length after) f beside.gathers.listener ends in
     let listed = finished_full beside.fulls beside.lates beside.owner f none in
@@ -456,17 +472,18 @@ beside_finishes {next} vouched socket old mid new before after f beside same end
       rounds = beside.rounds;
       signed = beside.signed;
       times = beside.times;
+      starved = beside.starved;
       links_are = items_append beside.front beside.back ∙ (λ i. beside.before_are i ++ beside.after_are i);
       count = beside.count;
-      gathers = gathers_listener socket old mid new (items_of beside.rounds) beside.signed beside.times (items_of beside.fulls ++ items_of beside.lates) (items_of (beside.fulls ++ (beside.owner, f) ∷ []) ++ items_of beside.lates) (length before + length after + 1) (length (before ++ after)) beside.gathers same
+      gathers = gathers_listener old mid new (items_of beside.rounds) beside.signed beside.times beside.starved (items_of beside.fulls ++ items_of beside.lates) (items_of (beside.fulls ++ (beside.owner, f) ∷ []) ++ items_of beside.lates) (length before + length after + 1) (length (before ++ after)) beside.gathers same
           (subst (λ (n : ℕ). ListenerGains old.listener new.listener (items_of (beside.fulls ++ (beside.owner, f) ∷ []) ++ items_of beside.lates) n) (sym (length-append before after)) (subst (λ (l : List FinishedLink). ListenerGains old.listener new.listener l (length before + length after)) (sym listed) gained));
-      numbered = subst (λ (a : Around). Numbered (Runs (knowing vouched a beside.signed beside.times)) (TookFully (knowing vouched a beside.signed beside.times)) (TookPart (knowing vouched a beside.signed beside.times)) none_apart (beside.front ++ beside.back) (beside.fulls ++ (beside.owner, f) ∷ []) beside.lates beside.rounds next) (sym same) (numbering.finishes (Runs (known vouched mid beside.signed beside.times)) (TookFully (known vouched mid beside.signed beside.times)) (TookPart (known vouched mid beside.signed beside.times)) (beside.front ++ beside.back) beside.fulls beside.lates beside.rounds next beside.owner f beside.numbered beside.one);
+      numbered = subst (λ (w : SeatWorld). Numbered (Runs (known vouched w beside.signed beside.times beside.starved)) (TookFully (known vouched w beside.signed beside.times beside.starved)) (TookPart (known vouched w beside.signed beside.times beside.starved)) none_apart (beside.front ++ beside.back) (beside.fulls ++ (beside.owner, f) ∷ []) beside.lates beside.rounds next) (sym same) (numbering.finishes (Runs (known vouched mid beside.signed beside.times beside.starved)) (TookFully (known vouched mid beside.signed beside.times beside.starved)) (TookPart (known vouched mid beside.signed beside.times beside.starved)) (beside.front ++ beside.back) beside.fulls beside.lates beside.rounds next beside.owner f beside.numbered beside.one);
     }
 
 -- it is finished as it stands
-pub beside_breaks : {next : ℕ} (vouched : Ask → List (List ℕ) → JwtToken → Type 0) (socket : ℕ) (old mid new : SeatWorld) (broken : ℕ) (before after : List Under) (f : FinishedLink) →
-    Beside (λ k n past. TookPart k n f past) vouched socket next old mid broken before after → new.around ≡ mid.around → Finishes mid.listener new.listener f → Tending vouched socket next old new (broken + 1) (before ++ after)
-beside_breaks {next} vouched socket old mid new broken before after f beside same ends =
+pub beside_breaks : {next : ℕ} (vouched : Ask → List (List ℕ) → JwtToken → Type 0) (old mid new : SeatWorld) (broken : ℕ) (before after : List Under) (f : FinishedLink) →
+    Beside (λ k n past. TookPart k n f past) vouched next old mid broken before after → without_listener new ≡ without_listener mid → Finishes mid.listener new.listener f → Tending vouched next old new (broken + 1) (before ++ after)
+beside_breaks {next} vouched old mid new broken before after f beside same ends =
     let gained = finished_on old.listener mid.listener new.listener (items_of beside.fulls ++ items_of beside.lates) (length before + length after) f beside.gathers.listener ends in
     let listed = finished_late beside.fulls beside.lates beside.owner f in
     record {
@@ -476,11 +493,12 @@ beside_breaks {next} vouched socket old mid new broken before after f beside sam
       rounds = beside.rounds;
       signed = beside.signed;
       times = beside.times;
+      starved = beside.starved;
       links_are = items_append beside.front beside.back ∙ (λ i. beside.before_are i ++ beside.after_are i);
       count = length-append beside.lates ((beside.owner, f) ∷ []) ∙ ap (λ n. n + 1) beside.count;
-      gathers = gathers_listener socket old mid new (items_of beside.rounds) beside.signed beside.times (items_of beside.fulls ++ items_of beside.lates) (items_of beside.fulls ++ items_of (beside.lates ++ (beside.owner, f) ∷ [])) (length before + length after + 1) (length (before ++ after)) beside.gathers same
+      gathers = gathers_listener old mid new (items_of beside.rounds) beside.signed beside.times beside.starved (items_of beside.fulls ++ items_of beside.lates) (items_of beside.fulls ++ items_of (beside.lates ++ (beside.owner, f) ∷ [])) (length before + length after + 1) (length (before ++ after)) beside.gathers same
           (subst (λ (n : ℕ). ListenerGains old.listener new.listener (items_of beside.fulls ++ items_of (beside.lates ++ (beside.owner, f) ∷ [])) n) (sym (length-append before after)) (subst (λ (l : List FinishedLink). ListenerGains old.listener new.listener l (length before + length after)) (sym listed) gained));
-      numbered = subst (λ (a : Around). Numbered (Runs (knowing vouched a beside.signed beside.times)) (TookFully (knowing vouched a beside.signed beside.times)) (TookPart (knowing vouched a beside.signed beside.times)) none_apart (beside.front ++ beside.back) beside.fulls (beside.lates ++ (beside.owner, f) ∷ []) beside.rounds next) (sym same) (numbering.breaks (Runs (known vouched mid beside.signed beside.times)) (TookFully (known vouched mid beside.signed beside.times)) (TookPart (known vouched mid beside.signed beside.times)) (beside.front ++ beside.back) beside.fulls beside.lates beside.rounds next beside.owner f beside.numbered beside.one);
+      numbered = subst (λ (w : SeatWorld). Numbered (Runs (known vouched w beside.signed beside.times beside.starved)) (TookFully (known vouched w beside.signed beside.times beside.starved)) (TookPart (known vouched w beside.signed beside.times beside.starved)) none_apart (beside.front ++ beside.back) beside.fulls (beside.lates ++ (beside.owner, f) ∷ []) beside.rounds next) (sym same) (numbering.breaks (Runs (known vouched mid beside.signed beside.times beside.starved)) (TookFully (known vouched mid beside.signed beside.times beside.starved)) (TookPart (known vouched mid beside.signed beside.times beside.starved)) (beside.front ++ beside.back) beside.fulls beside.lates beside.rounds next beside.owner f beside.numbered beside.one);
     }
 
 -- where there are none, none has a number
@@ -489,14 +507,15 @@ no_tally k [] none = refl
 no_tally k (x ∷ xs) none = absurd (cc none)
 
 -- no link is under way any more
-pub tending_tends : {next : ℕ} (vouched : Ask → List (List ℕ) → JwtToken → Type 0) (socket room : ℕ) (end : SeatEnd) (old new : SeatWorld) (broken : ℕ) → Tending vouched socket next old new broken [] → broken ≤ room → (end ≡ seat.End → broken ≡ 0) → Tends vouched socket room end old new
-tending_tends {next} vouched socket room end old new broken held few ended =
+pub tending_tends : {next : ℕ} (vouched : Ask → List (List ℕ) → JwtToken → Type 0) (room : ℕ) (end : SeatEnd) (old new : SeatWorld) (broken : ℕ) → Tending vouched next old new broken [] → broken ≤ room → (end ≡ seat.End → broken ≡ 0) → Tends vouched room end old new
+tending_tends {next} vouched room end old new broken held few ended =
     record {
       fulls = held.fulls;
       lates = held.lates;
       rounds = held.rounds;
       signed = held.signed;
       times = held.times;
+      starved = held.starved;
       gathers = held.gathers;
       once = λ k. omega (arith, held.numbered.once k);
       owners = λ k none. held.numbered.owners k (omega (arith, none, no_tally k held.running held.links_are));

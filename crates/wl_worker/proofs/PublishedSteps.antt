@@ -19,7 +19,7 @@ use Rattle.wl_store.specs.declared.tickets.Change.{Change}
 use Rattle.wl_store.specs.declared.tickets.Change.TheVariants as change
 use Rattle.wl_store.specs.Stores.{Store, with_entries, after_signed, install, svids_after, shows_parts}
 use Rattle.wl_store.specs.Steps.{Stored, stored_after, after_sync, change_to}
-use Rattle.wl_store.proofs.Settling.{settled_same, settled_new, change_same}
+use Rattle.wl_store.proofs.StoreSteps.{settled_same, settled_new, change_same}
 use Rattle.wl_publish.specs.Lists.{IsLast}
 use Rattle.wl_publish.specs.Listings.{Listing, listing}
 use Rattle.wl_desk.specs.Desks.{grown, noted}
@@ -78,7 +78,7 @@ taken_is_shown document list m n last is =
 
 -- ---- a fault
 
--- a fault other than want of memory is the one that is due
+-- a fault other than out of memory is the one that is due
 pub fault_is_due : {Y : Type 0} (e : DocFault) (due : Result Y DocFault) → (e ≡ Memory → ⊥) → Faults e due → due ≡ Err e
 fault_is_due Memory due other faults = absurd (other refl)
 fault_is_due NotJson due other faults = faults

@@ -8,8 +8,9 @@ use Rattle.wl_entry.specs.declared.asks.Ask.{Ask}
 use Rattle.wl_entry.specs.declared.signing.Signed.{Signed}
 use Rattle.wl_snapshot.specs.Snapshots.{Publication}
 use Rattle.wl_publish.specs.Listings.{Passing}
+use Rattle.wl_edge.specs.declared.origin.Origin.{Origin}
 use Rattle.wl_edge.specs.Edge.{Rose}
-use Rattle.wl_edge.specs.Listeners.{ListenerLog, FinishedLink, is_link, links_given, with_kind, HasOpenLink, Finishes}
+use Rattle.wl_edge.specs.Listeners.{ListenerLog, FinishedLink, BoundSocket, is_link, links_given, with_kind, HasOpenLink, Finishes}
 use Rattle.wl_edge.specs.declared.listener.AcceptKind.{AcceptKind}
 use Rattle.wl_edge.specs.declared.listener.AcceptKind.TheVariants as kind
 use Rattle.wl_session.specs.Sessions.{fresh_session}
@@ -26,7 +27,7 @@ use Rattle.wl_worker.specs.declared.step.Step.{Step}
 use Rattle.wl_worker.specs.declared.step.Step.TheVariants as step
 use Rattle.wl_edge.specs.declared.fault.EdgeFault.{EdgeFault}
 use Rattle.wl_edge.specs.declared.fault.EdgeFault.TheVariants as edge
-use Rattle.wl_worker.proofs.Reading.{seen_longer, prefix_then, prefix_same, read_prefix}
+use Rattle.wl_worker.proofs.SeenPublications.{seen_longer, prefix_then, prefix_same, read_prefix}
 
 -- ---- the listener
 
@@ -139,17 +140,17 @@ read_sees : (valid : Ask → Signed → Type 0) (added : List Round) (v w : Pass
 read_sees valid [] v w read = subst (λ (k : Passing). IsPrefix v.seen k.seen) (sym read) (prefix_same v.seen)
 read_sees valid (r ∷ more) v w read = read_prefix valid r.shown v w read.1
 
-pub round_sees : {valid : Ask → Signed → Type 0} {vouched : Asker} {socket : ℕ} {old new : ServedState} {log_before log_now : Option LinkLog} {before now : Around} {end : RoundEnd}
-    → RoundTells valid vouched socket old new log_before log_now before now end → IsPrefix before.pass.seen now.pass.seen
-round_sees {valid} {vouched} {socket} {old} {new} {log_before} {log_now} {before} {now} {end} round = read_sees valid round.added before.pass now.pass round.read
+pub round_sees : {valid : Ask → Signed → Type 0} {vouched : Asker} {origin : Origin} {old new : ServedState} {log_before log_now : Option LinkLog} {before now : Around} {end : RoundEnd}
+    → RoundTells valid vouched origin old new log_before log_now before now end → IsPrefix before.pass.seen now.pass.seen
+round_sees {valid} {vouched} {origin} {old} {new} {log_before} {log_now} {before} {now} {end} round = read_sees valid round.added before.pass now.pass round.read
 
 -- ---- one part, and then another
 
 pub goes_still : (w : SeatView) (xs : List Under) → Goes w w xs xs []
 goes_still w xs =
     record {
-      socket = refl;
       room = refl;
+      sockets = refl;
       listens = omega arith;
       waits = omega arith;
       sees = prefix_same (seen_by w);
@@ -160,8 +161,8 @@ goes_still w xs =
 pub goes_then : (a b c : SeatView) (xs ys zs : List Under) (j k : List AcceptKind) → Goes a b xs ys j → Goes b c ys zs k → Goes a c xs zs (j ++ k)
 goes_then a b c xs ys zs j k one other =
     record {
-      socket = other.socket ∙ one.socket;
       room = other.room ∙ one.room;
+      sockets = other.sockets ∙ one.sockets;
       listens = omega (arith, one.listens, other.listens);
       waits = omega (arith, one.waits, other.waits);
       sees = prefix_then (seen_by a) (seen_by b) (seen_by c) one.sees other.sees;
@@ -195,15 +196,15 @@ goes_first {A} a b f x xs ys zs j is goes = subst (λ (l : List A). Goes a b (ma
 
 -- ---- a round of the first link
 
-module _ {next : ℕ} (socket room listener_faults : ℕ) (before now : Around) (sees : IsPrefix before.pass.seen now.pass.seen) where
+module _ {next starved : ℕ} {sockets : Option (List BoundSocket)} (room listener_faults : ℕ) (before now : Around) (sees : IsPrefix before.pass.seen now.pass.seen) where
   -- it goes to the end of the queue
   pub goes_round : (ready_faults : ℕ) (listener : Option ListenerLog) (u v : Under) (xs : List Under) → HasSeenLast now.pass.seen v.served.session
-      → Goes (seat_view socket room next listener_faults ready_faults (seat_world listener before)) (seat_view socket room next listener_faults ready_faults (seat_world listener now)) (u ∷ xs) (xs ++ v ∷ []) []
+      → Goes (seat_view room next listener_faults ready_faults (seat_world sockets listener starved before)) (seat_view room next listener_faults ready_faults (seat_world sockets listener starved now)) (u ∷ xs) (xs ++ v ∷ []) []
   goes_round ready_faults listener u v xs last =
       let same : length (u ∷ xs) ≡ length (xs ++ v ∷ []) = omega (arith, length-append xs (v ∷ [])) in
       record {
-        socket = refl;
         room = refl;
+        sockets = refl;
         listens = omega arith;
         waits = omega arith;
         sees = sees;
@@ -212,13 +213,13 @@ module _ {next : ℕ} (socket room listener_faults : ℕ) (before now : Around) 
       }
 
   -- it was over, and is finished
-  pub goes_over : (ready_faults faults_now listens_now : ℕ) (listener listener_now : Option ListenerLog) (u : Under) (xs : List Under) (f : FinishedLink) → listens_now ≡ listener_faults → ready_faults ≤ faults_now → (listener ≡ None → listener_now ≡ None) → Finishes listener listener_now f
-      → Goes (seat_view socket room next listener_faults ready_faults (seat_world listener before)) (seat_view socket room next listens_now faults_now (seat_world listener_now now)) (u ∷ xs) xs []
-  goes_over ready_faults faults_now listens_now listener listener_now u xs f listens waits silent ends =
+  pub goes_over : {starved_now : ℕ} {sockets_now : Option (List BoundSocket)} (ready_faults faults_now listens_now : ℕ) (listener listener_now : Option ListenerLog) (u : Under) (xs : List Under) (f : FinishedLink) → listens_now ≡ listener_faults → ready_faults ≤ faults_now → (listener ≡ None → listener_now ≡ None) → sockets_now ≡ sockets → Finishes listener listener_now f
+      → Goes (seat_view room next listener_faults ready_faults (seat_world sockets listener starved before)) (seat_view room next listens_now faults_now (seat_world sockets_now listener_now starved_now now)) (u ∷ xs) xs []
+  goes_over {starved_now} {sockets_now} ready_faults faults_now listens_now listener listener_now u xs f listens waits silent sockets_kept ends =
       let one : length xs + 1 ≡ length (u ∷ xs) = omega arith in
       record {
-        socket = refl;
         room = refl;
+        sockets = sockets_kept;
         listens = omega (arith, listens);
         waits = waits;
         sees = sees;
@@ -227,12 +228,12 @@ module _ {next : ℕ} (socket room listener_faults : ℕ) (before now : Around) 
       }
 
 -- the watcher was asked
-pub goes_waited : {next : ℕ} (socket room listener_faults ready_faults faults_now : ℕ) (world : SeatWorld) (xs : List Under) → ready_faults ≤ faults_now
-    → Goes (seat_view socket room next listener_faults ready_faults world) (seat_view socket room next listener_faults faults_now world) xs xs []
-goes_waited socket room listener_faults ready_faults faults_now world xs waits =
+pub goes_waited : {next : ℕ} (room listener_faults ready_faults faults_now : ℕ) (world : SeatWorld) (xs : List Under) → ready_faults ≤ faults_now
+    → Goes (seat_view room next listener_faults ready_faults world) (seat_view room next listener_faults faults_now world) xs xs []
+goes_waited room listener_faults ready_faults faults_now world xs waits =
     record {
-      socket = refl;
       room = refl;
+      sockets = refl;
       listens = omega arith;
       waits = waits;
       sees = prefix_same world.around.pass.seen;
@@ -410,15 +411,15 @@ listened end a b ended = listened_at end a.world.listener b.world.listener ended
 pub still_idle : (w : SeatView) (xs : List Under) → Stepped w w xs xs step.Idle
 still_idle w xs = record { kinds = []; goes = goes_still w xs; accepts = tt; fits = tt }
 
-module _ {next : ℕ} (socket room faults faults_now : ℕ) (around : Around) (listener listener_now : Option ListenerLog) (xs : List Under) (later : faults ≤ faults_now) (silent : listener ≡ None → listener_now ≡ None) where
+module _ {next starved : ℕ} {sockets sockets_now : Option (List BoundSocket)} (room faults faults_now : ℕ) (around : Around) (listener listener_now : Option ListenerLog) (xs : List Under) (later : faults ≤ faults_now) (silent : listener ≡ None → listener_now ≡ None) (sockets_kept : sockets_now ≡ sockets) where
   -- no link was there
   pub goes_answered : (ready_faults : ℕ) (answer : AcceptKind) → links_given (answer ∷ []) ≡ 0 → IfSome listener (λ log. listener_now ≡ Some (with_kind log answer))
-      → Goes (seat_view socket room next faults ready_faults (seat_world listener around)) (seat_view socket room next faults_now ready_faults (seat_world listener_now around)) xs xs (answer ∷ [])
+      → Goes (seat_view room next faults ready_faults (seat_world sockets listener starved around)) (seat_view room next faults_now ready_faults (seat_world sockets_now listener_now starved around)) xs xs (answer ∷ [])
   goes_answered ready_faults answer none answers =
       let same : length xs + links_given (answer ∷ []) ≡ length xs = omega (arith, none) in
       record {
-        socket = refl;
         room = refl;
+        sockets = sockets_kept;
         listens = later;
         waits = omega arith;
         sees = prefix_same around.pass.seen;
@@ -427,16 +428,16 @@ module _ {next : ℕ} (socket room faults faults_now : ℕ) (around : Around) (l
       }
 
   pub step_idle : (ready_faults : ℕ) → IfSome listener (λ log. listener_now ≡ Some (with_kind log kind.Idle))
-      → Stepped (seat_view socket room next faults ready_faults (seat_world listener around)) (seat_view socket room next faults_now ready_faults (seat_world listener_now around)) xs xs step.Idle
+      → Stepped (seat_view room next faults ready_faults (seat_world sockets listener starved around)) (seat_view room next faults_now ready_faults (seat_world sockets_now listener_now starved around)) xs xs step.Idle
   step_idle ready_faults answers = record { kinds = kind.Idle ∷ []; goes = goes_answered ready_faults kind.Idle refl answers; accepts = tt; fits = tt }
 
   pub step_closed : (ready_faults : ℕ) → IfSome listener (λ log. listener_now ≡ Some (with_kind log kind.End))
-      → Stepped (seat_view socket room next faults ready_faults (seat_world listener around)) (seat_view socket room next faults_now ready_faults (seat_world listener_now around)) xs xs step.Closed
+      → Stepped (seat_view room next faults ready_faults (seat_world sockets listener starved around)) (seat_view room next faults_now ready_faults (seat_world sockets_now listener_now starved around)) xs xs step.Closed
   step_closed ready_faults answers = record { kinds = kind.End ∷ []; goes = goes_answered ready_faults kind.End refl answers; accepts = ([], refl, tt); fits = tt }
 
   -- a link came, and is served
   pub step_came : {next_now : ℕ} (ready_faults waits_now : ℕ) (v : Under) → ready_faults ≤ waits_now → IfSome listener (λ log. listener_now ≡ Some (with_kind log kind.Link)) → v.served ≡ record { session = fresh_session; unsent = [] }
-      → Stepped (seat_view socket room next faults ready_faults (seat_world listener around)) (seat_view socket room next_now faults_now waits_now (seat_world listener_now around)) xs (xs ++ v ∷ []) step.On
+      → Stepped (seat_view room next faults ready_faults (seat_world sockets listener starved around)) (seat_view room next_now faults_now waits_now (seat_world sockets_now listener_now starved around)) xs (xs ++ v ∷ []) step.On
   step_came ready_faults waits_now v waits answers fresh =
       let one : links_given (kind.Link ∷ []) ≡ 1 = refl in
       let same : length xs + links_given (kind.Link ∷ []) ≡ length (xs ++ v ∷ []) = omega (arith, one, length-append xs (v ∷ [])) in
@@ -444,8 +445,8 @@ module _ {next : ℕ} (socket room faults faults_now : ℕ) (around : Around) (l
       record {
         kinds = kind.Link ∷ [];
         goes = record {
-          socket = refl;
           room = refl;
+          sockets = sockets_kept;
           listens = later;
           waits = waits;
           sees = prefix_same around.pass.seen;
@@ -457,15 +458,15 @@ module _ {next : ℕ} (socket room faults faults_now : ℕ) (around : Around) (l
       }
 
   -- a link came, and is finished at once
-  pub goes_went : {next_now : ℕ} (ready_faults waits_now faults_then : ℕ) (listener_then : Option ListenerLog) (f : FinishedLink) → ready_faults ≤ waits_now → faults_then ≡ faults_now → (listener_now ≡ None → listener_then ≡ None) → IfSome listener (λ log. listener_now ≡ Some (with_kind log kind.Link)) → Finishes listener_now listener_then f
-      → Goes (seat_view socket room next faults ready_faults (seat_world listener around)) (seat_view socket room next_now faults_then waits_now (seat_world listener_then around)) xs xs (kind.Link ∷ [])
-  goes_went ready_faults waits_now faults_then listener_then f waits same still answers ends =
+  pub goes_went : {next_now starved_now : ℕ} {sockets_then : Option (List BoundSocket)} (ready_faults waits_now faults_then : ℕ) (listener_then : Option ListenerLog) (f : FinishedLink) → ready_faults ≤ waits_now → faults_then ≡ faults_now → (listener_now ≡ None → listener_then ≡ None) → sockets_then ≡ sockets_now → IfSome listener (λ log. listener_now ≡ Some (with_kind log kind.Link)) → Finishes listener_now listener_then f
+      → Goes (seat_view room next faults ready_faults (seat_world sockets listener starved around)) (seat_view room next_now faults_then waits_now (seat_world sockets_then listener_then starved_now around)) xs xs (kind.Link ∷ [])
+  goes_went ready_faults waits_now faults_then listener_then f waits same still sockets_still answers ends =
       let one : links_given (kind.Link ∷ []) ≡ 1 = refl in
       let same_count : length xs + links_given (kind.Link ∷ []) ≡ length xs + 1 = omega (arith, one) in
       let came = subst (λ (n : ℕ). ListensOn listener listener_now (length xs) n (kind.Link ∷ [])) same_count (listens_answered listener listener_now (length xs) kind.Link silent answers) in
       record {
-        socket = refl;
         room = refl;
+        sockets = sockets_still ∙ sockets_kept;
         listens = omega (arith, later, same);
         waits = waits;
         sees = prefix_same around.pass.seen;
@@ -484,16 +485,16 @@ failed_at faults (Some log) listener_now n silent (inl told) =
     (kind.Failed ∷ [], subst (λ (m : ℕ). ListensOn (Some log) listener_now n m (kind.Failed ∷ [])) same (listens_answered (Some log) listener_now n kind.Failed silent told), tt)
 failed_at faults (Some log) listener_now n silent (inr full) = ([], subst (λ (o : Option ListenerLog). ListensOn (Some log) o n n []) (sym full.1) (listens_none (Some log) n), tt)
 
-pub step_failed : {next : ℕ} (socket room faults faults_now ready_faults : ℕ) (around : Around) (listener listener_now : Option ListenerLog) (xs : List Under) → faults ≤ faults_now → Rose faults faults_now → (listener ≡ None → listener_now ≡ None)
+pub step_failed : {next starved : ℕ} {sockets sockets_now : Option (List BoundSocket)} (room faults faults_now ready_faults : ℕ) (around : Around) (listener listener_now : Option ListenerLog) (xs : List Under) → faults ≤ faults_now → Rose faults faults_now → (listener ≡ None → listener_now ≡ None) → sockets_now ≡ sockets
     → IfSome listener (λ log. (listener_now ≡ Some (with_kind log kind.Failed)) ⊎ ((2 ^ 64 ≤ faults + 1) × (listener_now ≡ Some log)))
-    → Stepped (seat_view socket room next faults ready_faults (seat_world listener around)) (seat_view socket room next faults_now ready_faults (seat_world listener_now around)) xs xs (step.Over seat.ListenFault)
-step_failed socket room faults faults_now ready_faults around listener listener_now xs later rose silent tells =
+    → Stepped (seat_view room next faults ready_faults (seat_world sockets listener starved around)) (seat_view room next faults_now ready_faults (seat_world sockets_now listener_now starved around)) xs xs (step.Over seat.ListenFault)
+step_failed room faults faults_now ready_faults around listener listener_now xs later rose silent sockets_kept tells =
     let how = failed_at faults listener listener_now (length xs) silent tells in
     record {
       kinds = how.0;
       goes = record {
-        socket = refl;
         room = refl;
+        sockets = sockets_kept;
         listens = later;
         waits = omega arith;
         sees = prefix_same around.pass.seen;
@@ -504,8 +505,8 @@ step_failed socket room faults faults_now ready_faults around listener listener_
       fits = rose;
     }
 
-pub step_memory : (a b : SeatView) (xs : List Under) → Goes a b xs xs (kind.Link ∷ []) → Stepped a b xs xs (step.Over seat.Memory)
-step_memory a b xs goes = record { kinds = kind.Link ∷ []; goes = goes; accepts = tt; fits = tt }
+pub step_starved : (a b : SeatView) (xs : List Under) → Goes a b xs xs (kind.Link ∷ []) → Stepped a b xs xs step.On
+step_starved a b xs goes = record { kinds = kind.Link ∷ []; goes = goes; accepts = tt; fits = tt }
 
 pub step_unwatched : (a b : SeatView) (xs : List Under) (fault : EdgeFault) (end : SeatEnd) → end ≡ seat_end_of fault → Goes a b xs xs (kind.Link ∷ []) → (fault ≡ edge.Failed → Rose a.ready_faults b.ready_faults) → Stepped a b xs xs (step.Over end)
 step_unwatched a b xs fault end is goes rose =

@@ -10,8 +10,8 @@ use Rattle.wl_session.specs.Talks.{Talking, fresh_talk}
 use Rattle.wl_session.specs.Sessions.{SessionState, Running, Fallen, OutOfMemory, fresh_session, feed_said, name_said, state_of_fault, unnamed_in, asks_in}
 use Rattle.wl_session.specs.Steps.{Told}
 use Rattle.wl_session.specs.Items.{Item, items_said, item_said, talk, reading_items}
-use Rattle.wl_session.proofs.Settling.{settled_fresh, settled_feed, settled_name}
-use Rattle.wl_session.proofs.Blinding.{blind, blind_said, one_item, reading_blind, name_some_blind, name_none_blind}
+use Rattle.wl_session.proofs.SessionFacts.{settled_fresh, settled_feed, settled_name}
+use Rattle.wl_session.proofs.WithoutSelectors.{blind, blind_said, one_item, reading_blind, name_some_blind, name_none_blind}
 use Rattle.wl_session.proofs.Traces.{IsStill, Follows, FollowsOn, after_more, read_greets, name_greets, stays, turn_follows, outcome_follows}
 use Rattle.wl_worker.specs.Rounds.{Round, then_told, heard_told, name_told_at, answer_told, answers_told, shown_told, given_told_at, given_told, outcomes_told, heard_session, named_session, turned_session, round_told, heard_items, answer_item, answer_item_at, answer_items, shown_items, given_item_at, outcome_items, round_items, session_after, trace}
 

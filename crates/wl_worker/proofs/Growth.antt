@@ -1,4 +1,4 @@
--- Lists that are told, and counts, grow in steps.
+-- Lists that are recorded, and counts, grow in steps.
 use Rattle.std.proofs.Common.{◌≡◌, ℕ, ◌+◌, ◌≤◌, ◌⊎◌, inl, inr, true, List, [], ◌∷◌, ◌++◌, Option, Some, None, sym, ap, ◌∙◌, append_assoc, arith}
 use Rattle.std.specs.Prelude.{IsSomeAnd}
 use Rattle.std.proofs.lemmas.List.{append-nil}
@@ -17,7 +17,7 @@ use Rattle.wl_worker.specs.Counts.{RoseBy}
 use Rattle.wl_worker.specs.Outcomes.{Asker, unanswered, unsigned, GainsAll, Ticked, WasAnswered, IsOutcome}
 use Rattle.wl_worker.specs.Served.{log_on, LinkGains}
 
--- ---- lists that are told
+-- ---- lists that are recorded
 
 pub gains_none : {C : Type 0} (told : Option (List C)) → GainsAll told told []
 gains_none None = tt

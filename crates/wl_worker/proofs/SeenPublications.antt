@@ -16,7 +16,7 @@ use Rattle.wl_session.specs.Settled.{MayTurn}
 use Rattle.wl_worker.specs.Rounds.{Round, IsIn, IsKnown, AreKnown, number_of, numbers}
 use Rattle.wl_worker.specs.Served.{ReadIn, last_shown, HasSeenLast}
 use Rattle.wl_worker.specs.Stepping.{KeepsLast}
-use Rattle.wl_worker.proofs.Gaining.{in_front, in_back}
+use Rattle.wl_worker.proofs.Growth.{in_front, in_back}
 
 -- ---- lists of publications
 
