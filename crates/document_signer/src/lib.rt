@@ -6,8 +6,6 @@
 
 mod identities;
 mod signer;
-#[cfg(test)]
-mod tests;
 mod upstream;
 mod vouching;
 

@@ -3,15 +3,17 @@ use Rattle.std.specs.Prelude.{ℕ, List, codes}
 use Rattle.event_log.specs.declared.level.Level.{Level}
 use Rattle.event_log.specs.declared.level.Level.TheVariants.{Error, Warn, Info, Debug}
 use Rattle.event_log.specs.declared.causes.BindCause.{BindCause}
-use Rattle.event_log.specs.declared.causes.BindCause.TheVariants.{Taken, NotASocket, Refused}
+use Rattle.event_log.specs.declared.causes.BindCause.TheVariants.{Taken, NotASocket, StaleOfOtherUser, Refused}
 use Rattle.event_log.specs.declared.causes.Reason.{Reason}
 use Rattle.event_log.specs.declared.causes.Reason.TheVariants.{NotFound, PermissionDenied, ConnectionRefused, AddressInUse, WouldBlock, TimedOut, InvalidInput, Other}
 use Rattle.event_log.specs.declared.causes.PullCause.{PullCause}
 use Rattle.event_log.specs.declared.causes.PullCause.TheVariants.{Socket, File}
 use Rattle.event_log.specs.declared.causes.SignCause.{SignCause}
 use Rattle.event_log.specs.declared.causes.SignCause.TheVariants.{NoAnswer, NotInDocument}
+use Rattle.event_log.specs.declared.causes.LinkCause.{LinkCause}
+use Rattle.event_log.specs.declared.causes.LinkCause.TheVariants.{ReceiveFailed, SendFailed}
 use Rattle.event_log.specs.declared.event.Event.{Event}
-use Rattle.event_log.specs.declared.event.Event.TheVariants.{BindFailed, ConfigurationUnread, ConfigurationRefused, FirstDocumentRefused, NoFirstDocument, ListenFailed, HostFailed, OutputFailed, OutOfMemory, AuthorityFailed, AuthorityBack, SigningFailed, TokenFailed, Signed, SignerBack, Serving, Stopping, Connected, Closed}
+use Rattle.event_log.specs.declared.event.Event.TheVariants.{BindFailed, ConfigurationUnread, ConfigurationRefused, FirstDocumentRefused, NoFirstDocument, ListenFailed, HostFailed, OutputFailed, OutOfMemory, DocumentRefused, DocumentTaken, AuthorityFailed, AuthorityBack, SigningFailed, TokenFailed, IdentityEnded, IdentityNotYetValid, ConnectionFailed, Signed, SignerBack, Serving, Stopping, Connected, Closed}
 
 unfoldable pub level_name : Level → List ℕ
 level_name Error = codes "error"
@@ -36,10 +38,15 @@ level_of (ListenFailed _) = Error
 level_of HostFailed = Error
 level_of OutputFailed = Error
 level_of OutOfMemory = Error
+level_of (DocumentRefused _) = Warn
+level_of (DocumentTaken _ _) = Info
 level_of (AuthorityFailed _ _) = Warn
 level_of AuthorityBack = Info
 level_of (SigningFailed _ _) = Warn
 level_of (TokenFailed _ _) = Warn
+level_of (IdentityEnded _) = Warn
+level_of (IdentityNotYetValid _ _) = Warn
+level_of (ConnectionFailed _ _) = Debug
 level_of (Signed _ _) = Info
 level_of SignerBack = Info
 level_of (Serving _) = Info
@@ -57,10 +64,15 @@ event_name (ListenFailed _) = codes "listen_failed"
 event_name HostFailed = codes "host_failed"
 event_name OutputFailed = codes "output_failed"
 event_name OutOfMemory = codes "out_of_memory"
+event_name (DocumentRefused _) = codes "document_refused"
+event_name (DocumentTaken _ _) = codes "document_taken"
 event_name (AuthorityFailed _ _) = codes "authority_failed"
 event_name AuthorityBack = codes "authority_back"
 event_name (SigningFailed _ _) = codes "signing_failed"
 event_name (TokenFailed _ _) = codes "token_failed"
+event_name (IdentityEnded _) = codes "identity_ended"
+event_name (IdentityNotYetValid _ _) = codes "identity_not_yet_valid"
+event_name (ConnectionFailed _ _) = codes "connection_failed"
 event_name (Signed _ _) = codes "signed"
 event_name SignerBack = codes "signer_back"
 event_name (Serving _) = codes "serving"
@@ -71,6 +83,7 @@ event_name (Closed _) = codes "closed"
 unfoldable pub bind_name : BindCause → List ℕ
 bind_name Taken = codes "taken"
 bind_name NotASocket = codes "not_a_socket"
+bind_name StaleOfOtherUser = codes "stale_of_other_user"
 bind_name (Refused _) = codes "refused"
 
 unfoldable pub reason_name : Reason → List ℕ
@@ -90,3 +103,7 @@ pull_name File = codes "file"
 unfoldable pub sign_name : SignCause → List ℕ
 sign_name NoAnswer = codes "no_answer"
 sign_name NotInDocument = codes "not_in_document"
+
+unfoldable pub link_name : LinkCause → List ℕ
+link_name ReceiveFailed = codes "receive_failed"
+link_name SendFailed = codes "send_failed"

@@ -9,6 +9,8 @@ pub enum BindCause {
     Taken,
     /// What stands there is no socket.
     NotASocket,
+    /// A socket stands there to which this user may not connect.
+    StaleOfOtherUser,
     /// The operating system refused, for this reason.
     Refused(Reason),
 }
@@ -43,6 +45,15 @@ pub enum SignCause {
     NoAnswer,
     /// The document has no identity for the entry, and signs no token.
     NotInDocument,
+}
+
+/// Why a connection failed.
+#[derive(Clone, Copy, Debug, Drop, PartialEq, Eq)]
+pub enum LinkCause {
+    /// A receive failed: its peer went away over bytes that it had not read, as one does that wanted one message.
+    ReceiveFailed,
+    /// A sending failed: its peer went away, or did not read in time while the agent ended.
+    SendFailed,
 }
 
 impl Reason {

@@ -1,6 +1,6 @@
 //! What may be said. No variant holds the bytes of a key, a token or a message.
 
-use crate::causes::{BindCause, PullCause, SignCause};
+use crate::causes::{BindCause, LinkCause, PullCause, SignCause};
 use crate::fault_line::FaultLine;
 use crate::path_text::PathText;
 use crate::time_text::TimeText;
@@ -28,6 +28,10 @@ pub enum Event<'a> {
     OutputFailed,
     /// Memory ran out.
     OutOfMemory,
+    /// A later document has this fault, and nothing of it is taken.
+    DocumentRefused(&'a FaultLine),
+    /// Another document than the last was taken, with so many entries and bundles.
+    DocumentTaken(u64, u64),
     /// No document came, for the first time at this time.
     AuthorityFailed(PullCause, &'a TimeText),
     /// A document came again.
@@ -36,6 +40,12 @@ pub enum Event<'a> {
     SigningFailed(&'a Ask, SignCause),
     /// No token was signed for the ask.
     TokenFailed(&'a Ask, SignCause),
+    /// The last identity that was signed for the ask has ended.
+    IdentityEnded(&'a Ask),
+    /// An identity was signed for the ask, which is valid from this Unix second on and isn't yet.
+    IdentityNotYetValid(&'a Ask, u64),
+    /// A connection of this socket failed.
+    ConnectionFailed(u32, LinkCause),
     /// An identity was signed for the ask, which ends at this Unix second.
     Signed(&'a Ask, u64),
     /// The signer answered again.

@@ -6,7 +6,7 @@ ghost use Rattle.event_log.specs.Lines.{said, line, fits};
 ghost use Rattle.event_log.specs.declared.event.Event.{Event};
 
 /// Text from outside adds no byte that isn't printed ASCII, and so no line.
-#[tactic(auto, using(crate::proofs::Printed::text_printed))]
+#[tactic(auto, using(crate::proofs::PrintableText::text_printed))]
 pub fn texts_are_printed()
     ensures { (bytes : List ℕ) → are_printed (escaped bytes) ≡ true }
 {}

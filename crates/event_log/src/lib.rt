@@ -13,10 +13,10 @@ mod line;
 mod names;
 mod path_text;
 mod repeats;
-mod texts;
+pub mod texts;
 mod time_text;
 
-pub use causes::{BindCause, PullCause, Reason, SignCause};
+pub use causes::{BindCause, LinkCause, PullCause, Reason, SignCause};
 pub use event::Event;
 pub use fault_line::FaultLine;
 pub use laws::{lines_are_one, texts_are_printed};

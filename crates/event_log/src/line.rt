@@ -2,10 +2,10 @@
 
 ghost use Rattle.std.specs.Prelude.{◌≡◌, ◌++◌, OnOk, codes};
 ghost use Rattle.event_log.specs.Texts.{word_field, number_field, text_field};
-ghost use Rattle.event_log.specs.Events.{sign_name};
+ghost use Rattle.event_log.specs.Events.{sign_name, link_name};
 ghost use Rattle.event_log.specs.Lines.{bind_fields, fault_fields, fields, repeated, said, line};
 
-use crate::causes::{BindCause, SignCause};
+use crate::causes::{BindCause, LinkCause, SignCause};
 use crate::event::Event;
 use crate::fault_line::FaultLine;
 use crate::texts::{put_escaped, put_number, put_text, put_word};
@@ -22,7 +22,7 @@ fn put_bind(out: &mut Octets, cause: BindCause) -> Result<(), Memory>
 {
     put_word(out, b"cause", cause.name())?;
     match cause {
-        BindCause::Taken | BindCause::NotASocket => Ok(()),
+        BindCause::Taken | BindCause::NotASocket | BindCause::StaleOfOtherUser => Ok(()),
         BindCause::Refused(reason) => put_word(out, b"reason", reason.name()),
     }
 }
@@ -46,6 +46,30 @@ fn put_unsigned(out: &mut Octets, ask: &Ask, cause: SignCause) -> Result<(), Mem
     put_word(out, b"cause", cause.name())
 }
 
+/// Writes the entry of an ask, and a Unix second of its identity.
+fn put_moment(
+    alloc: Global,
+    out: &mut Octets,
+    ask: &Ask,
+    key: &[u8],
+    second: u64,
+) -> Result<(), Memory>
+    ensures { OnOk result (out.new ≡ out.old
+        ++ text_field (codes "entry") ask.now.entry_id ++ number_field key.now second) }
+{
+    put_text(out, b"entry", ask.entry_id.as_slice())?;
+    put_number(alloc, out, key, second)
+}
+
+/// Writes the socket of a connection that failed, and why.
+fn put_failed(alloc: Global, out: &mut Octets, socket: u32, cause: LinkCause) -> Result<(), Memory>
+    ensures { OnOk result (out.new ≡ out.old
+        ++ number_field (codes "socket") socket ++ word_field (codes "cause") (link_name cause)) }
+{
+    put_number(alloc, out, b"socket", u64::from(socket))?;
+    put_word(out, b"cause", cause.name())
+}
+
 /// Writes what an event says beside its name.
 #[tactic(auto, unfolding(crate::specs::Lines::fields))]
 fn put_fields(alloc: Global, out: &mut Octets, event: &Event<'_>) -> Result<(), Memory>
@@ -56,8 +80,12 @@ fn put_fields(alloc: Global, out: &mut Octets, event: &Event<'_>) -> Result<(), 
             put_text(out, b"path", path.as_slice())?;
             put_bind(out, *cause)
         }
-        Event::ConfigurationRefused(fault) | Event::FirstDocumentRefused(fault) => {
-            put_fault(alloc, out, fault)
+        Event::ConfigurationRefused(fault)
+        | Event::FirstDocumentRefused(fault)
+        | Event::DocumentRefused(fault) => put_fault(alloc, out, fault),
+        Event::DocumentTaken(entries, bundles) => {
+            put_number(alloc, out, b"entries", *entries)?;
+            put_number(alloc, out, b"bundles", *bundles)
         }
         Event::ListenFailed(socket) | Event::Connected(socket) | Event::Closed(socket) => {
             put_number(alloc, out, b"socket", u64::from(*socket))
@@ -69,10 +97,12 @@ fn put_fields(alloc: Global, out: &mut Octets, event: &Event<'_>) -> Result<(), 
         Event::SigningFailed(ask, cause) | Event::TokenFailed(ask, cause) => {
             put_unsigned(out, ask, *cause)
         }
-        Event::Signed(ask, not_after) => {
-            put_text(out, b"entry", ask.entry_id.as_slice())?;
-            put_number(alloc, out, b"not_after", *not_after)
+        Event::IdentityEnded(ask) => put_text(out, b"entry", ask.entry_id.as_slice()),
+        Event::IdentityNotYetValid(ask, not_before) => {
+            put_moment(alloc, out, ask, b"not_before", *not_before)
         }
+        Event::ConnectionFailed(socket, cause) => put_failed(alloc, out, *socket, *cause),
+        Event::Signed(ask, not_after) => put_moment(alloc, out, ask, b"not_after", *not_after),
         Event::Serving(sockets) => put_number(alloc, out, b"sockets", u64::from(*sockets)),
         Event::Stopping(status) => put_number(alloc, out, b"status", u64::from(*status)),
         Event::ConfigurationUnread

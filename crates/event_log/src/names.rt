@@ -1,9 +1,9 @@
 //! The names of events and causes in a line.
 
 ghost use Rattle.std.specs.Prelude.{◌≡◌};
-ghost use Rattle.event_log.specs.Events.{level_of, event_name, bind_name, reason_name, pull_name, sign_name};
+ghost use Rattle.event_log.specs.Events.{level_of, event_name, bind_name, reason_name, pull_name, sign_name, link_name};
 
-use crate::causes::{BindCause, PullCause, Reason, SignCause};
+use crate::causes::{BindCause, LinkCause, PullCause, Reason, SignCause};
 use crate::event::Event;
 use crate::level::Level;
 
@@ -15,6 +15,7 @@ impl BindCause {
         match self {
             BindCause::Taken => b"taken",
             BindCause::NotASocket => b"not_a_socket",
+            BindCause::StaleOfOtherUser => b"stale_of_other_user",
             BindCause::Refused(_) => b"refused",
         }
     }
@@ -62,6 +63,18 @@ impl SignCause {
     }
 }
 
+impl LinkCause {
+    #[tactic(auto, unfolding(crate::specs::Events::link_name))]
+    pub(crate) fn name(self) -> &'static [u8]
+        ensures { result.now ≡ link_name self }
+    {
+        match self {
+            LinkCause::ReceiveFailed => b"receive_failed",
+            LinkCause::SendFailed => b"send_failed",
+        }
+    }
+}
+
 impl<'a> Event<'a> {
     /// How grave it is.
     #[tactic(auto, unfolding(crate::specs::Events::level_of))]
@@ -78,14 +91,19 @@ impl<'a> Event<'a> {
             | Event::HostFailed
             | Event::OutputFailed
             | Event::OutOfMemory => Level::Error,
-            Event::AuthorityFailed(_, _) | Event::SigningFailed(_, _) | Event::TokenFailed(_, _) =>
-                { Level::Warn }
-            Event::AuthorityBack
+            Event::DocumentRefused(_)
+            | Event::AuthorityFailed(_, _)
+            | Event::SigningFailed(_, _)
+            | Event::TokenFailed(_, _)
+            | Event::IdentityEnded(_)
+            | Event::IdentityNotYetValid(_, _) => Level::Warn,
+            Event::DocumentTaken(_, _)
+            | Event::AuthorityBack
             | Event::Signed(_, _)
             | Event::SignerBack
             | Event::Serving(_)
             | Event::Stopping(_) => Level::Info,
-            Event::Connected(_) | Event::Closed(_) => Level::Debug,
+            Event::Connected(_) | Event::ConnectionFailed(_, _) | Event::Closed(_) => Level::Debug,
         }
     }
 
@@ -104,10 +122,15 @@ impl<'a> Event<'a> {
             Event::HostFailed => b"host_failed",
             Event::OutputFailed => b"output_failed",
             Event::OutOfMemory => b"out_of_memory",
+            Event::DocumentRefused(_) => b"document_refused",
+            Event::DocumentTaken(_, _) => b"document_taken",
             Event::AuthorityFailed(_, _) => b"authority_failed",
             Event::AuthorityBack => b"authority_back",
             Event::SigningFailed(_, _) => b"signing_failed",
             Event::TokenFailed(_, _) => b"token_failed",
+            Event::IdentityEnded(_) => b"identity_ended",
+            Event::IdentityNotYetValid(_, _) => b"identity_not_yet_valid",
+            Event::ConnectionFailed(_, _) => b"connection_failed",
             Event::Signed(_, _) => b"signed",
             Event::SignerBack => b"signer_back",
             Event::Serving(_) => b"serving",

@@ -1,4 +1,4 @@
-//! Members of a line.
+//! Members of a line. A log of another program may use them for its own events.
 
 ghost use Rattle.std.specs.Prelude.{◌≡◌, ◌++◌, ◌<◌, OnOk};
 ghost use Rattle.event_log.specs.Texts.{hex_digit, escaped_byte, escaped, word_field, number_field, text_field};
@@ -7,8 +7,9 @@ use std::alloc::Global;
 use std::string::ToString;
 use wl_octets::{Memory, Octets};
 
+/// A digit of hexadecimal.
 #[tactic(auto, unfolding(crate::specs::Texts::hex_digit))]
-fn hex_digit(number: u8) -> u8
+pub fn hex_digit(number: u8) -> u8
     requires { number < 16 }
     ensures { result ≡ hex_digit number }
 {
@@ -37,7 +38,7 @@ fn put_escaped_byte(out: &mut Octets, byte: u8) -> Result<(), Memory>
 }
 
 /// Writes a text as it stands within quotes.
-pub(crate) fn put_escaped(out: &mut Octets, text: &[u8]) -> Result<(), Memory>
+pub fn put_escaped(out: &mut Octets, text: &[u8]) -> Result<(), Memory>
     ensures { OnOk result (out.new ≡ out.old ++ escaped text.now) }
 {
     for (at, byte) in text.iter().enumerate() {
@@ -48,7 +49,7 @@ pub(crate) fn put_escaped(out: &mut Octets, text: &[u8]) -> Result<(), Memory>
 
 /// Writes a member whose value is a word of this crate.
 #[tactic(auto, unfolding(crate::specs::Texts::word_field))]
-pub(crate) fn put_word(out: &mut Octets, key: &[u8], word: &[u8]) -> Result<(), Memory>
+pub fn put_word(out: &mut Octets, key: &[u8], word: &[u8]) -> Result<(), Memory>
     ensures { OnOk result (out.new ≡ out.old ++ word_field key.now word.now) }
 {
     out.push_slice(b" ")?;
@@ -59,12 +60,7 @@ pub(crate) fn put_word(out: &mut Octets, key: &[u8], word: &[u8]) -> Result<(), 
 
 /// Writes a member whose value is a number.
 #[tactic(auto, unfolding(crate::specs::Texts::number_field))]
-pub(crate) fn put_number(
-    alloc: Global,
-    out: &mut Octets,
-    key: &[u8],
-    number: u64,
-) -> Result<(), Memory>
+pub fn put_number(alloc: Global, out: &mut Octets, key: &[u8], number: u64) -> Result<(), Memory>
     ensures { OnOk result (out.new ≡ out.old ++ number_field key.now number) }
 {
     out.push_slice(b" ")?;
@@ -76,7 +72,7 @@ pub(crate) fn put_number(
 
 /// Writes a member whose value is a text from outside, within quotes.
 #[tactic(auto, unfolding(crate::specs::Texts::text_field))]
-pub(crate) fn put_text(out: &mut Octets, key: &[u8], text: &[u8]) -> Result<(), Memory>
+pub fn put_text(out: &mut Octets, key: &[u8], text: &[u8]) -> Result<(), Memory>
     ensures { OnOk result (out.new ≡ out.old ++ text_field key.now text.now) }
 {
     out.push_slice(b" ")?;

@@ -42,7 +42,7 @@ impl TimeText {
     }
 
     /// Its bytes.
-    pub(crate) fn as_slice(&self) -> &[u8]
+    pub fn as_slice(&self) -> &[u8]
         ensures { result.now ≡ self.now }
     {
         self.text.as_slice()

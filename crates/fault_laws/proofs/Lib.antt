@@ -1,5 +1,5 @@
 mod Says
-mod Named
+mod NoQuestionMarks
 mod NamedFaults
 mod NamedDocuments
 mod NamedConfigs

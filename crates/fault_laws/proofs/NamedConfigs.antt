@@ -30,7 +30,7 @@ use Rattle.fault_lines.specs.Names.{config_place, config_member, socket_member}
 use Rattle.fault_lines.specs.Lines.{AreBounded}
 use Rattle.fault_laws.specs.Lines.{config_numbers}
 use Rattle.fault_laws.specs.Sentences.{IsNamed, config_says}
-use Rattle.fault_laws.proofs.Named.{item_named}
+use Rattle.fault_laws.proofs.NoQuestionMarks.{item_named}
 use Rattle.fault_laws.proofs.NamedFaults.{InConfig, ConfigurationFault, config_named}
 
 abbrev Fails : {A : Type 0} → Result A ConfigFault → Type 0

@@ -32,7 +32,7 @@ use Rattle.fault_lines.specs.Names.{document_place, document_member, bundle_memb
 use Rattle.fault_lines.specs.Lines.{AreBounded}
 use Rattle.wl_replay.specs.Faults.{fault_numbers}
 use Rattle.fault_laws.specs.Sentences.{IsNamed, document_says}
-use Rattle.fault_laws.proofs.Named.{item_named}
+use Rattle.fault_laws.proofs.NoQuestionMarks.{item_named}
 use Rattle.fault_laws.proofs.NamedFaults.{InDocument, DocumentFault, document_named}
 
 abbrev Fails : {A : Type 0} → Result A DocFault → Type 0

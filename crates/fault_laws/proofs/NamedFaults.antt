@@ -14,7 +14,7 @@ use Rattle.wl_config.specs.declared.fault.ConfigFault.TheVariants as config
 use Rattle.wl_replay.specs.Faults.{fault_numbers, id_numbers}
 use Rattle.fault_laws.specs.Lines.{config_numbers}
 use Rattle.fault_laws.specs.Sentences.{IsNamed, document_says, config_says, name_in_document, name_in_config, item, later_item, id_item, id_says, kind_says}
-use Rattle.fault_laws.proofs.Named.{told, around, bracketed, later, of_id, kind}
+use Rattle.fault_laws.proofs.NoQuestionMarks.{told, around, bracketed, later, of_id, kind}
 
 -- the member has a name
 abbrev pub InDocument : Place → Type 0

@@ -1,2 +1,2 @@
-mod Reading
+mod WordLists
 pub mod RoundTrip

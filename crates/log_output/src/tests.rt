@@ -43,7 +43,7 @@ fn lines_to_nothing_are_dropped(_rt: HostRuntime) -> Result<(), Fail> {
 fn log_says_what_is_grave_enough(rt: HostRuntime) -> Result<(), Fail> {
     let (ours, mut theirs) = UnixStream::pair(&rt)?;
     let output = LogOutput::over(ours.as_raw_fd(), false);
-    let log = Log::over(rt.clone()?, output, Level::Warn);
+    let log = Log::over(rt.clone()?, output, Level::Warn, None);
     log.say_after(1_764_393_000, &Event::Serving(3), 0);
     log.say_after(1_764_393_000, &Event::NoFirstDocument, 0);
     log.set_level(Level::Info);

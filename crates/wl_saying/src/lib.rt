@@ -1,5 +1,5 @@
-//! Things of the outside of which the log speaks: each wraps another, and says what an operator is to know of its calls. In all
-//! that contracts see it is the other thing.
+//! Things of the outside that are counted and of which the log speaks: each wraps another, and notes what an operator is to know of
+//! its calls. In all that contracts see it is the other thing.
 #![tactic(auto)]
 
 mod binding;

@@ -4,7 +4,7 @@ use event_log::Slot;
 use std::alloc::Global;
 use wl_octets::Octets;
 
-/// How many keys are told apart. Where so many were said within a minute, others wait until one of them is a minute old.
+/// How many keys are kept apart. Where so many were said within a minute, others wait until one of them is a minute old.
 const MAX_KEYS: usize = 64;
 
 /// A key, with what was said of it.

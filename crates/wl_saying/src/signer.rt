@@ -1,26 +1,28 @@
-//! A signer of which the log speaks.
+//! A signer whose asks are counted and said.
 
 ghost use Rattle.std.specs.Prelude.{◌≡◌};
 
 use crate::memory::MemorySaid;
 use crate::repeats::Repeats;
 use event_log::{Event, SignCause, Slot};
-use log_output::Log;
+use figures::{SigningKind, SigningResult};
 use std::alloc::Global;
 use std::sync::Arc;
 use std::sync::atomic::{AtomicBool, Ordering};
 use wl_edge::{EdgeFault, Signer};
 use wl_entry::{Ask, JwtToken, Signed};
 use wl_octets::Octets;
+use wl_outlook::Outlook;
 
 /// Says what comes of the asks of a signer.
 #[derive(Drop)]
 struct AsksSaid {
-    log: Arc<Log>,
+    outlook: Arc<Outlook>,
     cause: SignCause,
     /// Whether the last ask failed of the signers that share this.
     is_failing: Arc<AtomicBool>,
     identities: Repeats,
+    early: Repeats,
     tokens: Repeats,
     back: Slot,
     memory: MemorySaid,
@@ -30,15 +32,16 @@ impl AsksSaid {
     /// Nothing was asked yet. An ask that fails has this cause.
     fn start(
         alloc: Global,
-        log: Arc<Log>,
+        outlook: Arc<Outlook>,
         cause: SignCause,
         is_failing: Arc<AtomicBool>,
     ) -> AsksSaid {
         AsksSaid {
-            log,
+            outlook,
             cause,
             is_failing,
             identities: Repeats::start(alloc),
+            early: Repeats::start(alloc),
             tokens: Repeats::start(alloc),
             back: Slot::empty(),
             memory: MemorySaid::start(),
@@ -50,10 +53,37 @@ impl AsksSaid {
         if self.cause != SignCause::NoAnswer || !self.is_failing.swap(false, Ordering::SeqCst) {
             return;
         }
-        let now = self.log.now();
+        let now = self.outlook.log().now();
         if let Some(held) = self.back.admit(now) {
-            self.log.say_after(now, &Event::SignerBack, held);
+            self.outlook.log().say_after(now, &Event::SignerBack, held);
         }
+    }
+
+    /// Says that an identity was signed, and that it isn't valid yet.
+    fn note_signed(&mut self, ask: &Ask, signed: &Signed) {
+        let log = self.outlook.log();
+        log.say(&Event::Signed(ask, signed.not_after));
+        self.outlook.note_signed(ask, signed.not_after);
+        let now = log.now();
+        if signed.not_before <= now {
+            return;
+        }
+        if let Some(held) = self.early.admit(&ask.entry_id, now) {
+            log.say_after(
+                now,
+                &Event::IdentityNotYetValid(ask, signed.not_before),
+                held,
+            );
+        }
+    }
+
+    /// Counts an ask, which began when the process had run so many milliseconds.
+    fn count<T>(&self, kind: SigningKind, answer: &Result<T, EdgeFault>, began: u64) {
+        let outcome = match answer {
+            Ok(_) => SigningResult::Signed,
+            Err(_) => SigningResult::Failed,
+        };
+        self.outlook.note_ask(kind, outcome, began);
     }
 
     /// Says what came of an ask for an identity.
@@ -61,17 +91,17 @@ impl AsksSaid {
         match answer {
             Ok(signed) => {
                 self.note_answer();
-                self.log.say(&Event::Signed(ask, signed.not_after));
+                self.note_signed(ask, signed);
             }
             Err(EdgeFault::Failed) => {
                 self.is_failing.store(true, Ordering::SeqCst);
-                let now = self.log.now();
+                let now = self.outlook.log().now();
                 if let Some(held) = self.identities.admit(&ask.entry_id, now) {
                     let event = Event::SigningFailed(ask, self.cause);
-                    self.log.say_after(now, &event, held);
+                    self.outlook.log().say_after(now, &event, held);
                 }
             }
-            Err(EdgeFault::Memory) => self.memory.say(&self.log),
+            Err(EdgeFault::Memory) => self.memory.say(self.outlook.log()),
         }
     }
 
@@ -81,18 +111,19 @@ impl AsksSaid {
             Ok(_) => self.note_answer(),
             Err(EdgeFault::Failed) => {
                 self.is_failing.store(true, Ordering::SeqCst);
-                let now = self.log.now();
+                let now = self.outlook.log().now();
                 if let Some(held) = self.tokens.admit(&ask.entry_id, now) {
                     let event = Event::TokenFailed(ask, self.cause);
-                    self.log.say_after(now, &event, held);
+                    self.outlook.log().say_after(now, &event, held);
                 }
             }
-            Err(EdgeFault::Memory) => self.memory.say(&self.log),
+            Err(EdgeFault::Memory) => self.memory.say(self.outlook.log()),
         }
     }
 }
 
-/// A signer whose answers and failed asks the log tells. It is the other in all that contracts see.
+/// A signer whose asks are counted, with the time that they took. The log has its identities and the asks that fail. It is the other
+/// in all that contracts see.
 #[derive(Drop)]
 pub struct SayingSigner<S> {
     inner: S,
@@ -105,7 +136,7 @@ impl<S: Signer + Drop> SayingSigner<S> {
     pub fn start(
         alloc: Global,
         inner: S,
-        log: Arc<Log>,
+        outlook: Arc<Outlook>,
         cause: SignCause,
         is_failing: Arc<AtomicBool>,
     ) -> SayingSigner<S>
@@ -114,7 +145,7 @@ impl<S: Signer + Drop> SayingSigner<S> {
     {
         SayingSigner {
             inner,
-            said: AsksSaid::start(alloc, log, cause, is_failing),
+            said: AsksSaid::start(alloc, outlook, cause, is_failing),
         }
     }
 }
@@ -127,13 +158,17 @@ impl<S: Signer + Drop> Signer for SayingSigner<S> {
     ghost faults = { λ s. S.faults s.inner };
 
     fn sign_x509(&mut self, ask: &Ask) -> Result<Signed, EdgeFault> {
+        let began = self.said.outlook.milliseconds();
         let answer = self.inner.sign_x509(ask);
+        self.said.count(SigningKind::X509, &answer, began);
         self.said.note_identity(ask, &answer);
         answer
     }
 
     fn sign_jwt(&mut self, ask: &Ask, audience: &[Octets]) -> Result<JwtToken, EdgeFault> {
+        let began = self.said.outlook.milliseconds();
         let answer = self.inner.sign_jwt(ask, audience);
+        self.said.count(SigningKind::Jwt, &answer, began);
         self.said.note_token(ask, &answer);
         answer
     }

@@ -1,18 +1,20 @@
-//! An upstream of which the log speaks.
+//! An upstream whose pulls are counted and said.
 
-ghost use Rattle.std.specs.Prelude.{◌≡◌};
+ghost use Rattle.std.specs.Prelude.{◌≡◌, IfOk};
 
 use crate::memory::MemorySaid;
 use event_log::{Event, PullCause, Slot};
-use log_output::Log;
+use figures::DocumentResult;
+use std::alloc::Global;
 use std::sync::Arc;
 use wl_edge::{EdgeFault, Upstream};
-use wl_octets::Octets;
+use wl_octets::{Memory, Octets};
+use wl_outlook::{DocumentJudge, FaultLines, Outlook};
 
 /// Says what comes of the pulls of documents.
 #[derive(Drop)]
 struct PullsSaid {
-    log: Arc<Log>,
+    outlook: Arc<Outlook>,
     cause: PullCause,
     /// When the first of the pulls failed that have failed since one came.
     since: Option<u64>,
@@ -22,9 +24,9 @@ struct PullsSaid {
 
 impl PullsSaid {
     /// Nothing was pulled yet. A pull that fails has this cause.
-    fn start(log: Arc<Log>, cause: PullCause) -> PullsSaid {
+    fn start(outlook: Arc<Outlook>, cause: PullCause) -> PullsSaid {
         PullsSaid {
-            log,
+            outlook,
             cause,
             since: None,
             failed: Slot::empty(),
@@ -34,14 +36,15 @@ impl PullsSaid {
 
     /// Says that a pull failed, for the first time since then.
     fn say_failed(&self, now: u64, since: u64, held: u64) {
-        if let Ok(since) = self.log.time_text(since) {
-            self.log
-                .say_after(now, &Event::AuthorityFailed(self.cause, &since), held);
+        let log = self.outlook.log();
+        if let Ok(since) = log.time_text(since) {
+            log.say_after(now, &Event::AuthorityFailed(self.cause, &since), held);
         }
     }
 
     fn note_failed(&mut self) {
-        let now = self.log.now();
+        self.outlook.note_pull(DocumentResult::Failed);
+        let now = self.outlook.log().now();
         let since = self.since.unwrap_or(now);
         self.since = Some(since);
         if let Some(held) = self.failed.admit(now) {
@@ -54,43 +57,59 @@ impl PullsSaid {
         match pulled {
             Ok(()) => {
                 if self.since.take().is_some() {
-                    self.log.say(&Event::AuthorityBack);
+                    self.outlook.log().say(&Event::AuthorityBack);
                 }
             }
             Err(EdgeFault::Failed) => self.note_failed(),
-            Err(EdgeFault::Memory) => self.memory.say(&self.log),
+            Err(EdgeFault::Memory) => self.memory.say(self.outlook.log()),
         }
     }
 }
 
-/// An upstream whose failed pulls the log tells, and that a document came again. It is the other in all that contracts see.
+/// An upstream whose pulls are counted. The log has those that fail, that a document came again, and what comes of a document that
+/// is another than the last: it is judged as the agent's store judges it after that. It is the other in all that contracts see.
 #[derive(Drop)]
-pub struct SayingUpstream<U> {
+pub struct SayingUpstream<U, F> {
     inner: U,
     said: PullsSaid,
+    judge: DocumentJudge<F>,
 }
 
-impl<U: Upstream + Drop> SayingUpstream<U> {
-    /// Over this upstream. A pull that fails has this cause.
-    pub fn start(inner: U, log: Arc<Log>, cause: PullCause) -> SayingUpstream<U>
-        ensures told { ⟦<SayingUpstream<U> as Upstream>⟧.told result ≡ U.told inner }
-        ensures faults { ⟦<SayingUpstream<U> as Upstream>⟧.faults result ≡ U.faults inner }
+impl<U: Upstream + Drop, F: FaultLines + Drop> SayingUpstream<U, F> {
+    /// Over this upstream. A pull that fails has this cause, and the faults of documents are written by these.
+    pub fn start(
+        alloc: Global,
+        inner: U,
+        outlook: Arc<Outlook>,
+        cause: PullCause,
+        lines: F,
+    ) -> Result<SayingUpstream<U, F>, Memory>
+        ensures told { IfOk result (λ u. ⟦<SayingUpstream<U, F> as Upstream>⟧.told u ≡ U.told inner) }
+        ensures faults { IfOk result (λ u. ⟦<SayingUpstream<U, F> as Upstream>⟧.faults u ≡ U.faults inner) }
     {
-        SayingUpstream {
+        let Ok(other) = Arc::try_clone(&outlook) else {
+            return Err(Memory);
+        };
+        Ok(SayingUpstream {
             inner,
-            said: PullsSaid::start(log, cause),
-        }
+            said: PullsSaid::start(outlook, cause),
+            judge: DocumentJudge::start(alloc, other, lines),
+        })
     }
 }
 
-impl<U: Upstream + Drop> Upstream for SayingUpstream<U> {
+impl<U: Upstream + Drop, F: FaultLines + Drop> Upstream for SayingUpstream<U, F> {
     ghost told = { λ u. U.told u.inner };
 
     ghost faults = { λ u. U.faults u.inner };
 
     fn pull(&mut self, into: &mut Octets) -> Result<(), EdgeFault> {
+        let before = into.len();
         let pulled = self.inner.pull(into);
         self.said.note(&pulled);
+        if let (Ok(()), Some(document)) = (&pulled, into.as_slice().get(before..)) {
+            self.judge.note_document(document);
+        }
         pulled
     }
 }

@@ -1,136 +1,263 @@
-//! What the log says of things in memory that fail and come back.
+//! What is said and counted of things in memory that fail and come back.
 
-use event_log::{Level, PullCause, SignCause};
+use event_log::{FaultLine, Level, PullCause, SignCause};
+use figures::{Counters, Shows};
 use log_output::{Log, LogOutput};
 use spiffe_id::SpiffeId;
 use std::alloc::{AllocGlobal, Global};
 use std::io::{ErrorKind, Read};
 use std::os::fd::AsRawFd;
 use std::os::unix::net::UnixStream;
+use std::process::Abort;
 use std::sync::Arc;
 use std::sync::atomic::AtomicBool;
 use std::test::Fail;
+use wl_document::DocFault;
 use wl_edge::{
     BEFORE_KEEPING, BEFORE_UPKEEP, EdgeFault, Gate, MemorySigner, MemorySink, MemoryUpstream,
     OpenGate, Script, Signer, Sink, Upstream,
 };
-use wl_edge_real::BindFault;
+use wl_edge_real::{BindFault, Stop};
 use wl_entry::{Ask, Signed};
-use wl_octets::{Octets, Row};
+use wl_octets::{Memory, Octets, Row};
+use wl_outlook::{FaultLines, Outlook};
 use wl_saying::{KeepingSink, SayingGate, SayingSigner, SayingUpstream, say_unbound};
 
-/// A log, and the end at which its lines are read.
-fn log_and_reader(rt: &HostRuntime) -> Result<(Arc<Log>, UnixStream, UnixStream), Fail> {
-    let (ours, theirs) = UnixStream::pair(rt)?;
+/// The point that a seat passes which ended with a fault.
+const AFTER_FAILED_SEAT: u32 = 5;
+
+/// A document with no entry.
+const GOOD: &[u8] =
+    br#"{"version":1,"trust_domain":"a.b","bundles":[{"trust_domain":"a.b","x509":"AQ=="}],"entries":[]}"#;
+
+/// Calls each fault by one name.
+#[derive(Drop)]
+struct OneName;
+
+impl FaultLines for OneName {
+    fn line_of(&self, alloc: Global, _fault: DocFault) -> Result<Option<FaultLine>, Memory> {
+        FaultLine::read(alloc, b"fault document 2")
+    }
+}
+
+/// What is known of an agent, and both ends of its log.
+fn watched(
+    own: &HostRuntime,
+    rt: &(impl AllocGlobal + Abort),
+) -> (Arc<Outlook>, UnixStream, UnixStream) {
+    let alloc = rt.alloc();
+    let (ours, theirs) = UnixStream::pair(own).expect(rt, "streams");
     let output = LogOutput::over(ours.as_raw_fd(), false);
-    let log = Arc::new(rt.alloc(), Log::over(rt.clone()?, output, Level::Info))?;
-    Ok((log, ours, theirs))
+    let log = Log::over(own.clone().expect(rt, "runtime"), output, Level::Info, None);
+    let log = Arc::new(alloc, log).expect(rt, "log");
+    let outlook = Outlook::start(alloc, log, Counters::start(alloc));
+    (Arc::new(alloc, outlook).expect(rt, "outlook"), ours, theirs)
+}
+
+/// One more owner of it.
+fn one_more(rt: &(impl AllocGlobal + Abort), outlook: &Arc<Outlook>) -> Arc<Outlook> {
+    Arc::try_clone(outlook).expect(rt, "owner")
 }
 
 /// What the lines so far say, each without its time.
-fn lines_of(alloc: Global, reader: &mut UnixStream) -> Result<String, Fail> {
+fn lines_of(rt: &(impl AllocGlobal + Abort), reader: &mut UnixStream) -> String {
     let mut bytes = [0u8; 2_000];
-    let count = reader.read(&mut bytes)?;
-    let text = str::from_utf8(bytes.get(..count).unwrap_or(&[]))?;
-    let mut said = String::new(alloc);
+    let count = reader.read(&mut bytes).expect(rt, "lines");
+    let text = str::from_utf8(bytes.get(..count).unwrap_or(&[])).expect(rt, "text");
+    let mut said = String::new(rt.alloc());
     for line in text.lines() {
-        said.push_str(line.get(24..).unwrap_or(line))?;
-        said.push_str(";")?;
+        said.push_str(line.get(24..).unwrap_or(line))
+            .expect(rt, "line");
+        said.push_str(";").expect(rt, "line");
     }
-    Ok(said)
+    said
 }
 
-/// A row of at most one item.
-fn row_of<T: Drop>(alloc: Global, items: Option<T>) -> Result<Row<T>, Fail> {
-    let mut row = Vec::new(alloc);
-    if let Some(item) = items {
-        row.push(item)?;
+/// Numbers of the page: pulls that failed, identities that were signed and that were not, and tokens that were not.
+fn numbers(rt: &(impl AllocGlobal + Abort), outlook: &Outlook) -> [u64; 4] {
+    let figures = outlook.figures().expect(rt, "figures");
+    let (documents, x509, jwt) = (figures.documents, figures.x509, figures.jwt);
+    drop(figures);
+    [documents.failed, x509.signed, x509.failed, jwt.failed]
+}
+
+/// A script that fails twice, and then has this item.
+fn late<T: Drop>(rt: &(impl AllocGlobal + Abort), item: T) -> Script<T> {
+    let mut failing = Vec::new(rt.alloc());
+    failing.push(0).expect(rt, "number");
+    failing.push(1).expect(rt, "number");
+    Script::start(row_of(rt, item), Row::from_vec(failing))
+}
+
+/// A row of one item.
+fn row_of<T: Drop>(rt: &(impl AllocGlobal + Abort), item: T) -> Row<T> {
+    let mut row = Vec::new(rt.alloc());
+    row.push(item).expect(rt, "item");
+    Row::from_vec(row)
+}
+
+/// A signer with this script for identities, and none for tokens.
+fn saying_signer(
+    rt: &(impl AllocGlobal + Abort),
+    identities: Script<Signed>,
+    outlook: Arc<Outlook>,
+) -> SayingSigner<MemorySigner> {
+    let alloc = rt.alloc();
+    let tokens = Script::start(Row::empty(alloc), Row::empty(alloc));
+    let signer = MemorySigner::start(alloc, identities, tokens);
+    let is_failing = Arc::new(alloc, AtomicBool::new(false)).expect(rt, "flag");
+    SayingSigner::start(alloc, signer, outlook, SignCause::NoAnswer, is_failing)
+}
+
+/// An ask for one entry.
+fn ask(rt: &(impl AllocGlobal + Abort)) -> Ask {
+    let alloc = rt.alloc();
+    Ask {
+        entry_id: Octets::from_slice(alloc, b"e1").expect(rt, "id"),
+        spiffe_id: SpiffeId::parse(alloc, b"spiffe://a.b/one").expect(rt, "id"),
+        dns_names: Row::empty(alloc),
+        ttl: 60,
     }
-    Ok(Row::from_vec(row))
+}
+
+/// An identity of these times.
+fn signed(rt: &(impl AllocGlobal + Abort), not_before: u64, not_after: u64) -> Signed {
+    Signed {
+        chain: Octets::from_slice(rt.alloc(), b"c").expect(rt, "chain"),
+        key: Octets::from_slice(rt.alloc(), b"k").expect(rt, "key"),
+        not_before,
+        not_after,
+    }
 }
 
 #[test]
 fn failed_pulls_are_said_once(rt: HostRuntime) -> Result<(), Fail> {
     let alloc = rt.alloc();
-    let (log, _ours, mut theirs) = log_and_reader(&rt)?;
-    let mut failing = Vec::new(alloc);
-    failing.push(0)?;
-    failing.push(1)?;
-    let documents = row_of(alloc, Some(Octets::from_slice(alloc, b"{}")?))?;
-    let upstream = MemoryUpstream::start(alloc, Script::start(documents, Row::from_vec(failing)));
-    let mut saying = SayingUpstream::start(upstream, log, PullCause::File);
+    let (outlook, ours, mut theirs) = watched(&rt, &rt);
+    let document = Octets::from_slice(alloc, GOOD).expect(&rt, "document");
+    let upstream = MemoryUpstream::start(alloc, late(&rt, document));
+    let noted = one_more(&rt, &outlook);
+    let mut saying = SayingUpstream::start(alloc, upstream, noted, PullCause::File, OneName).expect(
+        &rt, "upstream",
+    );
     let mut into = Octets::empty(alloc);
-    assert_eq!(rt; saying.pull(&mut into), Err(EdgeFault::Failed));
-    assert_eq!(rt; saying.pull(&mut into), Err(EdgeFault::Failed));
-    assert_eq!(rt; saying.pull(&mut into), Ok(()));
-    assert_eq!(rt; saying.pull(&mut into), Ok(()));
-    let said = lines_of(alloc, &mut theirs)?;
+    let pulled = [(); 4].map(|()| saying.pull(&mut into).is_ok());
+    assert_eq!(rt; pulled, [false, false, true, true]);
+    let said = lines_of(&rt, &mut theirs);
     assert!(rt; said.starts_with("level=warn event=authority_failed cause=file since=\"20"));
-    assert!(rt; said.ends_with("Z\";level=info event=authority_back;"));
+    assert!(rt;
+        said.ends_with(
+            "Z\";level=info event=authority_back;level=info event=document_taken entries=0 bundles=1;"
+        )
+    );
+    assert_eq!(rt; numbers(&rt, &outlook), [2, 0, 0, 0]);
+    drop(ours);
     Ok(())
+}
+
+/// Whether two asks for an identity fail, the third gives one, and one for a token fails.
+fn asks_twice_in_vain<S: Signer>(rt: &(impl AllocGlobal + Abort), signer: &mut S) -> bool {
+    let ask = ask(rt);
+    let failed = [
+        signer.sign_x509(&ask).is_err(),
+        signer.sign_x509(&ask).is_err(),
+        signer.sign_x509(&ask).is_err(),
+    ];
+    let no_token = signer.sign_jwt(&ask, &[]).is_err();
+    drop(ask);
+    failed == [true, true, false] && no_token
 }
 
 #[test]
 fn failed_asks_are_said_for_each_entry(rt: HostRuntime) -> Result<(), Fail> {
-    let alloc = rt.alloc();
-    let (log, _ours, mut theirs) = log_and_reader(&rt)?;
-    let signed = Signed {
-        chain: Octets::from_slice(alloc, b"c")?,
-        key: Octets::from_slice(alloc, b"k")?,
-        not_before: 100,
-        not_after: 200,
-    };
-    let mut failing = Vec::new(alloc);
-    failing.push(0)?;
-    failing.push(1)?;
-    let identities = Script::start(row_of(alloc, Some(signed))?, Row::from_vec(failing));
-    let tokens = Script::start(Row::empty(alloc), Row::empty(alloc));
-    let signer = MemorySigner::start(alloc, identities, tokens);
-    let is_failing = Arc::new(alloc, AtomicBool::new(false))?;
-    let mut saying = SayingSigner::start(alloc, signer, log, SignCause::NoAnswer, is_failing);
-    let ask = Ask {
-        entry_id: Octets::from_slice(alloc, b"e1")?,
-        spiffe_id: SpiffeId::parse(alloc, b"spiffe://a.b/one")?,
-        dns_names: Row::empty(alloc),
-        ttl: 60,
-    };
-    assert!(rt; saying.sign_x509(&ask).is_err());
-    assert!(rt; saying.sign_x509(&ask).is_err());
-    assert!(rt; saying.sign_x509(&ask).is_ok());
-    assert!(rt; saying.sign_jwt(&ask, &[]).is_err());
-    let said = lines_of(alloc, &mut theirs)?;
+    let (outlook, ours, mut theirs) = watched(&rt, &rt);
+    let identities = late(&rt, signed(&rt, 100, 200));
+    let mut saying = saying_signer(&rt, identities, one_more(&rt, &outlook));
+    let asked = asks_twice_in_vain(&rt, &mut saying);
+    drop(saying);
+    let said = lines_of(&rt, &mut theirs);
     assert_eq!(rt;
         said.as_str(),
         "level=warn event=signing_failed entry=\"e1\" cause=no_answer;\
         level=info event=signer_back;level=info event=signed entry=\"e1\" not_after=200;\
         level=warn event=token_failed entry=\"e1\" cause=no_answer;"
     );
+    assert!(rt; asked && numbers(&rt, &outlook) == [0, 1, 2, 1]);
+    drop(ours);
     Ok(())
 }
 
 #[test]
-fn serving_is_said_once(rt: HostRuntime) -> Result<(), Fail> {
-    let alloc = rt.alloc();
-    let (log, _ours, mut theirs) = log_and_reader(&rt)?;
-    say_unbound(
-        &log,
-        alloc,
-        &Octets::from_slice(alloc, b"/a")?,
-        BindFault::NotASocket,
+fn early_identities_are_said(rt: HostRuntime) -> Result<(), Fail> {
+    let (outlook, ours, mut theirs) = watched(&rt, &rt);
+    let identity = signed(&rt, 9_000_000_000, 9_000_000_060);
+    let identities = Script::start(row_of(&rt, identity), Row::empty(rt.alloc()));
+    let mut saying = saying_signer(&rt, identities, outlook);
+    let ask = ask(&rt);
+    let is_signed = saying.sign_x509(&ask).is_ok();
+    drop(ask);
+    drop(saying);
+    let said = lines_of(&rt, &mut theirs);
+    drop(ours);
+    assert!(rt;
+        is_signed
+            && said.as_str()
+                == "level=info event=signed entry=\"e1\" not_after=9000000060;\
+        level=warn event=identity_not_yet_valid entry=\"e1\" not_before=9000000000;"
     );
+    Ok(())
+}
+
+/// Says of this path that it can't be bound.
+fn say_path(
+    rt: &(impl AllocGlobal + Abort),
+    outlook: &Outlook,
+    path: &[u8],
+    fault: BindFault,
+    is_socket: bool,
+) {
+    let path = Octets::from_slice(rt.alloc(), path).expect(rt, "path");
+    say_unbound(outlook.log(), rt.alloc(), &path, fault, is_socket);
+}
+
+#[test]
+fn unbound_paths_are_said(rt: HostRuntime) -> Result<(), Fail> {
+    let (outlook, ours, mut theirs) = watched(&rt, &rt);
+    say_path(&rt, &outlook, b"/a", BindFault::NotASocket, false);
     let refused = BindFault::Refused(ErrorKind::NotFound);
-    say_unbound(&log, alloc, &Octets::from_slice(alloc, b"/b")?, refused);
-    let gate = SayingGate::start(OpenGate, log, 3);
-    gate.pass(BEFORE_UPKEEP);
-    gate.pass(BEFORE_KEEPING);
-    gate.pass(BEFORE_KEEPING);
-    let said = lines_of(alloc, &mut theirs)?;
+    say_path(&rt, &outlook, b"/b", refused, true);
+    let denied = BindFault::Refused(ErrorKind::PermissionDenied);
+    say_path(&rt, &outlook, b"/b", denied, true);
+    let said = lines_of(&rt, &mut theirs);
+    drop(ours);
     assert_eq!(rt;
         said.as_str(),
         "level=error event=bind_failed path=\"/a\" cause=not_a_socket;\
         level=error event=bind_failed path=\"/b\" cause=refused reason=not_found;\
-        level=info event=serving sockets=3;"
+        level=error event=bind_failed path=\"/b\" cause=stale_of_other_user;"
     );
+    Ok(())
+}
+
+#[test]
+fn serving_is_said_once_and_a_failed_seat_has_all_stop(rt: HostRuntime) -> Result<(), Fail> {
+    let (outlook, ours, mut theirs) = watched(&rt, &rt);
+    let stop = Arc::new(rt.alloc(), Stop::start()).expect(&rt, "stop");
+    let shared = Arc::try_clone(&stop).expect(&rt, "stop");
+    let gate = SayingGate::start(OpenGate, outlook, 3, shared);
+    gate.pass(BEFORE_UPKEEP);
+    gate.pass(BEFORE_KEEPING);
+    gate.pass(BEFORE_KEEPING);
+    let before = stop.is_asked();
+    gate.pass(AFTER_FAILED_SEAT);
+    let asked = (stop.is_asked(), stop.is_urgent());
+    for _ in 0..6 {
+        gate.pass(BEFORE_KEEPING);
+    }
+    assert!(rt; !before && asked == (true, false) && stop.is_urgent());
+    let said = lines_of(&rt, &mut theirs);
+    drop(ours);
+    assert_eq!(rt; said.as_str(), "level=info event=serving sockets=3;");
     Ok(())
 }
 

@@ -1,6 +1,6 @@
 use Rattle.std.proofs.Common.{[]}
 use Rattle.fault_lines.specs.Explanations.{explanation}
-use Rattle.fault_lines.proofs.Reading.{line_next, line_written}
+use Rattle.fault_lines.proofs.WordLists.{line_next, line_written}
 use Rattle.fault_lines.proofs.explain.put_lines.Goals as goal
 
 pub loop-at-preserved : goal.loop-at-preserved

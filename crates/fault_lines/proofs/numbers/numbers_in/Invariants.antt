@@ -1,6 +1,6 @@
 use Rattle.std.proofs.Common.{◌≡◌, map}
 use Rattle.fault_lines.specs.Numbers.{numbers_in}
-use Rattle.fault_lines.proofs.Reading.{so_far}
+use Rattle.fault_lines.proofs.WordLists.{so_far}
 use Rattle.fault_lines.proofs.numbers.numbers_in.Given as goal
 
 abbrev pub invariant-loop-word : goal.invariant-loop-word

@@ -4,20 +4,22 @@ use Rattle.std.specs.Fmt.{decimal}
 use Rattle.std.proofs.lemmas.Fmt.{decimal_by_steps}
 use Rattle.fault_lines.specs.Explanations.{explained_text}
 use Rattle.event_log.specs.Texts.{escaped, escaped_byte, hex_digit, is_printed, are_printed, word_field, number_field, text_field}
-use Rattle.event_log.specs.Events.{level_of, level_name, event_name, bind_name, reason_name, pull_name, sign_name}
+use Rattle.event_log.specs.Events.{level_of, level_name, event_name, bind_name, reason_name, pull_name, sign_name, link_name}
 use Rattle.event_log.specs.Lines.{bind_fields, fault_fields, fields, repeated, said, line, fits}
 use Rattle.event_log.specs.declared.level.Level.{Level}
 use Rattle.event_log.specs.declared.level.Level.TheVariants.{Error, Warn, Info, Debug}
 use Rattle.event_log.specs.declared.causes.BindCause.{BindCause}
-use Rattle.event_log.specs.declared.causes.BindCause.TheVariants.{Taken, NotASocket, Refused}
+use Rattle.event_log.specs.declared.causes.BindCause.TheVariants.{Taken, NotASocket, StaleOfOtherUser, Refused}
 use Rattle.event_log.specs.declared.causes.Reason.{Reason}
 use Rattle.event_log.specs.declared.causes.Reason.TheVariants.{NotFound, PermissionDenied, ConnectionRefused, AddressInUse, WouldBlock, TimedOut, InvalidInput, Other}
 use Rattle.event_log.specs.declared.causes.PullCause.{PullCause}
 use Rattle.event_log.specs.declared.causes.PullCause.TheVariants.{Socket, File}
 use Rattle.event_log.specs.declared.causes.SignCause.{SignCause}
 use Rattle.event_log.specs.declared.causes.SignCause.TheVariants.{NoAnswer, NotInDocument}
+use Rattle.event_log.specs.declared.causes.LinkCause.{LinkCause}
+use Rattle.event_log.specs.declared.causes.LinkCause.TheVariants.{ReceiveFailed, SendFailed}
 use Rattle.event_log.specs.declared.event.Event.{Event}
-use Rattle.event_log.specs.declared.event.Event.TheVariants.{BindFailed, ConfigurationUnread, ConfigurationRefused, FirstDocumentRefused, NoFirstDocument, ListenFailed, HostFailed, OutputFailed, OutOfMemory, AuthorityFailed, AuthorityBack, SigningFailed, TokenFailed, Signed, SignerBack, Serving, Stopping, Connected, Closed}
+use Rattle.event_log.specs.declared.event.Event.TheVariants.{BindFailed, ConfigurationUnread, ConfigurationRefused, FirstDocumentRefused, NoFirstDocument, ListenFailed, HostFailed, OutputFailed, OutOfMemory, DocumentRefused, DocumentTaken, AuthorityFailed, AuthorityBack, SigningFailed, TokenFailed, IdentityEnded, IdentityNotYetValid, ConnectionFailed, Signed, SignerBack, Serving, Stopping, Connected, Closed}
 
 pub printed_append : (xs ys : List ℕ) → are_printed xs ≡ true → are_printed ys ≡ true → are_printed (xs ++ ys) ≡ true
 printed_append [] ys h k = k
@@ -108,10 +110,15 @@ name_printed (ListenFailed _) = refl
 name_printed HostFailed = refl
 name_printed OutputFailed = refl
 name_printed OutOfMemory = refl
+name_printed (DocumentRefused _) = refl
+name_printed (DocumentTaken _ _) = refl
 name_printed (AuthorityFailed _ _) = refl
 name_printed AuthorityBack = refl
 name_printed (SigningFailed _ _) = refl
 name_printed (TokenFailed _ _) = refl
+name_printed (IdentityEnded _) = refl
+name_printed (IdentityNotYetValid _ _) = refl
+name_printed (ConnectionFailed _ _) = refl
 name_printed (Signed _ _) = refl
 name_printed SignerBack = refl
 name_printed (Serving _) = refl
@@ -140,10 +147,16 @@ unfolding sign_name
 sign_printed NoAnswer = refl
 sign_printed NotInDocument = refl
 
+link_printed : (cause : LinkCause) → are_printed (link_name cause) ≡ true
+unfolding link_name
+link_printed ReceiveFailed = refl
+link_printed SendFailed = refl
+
 bind_printed : (cause : BindCause) → are_printed (bind_name cause) ≡ true
 unfolding bind_name
 bind_printed Taken = refl
 bind_printed NotASocket = refl
+bind_printed StaleOfOtherUser = refl
 bind_printed (Refused _) = refl
 
 -- ---- what an event says
@@ -152,6 +165,7 @@ bind_fields_printed : (cause : BindCause) → are_printed (bind_fields cause) �
 unfolding bind_fields
 bind_fields_printed Taken = word_printed (codes "cause") (bind_name Taken) refl (bind_printed Taken)
 bind_fields_printed NotASocket = word_printed (codes "cause") (bind_name NotASocket) refl (bind_printed NotASocket)
+bind_fields_printed StaleOfOtherUser = word_printed (codes "cause") (bind_name StaleOfOtherUser) refl (bind_printed StaleOfOtherUser)
 bind_fields_printed (Refused reason) =
     printed_append (word_field (codes "cause") (bind_name (Refused reason))) (word_field (codes "reason") (reason_name reason))
     (word_printed (codes "cause") (bind_name (Refused reason)) refl (bind_printed (Refused reason)))
@@ -171,6 +185,15 @@ unsigned_printed entry cause =
 number_below : (key : List ℕ) (n : ℕ) → are_printed key ≡ true → nat_lt n (2 ^ 64) ≡ true → are_printed (number_field key n) ≡ true
 number_below key n h small = number_field_printed key n h (below n small)
 
+first_true : (c d : Bool) → (c && d) ≡ true → c ≡ true
+first_true true d h = refl
+first_true false d h = h
+
+second_true : (c d : Bool) → (c && d) ≡ true → d ≡ true
+second_true true d h = h
+second_true false false h = h
+second_true false true h = refl
+
 fields_printed : (event : Event) → fits event ≡ true → are_printed (fields event) ≡ true
 unfolding fields fits
 fields_printed (BindFailed path cause) h =
@@ -183,12 +206,23 @@ fields_printed (ListenFailed socket) h = number_below (codes "socket") socket re
 fields_printed HostFailed h = refl
 fields_printed OutputFailed h = refl
 fields_printed OutOfMemory h = refl
+fields_printed (DocumentRefused fault) h = fault_printed fault.now
+fields_printed (DocumentTaken entries bundles) h =
+    printed_append (number_field (codes "entries") entries) (number_field (codes "bundles") bundles)
+    (number_below (codes "entries") entries refl (first_true _ _ h)) (number_below (codes "bundles") bundles refl (second_true _ _ h))
 fields_printed (AuthorityFailed cause since) h =
     printed_append (word_field (codes "cause") (pull_name cause)) (text_field (codes "since") since.now)
     (word_printed (codes "cause") (pull_name cause) refl (pull_printed cause)) (text_field_printed (codes "since") since.now refl)
 fields_printed AuthorityBack h = refl
 fields_printed (SigningFailed ask cause) h = unsigned_printed ask.now.entry_id cause
 fields_printed (TokenFailed ask cause) h = unsigned_printed ask.now.entry_id cause
+fields_printed (IdentityEnded ask) h = text_field_printed (codes "entry") ask.now.entry_id refl
+fields_printed (IdentityNotYetValid ask not_before) h =
+    printed_append (text_field (codes "entry") ask.now.entry_id) (number_field (codes "not_before") not_before)
+    (text_field_printed (codes "entry") ask.now.entry_id refl) (number_below (codes "not_before") not_before refl h)
+fields_printed (ConnectionFailed socket cause) h =
+    printed_append (number_field (codes "socket") socket) (word_field (codes "cause") (link_name cause))
+    (number_below (codes "socket") socket refl h) (word_printed (codes "cause") (link_name cause) refl (link_printed cause))
 fields_printed (Signed ask not_after) h =
     printed_append (text_field (codes "entry") ask.now.entry_id) (number_field (codes "not_after") not_after)
     (text_field_printed (codes "entry") ask.now.entry_id refl) (number_below (codes "not_after") not_after refl h)

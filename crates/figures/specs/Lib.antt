@@ -1,0 +1,4 @@
+pub mod Families
+pub mod Labels
+pub mod Page
+pub mod Health

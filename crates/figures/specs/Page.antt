@@ -1,0 +1,141 @@
+-- The page of figures (Prometheus, 'Text-based format', 0.0.4): of each family its help, its type and then its samples.
+use Rattle.std.specs.Prelude.{ℕ, ◌+◌, ◌/◌, ◌%◌, List, [], ◌∷◌, ◌++◌, codes, Option, Some, None}
+use Rattle.std.specs.Fmt.{decimal}
+use Rattle.figures.specs.Families.{name_of, help_of, kind_of, kind_name}
+use Rattle.figures.specs.Labels.{document_result, signing_kind, signing_result, identity_state, bound_name, escaped}
+use Rattle.figures.specs.declared.family.Family.{Family}
+use Rattle.figures.specs.declared.family.Family.TheVariants as family
+use Rattle.figures.specs.declared.labels.DocumentResult.{DocumentResult}
+use Rattle.figures.specs.declared.labels.DocumentResult.TheVariants as document
+use Rattle.figures.specs.declared.labels.SigningKind.{SigningKind}
+use Rattle.figures.specs.declared.labels.SigningKind.TheVariants as kinds
+use Rattle.figures.specs.declared.labels.SigningResult.{SigningResult}
+use Rattle.figures.specs.declared.labels.SigningResult.TheVariants as asked
+use Rattle.figures.specs.declared.labels.IdentityState.{IdentityState}
+use Rattle.figures.specs.declared.labels.IdentityState.TheVariants as states
+use Rattle.figures.specs.declared.labels.Bound.{Bound}
+use Rattle.figures.specs.declared.labels.Bound.TheVariants as bounds
+use Rattle.figures.specs.declared.figures.Documents.{Documents}
+use Rattle.figures.specs.declared.figures.Signings.{Signings}
+use Rattle.figures.specs.declared.figures.Seconds.{Seconds}
+use Rattle.figures.specs.declared.figures.Identities.{Identities}
+use Rattle.figures.specs.declared.figures.SocketFigures.{SocketFigures}
+use Rattle.figures.specs.declared.figures.Figures.{Figures}
+
+-- the two lines above a family's samples
+unfoldable pub head : Family → List ℕ
+head f = codes "# HELP " ++ name_of f ++ codes " " ++ help_of f ++ codes "\n# TYPE " ++ name_of f ++ codes " " ++ kind_name (kind_of f) ++ codes "\n"
+
+-- what ends each sample: its number
+unfoldable pub number_end : ℕ → List ℕ
+number_end n = codes " " ++ decimal n ++ codes "\n"
+
+-- a sample with no label
+unfoldable pub plain : Family → ℕ → List ℕ
+plain f n = name_of f ++ number_end n
+
+-- a family that is one number
+unfoldable pub single : Family → ℕ → List ℕ
+single f n = head f ++ plain f n
+
+-- one label, with its key and its value, which stands within the quotes already, and the number
+unfoldable pub label_end : List ℕ → List ℕ → ℕ → List ℕ
+label_end key value n = codes "{" ++ key ++ codes "=\"" ++ value ++ codes "\"}" ++ number_end n
+
+-- a sample with one label
+unfoldable pub labelled : Family → List ℕ → List ℕ → ℕ → List ℕ
+labelled f key value n = name_of f ++ label_end key value n
+
+-- ---- documents
+
+unfoldable pub document_line : DocumentResult → ℕ → List ℕ
+document_line outcome n = labelled family.Documents (codes "result") (document_result outcome) n
+
+unfoldable pub documents_part : Documents → List ℕ
+documents_part d = head family.Documents ++ document_line document.Taken d.taken ++ document_line document.Refused d.refused ++ document_line document.Failed d.failed
+
+-- nothing before the first document
+unfoldable pub age_part : Option ℕ → List ℕ
+age_part (Some seconds) = single family.DocumentAge seconds
+age_part None = []
+
+-- ---- identities
+
+unfoldable pub state_line : IdentityState → ℕ → List ℕ
+state_line state n = labelled family.Identities (codes "state") (identity_state state) n
+
+-- nothing where no entry has an identity
+unfoldable pub end_part : Option ℕ → List ℕ
+end_part (Some seconds) = single family.NextEnd seconds
+end_part None = []
+
+unfoldable pub identities_part : Identities → List ℕ
+identities_part i = head family.Identities ++ state_line states.Kept i.kept ++ state_line states.Missing i.missing ++ end_part i.next_end
+
+-- ---- signings
+
+unfoldable pub signing_line : SigningKind → SigningResult → ℕ → List ℕ
+signing_line kind outcome n =
+    name_of family.Signings ++ codes "{kind=\"" ++ signing_kind kind ++ codes "\",result=\"" ++ signing_result outcome ++ codes "\"}" ++ number_end n
+
+unfoldable pub kind_lines : SigningKind → Signings → List ℕ
+kind_lines kind s = signing_line kind asked.Signed s.signed ++ signing_line kind asked.Failed s.failed
+
+unfoldable pub signings_part : Signings → Signings → List ℕ
+signings_part x509 jwt = head family.Signings ++ kind_lines kinds.X509 x509 ++ kind_lines kinds.Jwt jwt
+
+-- how many asks took at most so long
+unfoldable pub bucket : Bound → ℕ → List ℕ
+bucket bound n = name_of family.SigningSeconds ++ codes "_bucket" ++ label_end (codes "le") (bound_name bound) n
+
+unfoldable pub buckets : Seconds → List ℕ
+buckets s =
+    bucket bounds.TenMilliseconds s.at_most_10_milliseconds ++ bucket bounds.HundredMilliseconds s.at_most_100_milliseconds
+    ++ bucket bounds.OneSecond s.at_most_1_second ++ bucket bounds.FiveSeconds s.at_most_5_seconds
+    ++ bucket bounds.TenSeconds s.at_most_10_seconds ++ bucket bounds.NoBound s.count
+
+abbrev pub digit : ℕ → List ℕ
+digit n = (48 + n % 10) ∷ []
+
+-- milliseconds as seconds, with three digits after the point
+unfoldable pub in_seconds : ℕ → List ℕ
+in_seconds n = decimal (n / 1000) ++ codes "." ++ digit (n / 100) ++ digit (n / 10) ++ digit n
+
+unfoldable pub sum_line : ℕ → List ℕ
+sum_line n = name_of family.SigningSeconds ++ codes "_sum " ++ in_seconds n ++ codes "\n"
+
+unfoldable pub count_line : ℕ → List ℕ
+count_line n = name_of family.SigningSeconds ++ codes "_count" ++ number_end n
+
+unfoldable pub seconds_part : Seconds → List ℕ
+seconds_part s = head family.SigningSeconds ++ buckets s ++ sum_line s.milliseconds ++ count_line s.count
+
+-- ---- connections
+
+unfoldable pub socket_line : Family → SocketFigures → ℕ → List ℕ
+socket_line f s n = labelled f (codes "socket") (escaped s.path) n
+
+-- one line for each socket, in the order of the configuration
+abbrev pub open_lines : List SocketFigures → List ℕ
+open_lines [] = []
+open_lines (s ∷ ss) = socket_line family.Connections s s.open ++ open_lines ss
+
+abbrev pub accepted_lines : List SocketFigures → List ℕ
+accepted_lines [] = []
+accepted_lines (s ∷ ss) = socket_line family.ConnectionsTotal s s.accepted ++ accepted_lines ss
+
+unfoldable pub sockets_part : List SocketFigures → List ℕ
+sockets_part ss = head family.Connections ++ open_lines ss ++ head family.ConnectionsTotal ++ accepted_lines ss
+
+-- ---- the whole
+
+unfoldable pub document_part : Figures → List ℕ
+document_part f = documents_part f.documents ++ age_part f.document_age ++ single family.Entries f.entries ++ single family.Bundles f.bundles
+
+unfoldable pub process_part : Figures → List ℕ
+process_part f = single family.LinesDropped f.lines_dropped ++ single family.StartTime f.started
+
+unfoldable pub page : Figures → List ℕ
+page f =
+    document_part f ++ identities_part f.identities ++ signings_part f.x509 f.jwt ++ seconds_part f.seconds
+    ++ sockets_part f.sockets ++ process_part f

@@ -1,0 +1,221 @@
+//! Counters that threads add to.
+
+use crate::figures::{Documents, Figures, Identities, Seconds, Signings, SocketFigures};
+use crate::labels::{DocumentResult, SigningKind, SigningResult};
+use crate::socket_path::SocketPath;
+use std::alloc::Global;
+use std::sync::atomic::{AtomicBool, AtomicU64, Ordering};
+use wl_octets::{Memory, Octets, Row};
+
+/// How many milliseconds a second has.
+const SECOND: u64 = 1_000;
+
+/// The upper bounds of the seconds of asks, in milliseconds.
+const BOUNDS: [u64; 5] = [10, 100, 1_000, 5_000, 10_000];
+
+/// The counters of a socket.
+#[derive(Drop)]
+struct SocketCounters {
+    path: SocketPath,
+    opened: AtomicU64,
+    closed: AtomicU64,
+}
+
+/// Shared counters. Each is an atomic: whoever adds to one waits for nobody. At 2^64 they begin anew, as counters of Prometheus
+/// may.
+#[derive(Drop)]
+pub struct Counters {
+    taken: AtomicU64,
+    refused: AtomicU64,
+    failed: AtomicU64,
+    /// When a document that was taken came last, in milliseconds of the caller's clock.
+    came: AtomicU64,
+    /// Whether one came.
+    has_come: AtomicBool,
+    entries: AtomicU64,
+    bundles: AtomicU64,
+    x509_signed: AtomicU64,
+    x509_failed: AtomicU64,
+    jwt_signed: AtomicU64,
+    jwt_failed: AtomicU64,
+    /// Asks of at most so long, by `BOUNDS`.
+    short: [AtomicU64; 5],
+    asks: AtomicU64,
+    milliseconds: AtomicU64,
+    sockets: Vec<SocketCounters>,
+}
+
+/// Adds to a counter.
+fn add(counter: &AtomicU64, number: u64) {
+    counter.fetch_add(number, Ordering::SeqCst);
+}
+
+/// What stands in a counter.
+fn read(counter: &AtomicU64) -> u64 {
+    counter.load(Ordering::SeqCst)
+}
+
+/// A counter at 0.
+fn zero() -> AtomicU64 {
+    AtomicU64::new(0)
+}
+
+impl Counters {
+    /// Counters at 0, of no socket yet.
+    pub fn start(alloc: Global) -> Counters {
+        Counters {
+            taken: zero(),
+            refused: zero(),
+            failed: zero(),
+            came: zero(),
+            has_come: AtomicBool::new(false),
+            entries: zero(),
+            bundles: zero(),
+            x509_signed: zero(),
+            x509_failed: zero(),
+            jwt_signed: zero(),
+            jwt_failed: zero(),
+            short: [zero(), zero(), zero(), zero(), zero()],
+            asks: zero(),
+            milliseconds: zero(),
+            sockets: Vec::new(alloc),
+        }
+    }
+
+    /// Adds the socket of the next number, at the path that a configuration names.
+    pub fn add_socket(&mut self, alloc: Global, path: &Octets) -> Result<(), Memory> {
+        let path = SocketPath::of_configuration(alloc, path)?;
+        self.sockets.push(SocketCounters {
+            path,
+            opened: zero(),
+            closed: zero(),
+        })?;
+        Ok(())
+    }
+
+    /// Counts a pull of the document.
+    pub fn count_document(&self, outcome: DocumentResult) {
+        match outcome {
+            DocumentResult::Taken => add(&self.taken, 1),
+            DocumentResult::Refused => add(&self.refused, 1),
+            DocumentResult::Failed => add(&self.failed, 1),
+        }
+    }
+
+    /// Notes that a document that is taken came at this time, in milliseconds of a clock that doesn't go back.
+    pub fn note_came(&self, now: u64) {
+        self.came.store(now, Ordering::SeqCst);
+        self.has_come.store(true, Ordering::SeqCst);
+    }
+
+    /// Notes what the document in use has.
+    pub fn note_document(&self, entries: u64, bundles: u64) {
+        self.entries.store(entries, Ordering::SeqCst);
+        self.bundles.store(bundles, Ordering::SeqCst);
+    }
+
+    /// Counts an ask of a signer, which took so many milliseconds.
+    pub fn count_signing(&self, kind: SigningKind, outcome: SigningResult, milliseconds: u64) {
+        let counter = match (kind, outcome) {
+            (SigningKind::X509, SigningResult::Signed) => &self.x509_signed,
+            (SigningKind::X509, SigningResult::Failed) => &self.x509_failed,
+            (SigningKind::Jwt, SigningResult::Signed) => &self.jwt_signed,
+            (SigningKind::Jwt, SigningResult::Failed) => &self.jwt_failed,
+        };
+        add(counter, 1);
+        add(&self.asks, 1);
+        add(&self.milliseconds, milliseconds);
+        for (bound, counter) in BOUNDS.iter().zip(self.short.iter()) {
+            if milliseconds <= *bound {
+                add(counter, 1);
+            }
+        }
+    }
+
+    /// Counts a connection that was accepted at the socket of this number.
+    pub fn count_opened(&self, socket: u32) {
+        if let Some(counters) = self.sockets.get(socket as usize) {
+            add(&counters.opened, 1);
+        }
+    }
+
+    /// Counts a connection of the socket of this number that is over.
+    pub fn count_closed(&self, socket: u32) {
+        if let Some(counters) = self.sockets.get(socket as usize) {
+            add(&counters.closed, 1);
+        }
+    }
+
+    /// How many seconds ago a document that was taken came last; nothing before the first.
+    fn document_age(&self, now: u64) -> Option<u64> {
+        if !self.has_come.load(Ordering::SeqCst) {
+            return None;
+        }
+        Some(now.saturating_sub(read(&self.came)) / SECOND)
+    }
+
+    /// The figures of the sockets.
+    fn socket_figures(&self, alloc: Global) -> Result<Row<SocketFigures>, Memory> {
+        let mut sockets = Row::empty(alloc);
+        for counters in self.sockets.iter() {
+            let closed = read(&counters.closed);
+            let accepted = read(&counters.opened);
+            let figures = SocketFigures {
+                path: counters.path.copy(alloc)?,
+                open: accepted.saturating_sub(closed),
+                accepted,
+            };
+            sockets.push(figures).map_err(|_| Memory)?;
+        }
+        Ok(sockets)
+    }
+
+    /// The seconds of asks. A shorter bound is read before a longer one, so that none has more than the next.
+    fn seconds(&self) -> Seconds {
+        let [first, second, third, fourth, fifth] = &self.short;
+        Seconds {
+            at_most_10_milliseconds: read(first),
+            at_most_100_milliseconds: read(second),
+            at_most_1_second: read(third),
+            at_most_5_seconds: read(fourth),
+            at_most_10_seconds: read(fifth),
+            count: read(&self.asks),
+            milliseconds: read(&self.milliseconds),
+        }
+    }
+
+    /// What stands in the counters, with these identities, at this time in milliseconds of the clock of `note_came`, of a process
+    /// that started at this Unix second and whose log dropped so many lines.
+    pub fn figures(
+        &self,
+        alloc: Global,
+        now: u64,
+        started: u64,
+        lines_dropped: u64,
+        identities: Identities,
+    ) -> Result<Figures, Memory> {
+        Ok(Figures {
+            documents: Documents {
+                taken: read(&self.taken),
+                refused: read(&self.refused),
+                failed: read(&self.failed),
+            },
+            document_age: self.document_age(now),
+            entries: read(&self.entries),
+            bundles: read(&self.bundles),
+            identities,
+            x509: Signings {
+                signed: read(&self.x509_signed),
+                failed: read(&self.x509_failed),
+            },
+            jwt: Signings {
+                signed: read(&self.jwt_signed),
+                failed: read(&self.jwt_failed),
+            },
+            seconds: self.seconds(),
+            sockets: self.socket_figures(alloc)?,
+            lines_dropped,
+            started,
+        })
+    }
+}

@@ -1,0 +1,26 @@
+//! Figures of the agent, and their page in the text format of Prometheus.
+//!
+//! [`Counters`] are atomics that threads add to; [`Figures`] are what stood in them at one moment, and [`metrics_text`] writes
+//! these. No figure can hold the bytes of a key, a token or a message, and no label has a value that a caller chooses.
+#![tactic(auto)]
+
+mod counters;
+mod escapes;
+mod family;
+mod figures;
+mod health;
+mod labels;
+mod laws;
+mod shows;
+mod socket_path;
+mod text;
+
+pub use counters::Counters;
+pub use family::{Family, Kind};
+pub use figures::{Documents, Figures, Identities, Seconds, Signings, SocketFigures};
+pub use health::{EntryId, Health, Lacking, live_text, ready_text};
+pub use labels::{Bound, DocumentResult, IdentityState, SigningKind, SigningResult};
+pub use laws::label_values_are_one_line;
+pub use shows::Shows;
+pub use socket_path::SocketPath;
+pub use text::metrics_text;

@@ -1,0 +1,370 @@
+//! The page of figures, as text.
+
+ghost use Rattle.std.specs.Prelude.{◌≡◌, ◌++◌, OnOk, IfOk};
+ghost use Rattle.figures.specs.Page.{head, number_end, plain, single, label_end, labelled, document_line, documents_part, age_part, state_line, end_part, identities_part, signing_line, kind_lines, signings_part, bucket, buckets, in_seconds, sum_line, count_line, seconds_part, socket_line, open_lines, accepted_lines, sockets_part, document_part, process_part, page};
+
+use crate::escapes::put_escaped;
+use crate::family::Family;
+use crate::figures::{Documents, Figures, Identities, Seconds, Signings, SocketFigures};
+use crate::labels::{Bound, DocumentResult, IdentityState, SigningKind, SigningResult};
+use std::alloc::Global;
+use std::string::ToString;
+use wl_octets::{Memory, Octets};
+
+/// How many milliseconds a second has.
+const SECOND: u64 = 1_000;
+
+#[tactic(auto, unfolding(crate::specs::Page::head))]
+fn put_head(out: &mut Octets, family: Family) -> Result<(), Memory>
+    ensures { OnOk result (out.new ≡ out.old ++ head family) }
+{
+    out.push_slice(b"# HELP ")?;
+    out.push_slice(family.name())?;
+    out.push_slice(b" ")?;
+    out.push_slice(family.help())?;
+    out.push_slice(b"\n# TYPE ")?;
+    out.push_slice(family.name())?;
+    out.push_slice(b" ")?;
+    out.push_slice(family.kind().name())?;
+    out.push_slice(b"\n")
+}
+
+/// Writes what ends a sample.
+#[tactic(auto, unfolding(crate::specs::Page::number_end))]
+fn put_number_end(alloc: Global, out: &mut Octets, number: u64) -> Result<(), Memory>
+    ensures { OnOk result (out.new ≡ out.old ++ number_end number) }
+{
+    out.push_slice(b" ")?;
+    let text = number.to_string(alloc)?;
+    out.push_slice(text.as_bytes())?;
+    out.push_slice(b"\n")
+}
+
+/// Writes a family that is one number.
+#[tactic(auto, unfolding(crate::specs::Page::single, crate::specs::Page::plain))]
+fn put_single(alloc: Global, out: &mut Octets, family: Family, number: u64) -> Result<(), Memory>
+    ensures { OnOk result (out.new ≡ out.old ++ single family number) }
+{
+    put_head(out, family)?;
+    out.push_slice(family.name())?;
+    put_number_end(alloc, out, number)
+}
+
+/// Writes one label, whose value stands within the quotes already, and the number.
+#[tactic(auto, unfolding(crate::specs::Page::label_end))]
+fn put_label_end(
+    alloc: Global,
+    out: &mut Octets,
+    key: &[u8],
+    value: &[u8],
+    number: u64,
+) -> Result<(), Memory>
+    ensures { OnOk result (out.new ≡ out.old ++ label_end key.now value.now number) }
+{
+    out.push_slice(b"{")?;
+    out.push_slice(key)?;
+    out.push_slice(b"=\"")?;
+    out.push_slice(value)?;
+    out.push_slice(b"\"}")?;
+    put_number_end(alloc, out, number)
+}
+
+/// Writes a sample with one label, whose value stands within the quotes already.
+#[tactic(auto, unfolding(crate::specs::Page::labelled))]
+fn put_labelled(
+    alloc: Global,
+    out: &mut Octets,
+    family: Family,
+    key: &[u8],
+    value: &[u8],
+    number: u64,
+) -> Result<(), Memory>
+    ensures { OnOk result (out.new ≡ out.old ++ labelled family key.now value.now number) }
+{
+    out.push_slice(family.name())?;
+    put_label_end(alloc, out, key, value, number)
+}
+
+#[tactic(auto, unfolding(crate::specs::Page::document_line))]
+fn put_document_line(
+    alloc: Global,
+    out: &mut Octets,
+    outcome: DocumentResult,
+    number: u64,
+) -> Result<(), Memory>
+    ensures { OnOk result (out.new ≡ out.old ++ document_line outcome number) }
+{
+    put_labelled(
+        alloc,
+        out,
+        Family::Documents,
+        b"result",
+        outcome.name(),
+        number,
+    )
+}
+
+#[tactic(auto, unfolding(crate::specs::Page::documents_part))]
+fn put_documents(alloc: Global, out: &mut Octets, documents: Documents) -> Result<(), Memory>
+    ensures { OnOk result (out.new ≡ out.old ++ documents_part documents) }
+{
+    put_head(out, Family::Documents)?;
+    put_document_line(alloc, out, DocumentResult::Taken, documents.taken)?;
+    put_document_line(alloc, out, DocumentResult::Refused, documents.refused)?;
+    put_document_line(alloc, out, DocumentResult::Failed, documents.failed)
+}
+
+#[tactic(auto, unfolding(crate::specs::Page::age_part))]
+fn put_age(alloc: Global, out: &mut Octets, age: Option<u64>) -> Result<(), Memory>
+    ensures { OnOk result (out.new ≡ out.old ++ age_part age) }
+{
+    match age {
+        Some(seconds) => put_single(alloc, out, Family::DocumentAge, seconds),
+        None => Ok(()),
+    }
+}
+
+#[tactic(auto, unfolding(crate::specs::Page::document_part))]
+fn put_document_part(alloc: Global, out: &mut Octets, figures: &Figures) -> Result<(), Memory>
+    ensures { OnOk result (out.new ≡ out.old ++ document_part figures.now) }
+{
+    put_documents(alloc, out, figures.documents)?;
+    put_age(alloc, out, figures.document_age)?;
+    put_single(alloc, out, Family::Entries, figures.entries)?;
+    put_single(alloc, out, Family::Bundles, figures.bundles)
+}
+
+#[tactic(auto, unfolding(crate::specs::Page::state_line))]
+fn put_state_line(
+    alloc: Global,
+    out: &mut Octets,
+    state: IdentityState,
+    number: u64,
+) -> Result<(), Memory>
+    ensures { OnOk result (out.new ≡ out.old ++ state_line state number) }
+{
+    put_labelled(
+        alloc,
+        out,
+        Family::Identities,
+        b"state",
+        state.name(),
+        number,
+    )
+}
+
+#[tactic(auto, unfolding(crate::specs::Page::end_part))]
+fn put_end(alloc: Global, out: &mut Octets, next_end: Option<u64>) -> Result<(), Memory>
+    ensures { OnOk result (out.new ≡ out.old ++ end_part next_end) }
+{
+    match next_end {
+        Some(seconds) => put_single(alloc, out, Family::NextEnd, seconds),
+        None => Ok(()),
+    }
+}
+
+#[tactic(auto, unfolding(crate::specs::Page::identities_part))]
+fn put_identities(alloc: Global, out: &mut Octets, identities: Identities) -> Result<(), Memory>
+    ensures { OnOk result (out.new ≡ out.old ++ identities_part identities) }
+{
+    put_head(out, Family::Identities)?;
+    put_state_line(alloc, out, IdentityState::Kept, identities.kept)?;
+    put_state_line(alloc, out, IdentityState::Missing, identities.missing)?;
+    put_end(alloc, out, identities.next_end)
+}
+
+#[tactic(auto, unfolding(crate::specs::Page::signing_line))]
+fn put_signing_line(
+    alloc: Global,
+    out: &mut Octets,
+    kind: SigningKind,
+    outcome: SigningResult,
+    number: u64,
+) -> Result<(), Memory>
+    ensures { OnOk result (out.new ≡ out.old ++ signing_line kind outcome number) }
+{
+    out.push_slice(Family::Signings.name())?;
+    out.push_slice(b"{kind=\"")?;
+    out.push_slice(kind.name())?;
+    out.push_slice(b"\",result=\"")?;
+    out.push_slice(outcome.name())?;
+    out.push_slice(b"\"}")?;
+    put_number_end(alloc, out, number)
+}
+
+#[tactic(auto, unfolding(crate::specs::Page::kind_lines))]
+fn put_kind_lines(
+    alloc: Global,
+    out: &mut Octets,
+    kind: SigningKind,
+    signings: Signings,
+) -> Result<(), Memory>
+    ensures { OnOk result (out.new ≡ out.old ++ kind_lines kind signings) }
+{
+    put_signing_line(alloc, out, kind, SigningResult::Signed, signings.signed)?;
+    put_signing_line(alloc, out, kind, SigningResult::Failed, signings.failed)
+}
+
+#[tactic(auto, unfolding(crate::specs::Page::signings_part))]
+fn put_signings(
+    alloc: Global,
+    out: &mut Octets,
+    x509: Signings,
+    jwt: Signings,
+) -> Result<(), Memory>
+    ensures { OnOk result (out.new ≡ out.old ++ signings_part x509 jwt) }
+{
+    put_head(out, Family::Signings)?;
+    put_kind_lines(alloc, out, SigningKind::X509, x509)?;
+    put_kind_lines(alloc, out, SigningKind::Jwt, jwt)
+}
+
+#[tactic(auto, unfolding(crate::specs::Page::bucket))]
+fn put_bucket(alloc: Global, out: &mut Octets, bound: Bound, number: u64) -> Result<(), Memory>
+    ensures { OnOk result (out.new ≡ out.old ++ bucket bound number) }
+{
+    out.push_slice(Family::SigningSeconds.name())?;
+    out.push_slice(b"_bucket")?;
+    put_label_end(alloc, out, b"le", bound.name(), number)
+}
+
+#[tactic(auto, unfolding(crate::specs::Page::buckets))]
+fn put_buckets(alloc: Global, out: &mut Octets, seconds: &Seconds) -> Result<(), Memory>
+    ensures { OnOk result (out.new ≡ out.old ++ buckets seconds.now) }
+{
+    put_bucket(
+        alloc,
+        out,
+        Bound::TenMilliseconds,
+        seconds.at_most_10_milliseconds,
+    )?;
+    put_bucket(
+        alloc,
+        out,
+        Bound::HundredMilliseconds,
+        seconds.at_most_100_milliseconds,
+    )?;
+    put_bucket(alloc, out, Bound::OneSecond, seconds.at_most_1_second)?;
+    put_bucket(alloc, out, Bound::FiveSeconds, seconds.at_most_5_seconds)?;
+    put_bucket(alloc, out, Bound::TenSeconds, seconds.at_most_10_seconds)?;
+    put_bucket(alloc, out, Bound::NoBound, seconds.count)
+}
+
+/// Writes milliseconds as seconds.
+#[tactic(auto, unfolding(crate::specs::Page::in_seconds))]
+fn put_in_seconds(alloc: Global, out: &mut Octets, number: u64) -> Result<(), Memory>
+    ensures { OnOk result (out.new ≡ out.old ++ in_seconds number) }
+{
+    let whole = (number / SECOND).to_string(alloc)?;
+    out.push_slice(whole.as_bytes())?;
+    out.push_slice(b".")?;
+    out.push_slice(&[b'0' + (number / 100 % 10) as u8])?;
+    out.push_slice(&[b'0' + (number / 10 % 10) as u8])?;
+    out.push_slice(&[b'0' + (number % 10) as u8])
+}
+
+#[tactic(auto, unfolding(crate::specs::Page::sum_line))]
+fn put_sum_line(alloc: Global, out: &mut Octets, milliseconds: u64) -> Result<(), Memory>
+    ensures { OnOk result (out.new ≡ out.old ++ sum_line milliseconds) }
+{
+    out.push_slice(Family::SigningSeconds.name())?;
+    out.push_slice(b"_sum ")?;
+    put_in_seconds(alloc, out, milliseconds)?;
+    out.push_slice(b"\n")
+}
+
+#[tactic(auto, unfolding(crate::specs::Page::count_line))]
+fn put_count_line(alloc: Global, out: &mut Octets, count: u64) -> Result<(), Memory>
+    ensures { OnOk result (out.new ≡ out.old ++ count_line count) }
+{
+    out.push_slice(Family::SigningSeconds.name())?;
+    out.push_slice(b"_count")?;
+    put_number_end(alloc, out, count)
+}
+
+#[tactic(auto, unfolding(crate::specs::Page::seconds_part))]
+fn put_seconds(alloc: Global, out: &mut Octets, seconds: &Seconds) -> Result<(), Memory>
+    ensures { OnOk result (out.new ≡ out.old ++ seconds_part seconds.now) }
+{
+    put_head(out, Family::SigningSeconds)?;
+    put_buckets(alloc, out, seconds)?;
+    put_sum_line(alloc, out, seconds.milliseconds)?;
+    put_count_line(alloc, out, seconds.count)
+}
+
+/// Writes a sample of a socket.
+#[tactic(auto, unfolding(crate::specs::Page::socket_line))]
+fn put_socket_line(
+    alloc: Global,
+    out: &mut Octets,
+    family: Family,
+    socket: &SocketFigures,
+    number: u64,
+) -> Result<(), Memory>
+    ensures { OnOk result (out.new ≡ out.old ++ socket_line family socket.now number) }
+{
+    let mut value = Octets::empty(alloc);
+    put_escaped(&mut value, socket.path.as_slice())?;
+    put_labelled(alloc, out, family, b"socket", value.as_slice(), number)
+}
+
+fn put_open_lines(alloc: Global, out: &mut Octets, sockets: &[SocketFigures]) -> Result<(), Memory>
+    ensures { OnOk result (out.new ≡ out.old ++ open_lines sockets.now) }
+{
+    for (at, socket) in sockets.iter().enumerate() {
+        put_socket_line(alloc, out, Family::Connections, socket, socket.open)?;
+    }
+    Ok(())
+}
+
+fn put_accepted_lines(
+    alloc: Global,
+    out: &mut Octets,
+    sockets: &[SocketFigures],
+) -> Result<(), Memory>
+    ensures { OnOk result (out.new ≡ out.old ++ accepted_lines sockets.now) }
+{
+    for (at, socket) in sockets.iter().enumerate() {
+        put_socket_line(
+            alloc,
+            out,
+            Family::ConnectionsTotal,
+            socket,
+            socket.accepted,
+        )?;
+    }
+    Ok(())
+}
+
+#[tactic(auto, unfolding(crate::specs::Page::sockets_part))]
+fn put_sockets(alloc: Global, out: &mut Octets, sockets: &[SocketFigures]) -> Result<(), Memory>
+    ensures { OnOk result (out.new ≡ out.old ++ sockets_part sockets.now) }
+{
+    put_head(out, Family::Connections)?;
+    put_open_lines(alloc, out, sockets)?;
+    put_head(out, Family::ConnectionsTotal)?;
+    put_accepted_lines(alloc, out, sockets)
+}
+
+#[tactic(auto, unfolding(crate::specs::Page::process_part))]
+fn put_process(alloc: Global, out: &mut Octets, figures: &Figures) -> Result<(), Memory>
+    ensures { OnOk result (out.new ≡ out.old ++ process_part figures.now) }
+{
+    put_single(alloc, out, Family::LinesDropped, figures.lines_dropped)?;
+    put_single(alloc, out, Family::StartTime, figures.started)
+}
+
+/// The page of these figures, in the text format of Prometheus, version 0.0.4.
+#[tactic(auto, unfolding(crate::specs::Page::page))]
+pub fn metrics_text(alloc: Global, figures: &Figures) -> Result<Octets, Memory>
+    ensures { IfOk result (λ text. text ≡ page figures.now) }
+{
+    let mut out = Octets::empty(alloc);
+    put_document_part(alloc, &mut out, figures)?;
+    put_identities(alloc, &mut out, figures.identities)?;
+    put_signings(alloc, &mut out, figures.x509, figures.jwt)?;
+    put_seconds(alloc, &mut out, &figures.seconds)?;
+    put_sockets(alloc, &mut out, figures.sockets.as_slice())?;
+    put_process(alloc, &mut out, figures)?;
+    Ok(out)
+}

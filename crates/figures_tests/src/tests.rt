@@ -1,0 +1,112 @@
+//! A page of figures, as Prometheus reads it.
+
+use figures::*;
+use std::alloc::AllocGlobal;
+use std::test::Fail;
+use wl_octets::{Octets, Row};
+
+/// What is counted below.
+const PAGE: &[u8] = b"# HELP agentd_documents_total Pulls of the document, by result.
+# TYPE agentd_documents_total counter
+agentd_documents_total{result=\"taken\"} 1
+agentd_documents_total{result=\"refused\"} 0
+agentd_documents_total{result=\"failed\"} 1
+# HELP agentd_document_age_seconds Seconds since a document that was taken came last.
+# TYPE agentd_document_age_seconds gauge
+agentd_document_age_seconds 4
+# HELP agentd_entries Entries of the document in use.
+# TYPE agentd_entries gauge
+agentd_entries 7
+# HELP agentd_bundles Bundles of the document in use.
+# TYPE agentd_bundles gauge
+agentd_bundles 2
+# HELP agentd_identities Entries of the document in use, by the state of their identity.
+# TYPE agentd_identities gauge
+agentd_identities{state=\"kept\"} 5
+agentd_identities{state=\"missing\"} 2
+# HELP agentd_next_end_seconds Seconds until the next identity ends.
+# TYPE agentd_next_end_seconds gauge
+agentd_next_end_seconds 300
+# HELP agentd_signings_total Asks of the signer, by kind and result.
+# TYPE agentd_signings_total counter
+agentd_signings_total{kind=\"x509\",result=\"signed\"} 1
+agentd_signings_total{kind=\"x509\",result=\"failed\"} 0
+agentd_signings_total{kind=\"jwt\",result=\"signed\"} 0
+agentd_signings_total{kind=\"jwt\",result=\"failed\"} 1
+# HELP agentd_signing_seconds Seconds that asks of the signer took.
+# TYPE agentd_signing_seconds histogram
+agentd_signing_seconds_bucket{le=\"0.01\"} 0
+agentd_signing_seconds_bucket{le=\"0.1\"} 1
+agentd_signing_seconds_bucket{le=\"1\"} 1
+agentd_signing_seconds_bucket{le=\"5\"} 1
+agentd_signing_seconds_bucket{le=\"10\"} 1
+agentd_signing_seconds_bucket{le=\"+Inf\"} 2
+agentd_signing_seconds_sum 10.045
+agentd_signing_seconds_count 2
+# HELP agentd_connections Open connections, by socket.
+# TYPE agentd_connections gauge
+agentd_connections{socket=\"/run/a\\\"b\"} 1
+# HELP agentd_connections_total Accepted connections, by socket.
+# TYPE agentd_connections_total counter
+agentd_connections_total{socket=\"/run/a\\\"b\"} 2
+# HELP agentd_log_lines_dropped_total Lines of the log that could not be written at once.
+# TYPE agentd_log_lines_dropped_total counter
+agentd_log_lines_dropped_total 5
+# HELP process_start_time_seconds Start time of the process since the Unix epoch in seconds.
+# TYPE process_start_time_seconds gauge
+process_start_time_seconds 1795929000
+";
+
+#[test]
+fn page_has_what_was_counted(rt: HostRuntime) -> Result<(), Fail> {
+    let alloc = rt.alloc();
+    let mut counters = Counters::start(alloc);
+    counters.add_socket(alloc, &Octets::from_slice(alloc, b"/run/a\"b")?)?;
+    counters.count_document(DocumentResult::Failed);
+    counters.count_document(DocumentResult::Taken);
+    counters.note_came(1_000);
+    counters.note_document(7, 2);
+    counters.count_signing(SigningKind::X509, SigningResult::Signed, 44);
+    counters.count_signing(SigningKind::Jwt, SigningResult::Failed, 10_001);
+    counters.count_opened(0);
+    counters.count_opened(0);
+    counters.count_closed(0);
+    counters.count_opened(9);
+    let identities = Identities {
+        kept: 5,
+        missing: 2,
+        next_end: Some(300),
+    };
+    let figures = counters.figures(alloc, 5_999, 1_795_929_000, 5, identities)?;
+    let text = metrics_text(alloc, &figures)?;
+    assert_eq!(rt; text.as_slice(), PAGE);
+    Ok(())
+}
+
+#[test]
+fn health_is_written_in_lines(rt: HostRuntime) -> Result<(), Fail> {
+    let alloc = rt.alloc();
+    let entry = EntryId::of_entry(alloc, &Octets::from_slice(alloc, b"we\nb")?)?;
+    let mut lacking = Vec::new(alloc);
+    lacking.push(Lacking { entry, seconds: 75 })?;
+    let mut health = Health {
+        is_live: true,
+        has_document: false,
+        lacking: Row::from_vec(lacking),
+    };
+    assert_eq!(rt;
+        ready_text(alloc, &health)?.as_slice(),
+        b"no document was taken\n".as_slice()
+    );
+    health.has_document = true;
+    let line = b"entry \"we\\nb\" has had no identity for 75 s\n".as_slice();
+    assert_eq!(rt; ready_text(alloc, &health)?.as_slice(), line);
+    assert!(rt; !health.is_ready());
+    health.lacking = Row::empty(alloc);
+    assert_eq!(rt;
+        ready_text(alloc, &health)?.as_slice(),
+        b"ready\n".as_slice()
+    );
+    assert_eq!(rt; live_text(health.is_live), b"live\n".as_slice());
+    Ok(())
+}

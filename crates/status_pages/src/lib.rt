@@ -1,0 +1,10 @@
+//! The pages `/metrics`, `/live`, `/ready` and `/stop` over HTTP/1.1.
+//!
+//! [`Pages`] answers requests from figures and health of one moment, and notes whether one asked for a stop.
+#![tactic(auto)]
+
+mod pages;
+#[cfg(test)]
+mod tests;
+
+pub use pages::{Asked, Pages, page_named};

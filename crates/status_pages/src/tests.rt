@@ -1,0 +1,15 @@
+//! The names of pages.
+
+use crate::{Asked, page_named};
+use std::test::Fail;
+
+#[test]
+fn pages_have_their_names(rt: HostRuntime) -> Result<(), Fail> {
+    assert_eq!(rt; page_named(b"GET", b"/metrics"), Asked::Metrics);
+    assert_eq!(rt; page_named(b"HEAD", b"/ready"), Asked::Ready);
+    assert_eq!(rt; page_named(b"POST", b"/live"), Asked::NoMethod);
+    assert_eq!(rt; page_named(b"POST", b"/stop"), Asked::Stop);
+    assert_eq!(rt; page_named(b"GET", b"/stop"), Asked::NoPost);
+    assert_eq!(rt; page_named(b"GET", b"/metrics/"), Asked::NoPage);
+    Ok(())
+}

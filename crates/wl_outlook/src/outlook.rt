@@ -1,0 +1,156 @@
+//! What threads note, and pages show.
+
+use crate::standing::Standing;
+use event_log::Event;
+use figures::{Counters, DocumentResult, Figures, Health, Shows, SigningKind, SigningResult};
+use log_output::Log;
+use std::alloc::Global;
+use std::sync::atomic::{AtomicU64, Ordering};
+use std::sync::{Arc, RwLock, RwLockWriteGuard};
+use std::thread;
+use std::time::{Duration, Instant};
+use wl_entry::{Ask, Entry};
+use wl_octets::Memory;
+
+/// How many milliseconds ago the keeper's last step may have ended.
+const LIVE_MILLISECONDS: u64 = 10_000;
+
+/// How often the entries are tried, a millisecond apart, before one who notes something gives up.
+const TRIES: u32 = 1_000;
+
+/// What is known of the agent. Threads may share it: counters are atomics, and no seat takes the lock of the entries.
+#[derive(Drop)]
+pub struct Outlook {
+    alloc: Global,
+    log: Arc<Log>,
+    counters: Counters,
+    /// When the process started: the clock of all milliseconds here.
+    began: Option<Instant>,
+    /// The same in Unix seconds.
+    started: u64,
+    /// When the keeper's last step ended.
+    stepped: AtomicU64,
+    standing: RwLock<Standing>,
+}
+
+impl Outlook {
+    /// Of a process that starts now, with counters at 0.
+    pub fn start(alloc: Global, log: Arc<Log>, counters: Counters) -> Outlook {
+        let began = Instant::now(log.runtime()).ok();
+        let started = log.now();
+        Outlook {
+            alloc,
+            log,
+            counters,
+            began,
+            started,
+            stepped: AtomicU64::new(0),
+            standing: RwLock::new(Standing::start(alloc)),
+        }
+    }
+
+    /// The log.
+    pub fn log(&self) -> &Log {
+        &self.log
+    }
+
+    /// How many milliseconds the process has run; 0 where the system gives no time.
+    pub fn milliseconds(&self) -> u64 {
+        let Some(began) = &self.began else { return 0 };
+        match began.elapsed(self.log.runtime()) {
+            Ok(time) => u64::try_from(time.as_millis()).unwrap_or(u64::MAX),
+            Err(_) => 0,
+        }
+    }
+
+    /// The entries, of which nobody else knows then; nothing where others have them for a whole second.
+    fn standing(&self) -> Option<RwLockWriteGuard<'_, Standing>> {
+        for _ in 0..TRIES {
+            if let Some(standing) = self.standing.try_write() {
+                return Some(standing);
+            }
+            thread::sleep(self.log.runtime(), Duration::from_millis(1));
+        }
+        None
+    }
+
+    /// A step of the keeper has ended. Identities that have ended since the last step are said.
+    pub fn note_step(&self) {
+        self.stepped.store(self.milliseconds(), Ordering::SeqCst);
+        let now = self.log.now();
+        if let Some(mut standing) = self.standing() {
+            standing.say_ended(&self.log, now);
+        }
+    }
+
+    /// A pull of the document ended so.
+    pub fn note_pull(&self, outcome: DocumentResult) {
+        if outcome == DocumentResult::Taken {
+            self.counters.note_came(self.milliseconds());
+        }
+        self.counters.count_document(outcome);
+    }
+
+    /// Another document than before was taken, with these entries and so many bundles. Where memory runs out the entries stay as
+    /// they were known.
+    pub fn note_entries(&self, entries: &[Entry], bundles: u64) {
+        self.counters.note_document(entries.len() as u64, bundles);
+        let now = self.log.now();
+        if let Some(mut standing) = self.standing() {
+            let _ = standing.take_document(entries, now);
+        }
+    }
+
+    /// An ask ended so, which began when the process had run so many milliseconds.
+    pub fn note_ask(&self, kind: SigningKind, outcome: SigningResult, began: u64) {
+        let taken = self.milliseconds().saturating_sub(began);
+        self.counters.count_signing(kind, outcome, taken);
+    }
+
+    /// An identity was signed, which ends at this Unix second.
+    pub fn note_signed(&self, ask: &Ask, not_after: u64) {
+        if let Some(mut standing) = self.standing() {
+            standing.note_signed(ask, not_after);
+        }
+    }
+
+    /// A connection was accepted at the socket of this number.
+    pub fn note_opened(&self, socket: u32) {
+        self.counters.count_opened(socket);
+        self.log.say(&Event::Connected(socket));
+    }
+
+    /// A connection of the socket of this number is over.
+    pub fn note_closed(&self, socket: u32) {
+        self.counters.count_closed(socket);
+        self.log.say(&Event::Closed(socket));
+    }
+}
+
+impl Shows for Outlook {
+    fn figures(&self) -> Result<Figures, Memory> {
+        let dropped = self.log.dropped();
+        let now = self.log.now();
+        let identities = match self.standing() {
+            Some(standing) => standing.identities(now),
+            None => return Err(Memory),
+        };
+        let ran = self.milliseconds();
+        self.counters
+            .figures(self.alloc, ran, self.started, dropped, identities)
+    }
+
+    fn health(&self) -> Result<Health, Memory> {
+        let stepped = self.stepped.load(Ordering::SeqCst);
+        let is_live = self.milliseconds().saturating_sub(stepped) <= LIVE_MILLISECONDS;
+        let now = self.log.now();
+        let Some(standing) = self.standing() else {
+            return Err(Memory);
+        };
+        Ok(Health {
+            is_live,
+            has_document: standing.has_document(),
+            lacking: standing.lacking(now)?,
+        })
+    }
+}
