@@ -10,11 +10,10 @@ mod names;
 mod publishing;
 mod sds;
 mod serials;
-#[cfg(test)]
-mod tests;
 mod words;
 
 pub use files::files_of;
 pub use fitness::has_files;
+pub use names::{domain_of, is_domain};
 pub use publishing::{WriteFault, files_in, publish_message};
 pub use serials::serial_of;

@@ -38,7 +38,7 @@ pub(crate) fn numbered(alloc: Global, word: &[u8], at: u32) -> Result<Octets, Me
 }
 
 /// The name of a trust domain, whose id may stand in place of it.
-pub(crate) fn domain_of(key: &[u8]) -> &[u8]
+pub fn domain_of(key: &[u8]) -> &[u8]
     ensures { result.now ≡ domain_of key.now }
 {
     if key.starts_with(b"spiffe://") {
@@ -60,9 +60,9 @@ fn are_domain_bytes(name: &[u8]) -> bool
     name.iter().all(|byte| is_domain_byte(*byte))
 }
 
-/// Whether these bytes may name a trust domain: then they are no path.
+/// Whether these bytes may name a trust domain, and a file: 1 to 200 small letters, digits, `-`, `.`, `_`. Then they are no path.
 #[tactic(auto, unfolding(crate::specs::Names::is_domain))]
-pub(crate) fn is_domain(name: &[u8]) -> bool
+pub fn is_domain(name: &[u8]) -> bool
     ensures { result ≡ is_domain name.now }
 {
     name.len() >= 1 && name.len() <= MAX_DOMAIN_LEN && are_domain_bytes(name)

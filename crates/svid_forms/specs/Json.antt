@@ -65,7 +65,7 @@ bytes_member lead name bytes = opening lead name ++ bytes_value bytes
 
 -- ---- lists and maps
 
--- items after a comma, but for the first of all
+-- items after a comma, except the first of all
 abbrev pub items_from : {X : Type 0} → (X → List ℕ) → ℕ → List X → List ℕ
 items_from item at [] = []
 items_from item at (x ∷ xs) = (if at == 0 then [] else 44 ∷ []) ++ item x ++ items_from item (at + 1) xs

@@ -9,13 +9,11 @@ mod json;
 mod laws;
 mod names;
 mod pem;
-#[cfg(test)]
-mod tests;
 
 pub use decoded::put_decoded_json;
 pub use elements::{is_whole, split};
 pub use json::{put_bundles_json, put_escaped, put_jwt_bundles_json, put_jwt_json, put_x509_json};
-pub use laws::elements_are_the_bytes;
+pub use laws::{blocks_are_read_back, elements_are_the_bytes};
 pub use pem::{
     are_bundles_whole, are_svids_whole, put_bundles_pem, put_certificates, put_key, put_svids_pem,
 };

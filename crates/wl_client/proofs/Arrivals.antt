@@ -38,7 +38,7 @@ arrives_none r first l fs old new was now ending same here none said =
     let due = rw same at said in
     (due.0, due.1, ap (λ (x : Result Listener ClientFault). state_after x r.ending) due.2 ∙ goes_on r.ending l none ∙ ap (λ (e : End). Listening e l) (sym here))
 
--- bytes behind the frames are none
+-- bytes after the frames are none
 pub arrives_some : (r : Reading) (first l : Listener) (fs : List Frame) (why : FrameFault) (old new : List Heard) (was now : List ℕ) (ending : End) → fs ≡ r.frames → frame_fault_in r.ending ≡ Some why
     → Says (frames_heard fs first) (Ok tt) old new was now l → Arrives (heard_in r first) (Err (faults.Frame why)) old new was now ending l
 unfolding heard_in

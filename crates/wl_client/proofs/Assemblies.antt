@@ -1,4 +1,4 @@
--- A prefix and what came of the message behind it, as the bytes of a body.
+-- A prefix and what came of the message after it, as the bytes of a body.
 use Rattle.std.proofs.Common.{◌≡◌, inl, inr, ℕ, ◌+◌, ◌<◌, ◌≤◌, List, [], ◌∷◌, ◌++◌, length, take, drop, Result, Ok, Err, OnOk, Option, Some, None, refl, sym, ap, ◌∙◌, arith, append_assoc, append-nil, take-append-drop, length-append}
 use Rattle.std.proofs.lemmas.Bool.{lt-ltb}
 use Rattle.std.proofs.Math.Seq.{drop-append_seam, take-length, drop-length}
@@ -27,7 +27,7 @@ unfolding first_message
 given_wrong limit prefix message fault said none =
     rw (none, append-nil prefix) (messages_wrong limit prefix fault (rw said refl))
 
--- a whole prefix says the same with the message behind it
+-- a whole prefix says the same with the message after it
 still_said : (limit n : ℕ) (prefix message : List ℕ) → prefix_of limit prefix ≡ Ok (Some n) → prefix_of limit (prefix ++ message) ≡ Ok (Some n)
 still_said limit n prefix message said =
     elim (prefix_more limit prefix message) [
@@ -128,7 +128,7 @@ refuses faults.Memory P p = tt
 refuses (faults.Flag flag) P p = p
 refuses (faults.TooLong n) P p = p
 
--- a wrong prefix is wrong with more behind it
+-- a wrong prefix is wrong with more after it
 pub prefix_wrong : (limit used : ℕ) (b : Begun) (prefix piece : List ℕ) (fault : MessageFault) → prefix_of limit prefix ≡ Err fault → b.message ≡ [] → prefix ≡ b.prefix ++ take used piece → Refuses fault (messages_of limit (bytes_of b ++ piece) ≡ record { messages = []; ending = Fault fault })
 unfolding reading_from
 prefix_wrong limit used b prefix piece fault said empty is =

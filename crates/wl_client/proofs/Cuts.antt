@@ -74,7 +74,7 @@ no_memory after h (Err fault) due old new was now given same =
     let memory : fault ≡ faults.Memory = cc in
     rw (given.0, memory) tt
 
--- a client stands for the bytes so far and the piece behind them
+-- a client stands for the bytes so far and the piece after them
 pub stands_on : (s after : ClientState) (fed piece : List ℕ) (r : Result (Unit {0}) ClientFault) (old new : List Heard) (was now : List ℕ)
     → Feeds (heard_from s piece) r old new was now after → ((fault : ClientFault) → s ≡ Failed fault → r ≡ Err fault) → StandsFor s fed → StandsFor after (fed ++ piece)
 stands_on (Listening e l) after fed piece r old new was now given again stood = goes_on (Listening e l) after fed piece r old new was now stood given

@@ -112,7 +112,7 @@ came_none l old was = record {
   bytes = sym (ap (λ h. was ++ h.bytes) (heard_none l) ∙ append-nil was);
 }
 
--- behind frames that came well, a frame and those after it
+-- after frames that came well, a frame and those after it
 behind : (fs gs : List Frame) (first l : Listener) (old new : List Heard) (was now : List ℕ) → Came fs first l old new was now
     → frames_heard (fs ++ gs) first ≡ record { told = (frames_heard fs first).told ++ (frames_heard gs l).told; bytes = (frames_heard fs first).bytes ++ (frames_heard gs l).bytes; after = (frames_heard gs l).after }
 behind fs gs first l old new was now came = heard_two fs gs first ∙ then_ok (frames_heard fs first) l (frames_heard gs) came.after

@@ -9,7 +9,7 @@ use Rattle.wl_client.specs.declared.assembly.Begun.{Begun}
 abbrev pub bytes_of : Begun → List ℕ
 bytes_of b = b.prefix ++ b.message
 
--- no byte is behind a prefix that is not whole
+-- no byte is after a prefix that is not whole
 abbrev pub IsBelow : Option ℕ → Begun → Type 0
 IsBelow None b = b.message ≡ []
 IsBelow (Some n) b = (length b.prefix ≡ PREFIX_LEN) × (length b.message < n)
@@ -18,7 +18,7 @@ abbrev pub IsWithin : Option ℕ → Begun → Type 0
 IsWithin None b = b.message ≡ []
 IsWithin (Some n) b = (length b.prefix ≡ PREFIX_LEN) × (length b.message ≤ n)
 
--- a prefix or a part of it, with what it says, and less than a message behind it
+-- a prefix or a part of it, with what it says, and less than a message after it
 pub record IsPart (limit : ℕ) (b : Begun) : Type 0 where
   pub said : prefix_of limit b.prefix ≡ Ok b.length
   pub below : IsBelow b.length b

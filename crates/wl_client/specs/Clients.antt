@@ -23,7 +23,7 @@ pub record Reply : Type 0 where
   pub bytes : List ℕ
   pub after : ClientState
 
--- the faults of the frames before that of the bytes behind them
+-- the faults of the frames before that of the bytes after them
 abbrev pub state_of : End → Listener → ClientState
 state_of (Opening left) l = Listening (Opening left) l
 state_of (Rest rest) l = Listening (Rest rest) l

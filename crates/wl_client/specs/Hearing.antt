@@ -193,7 +193,7 @@ fresh_listener = record {
 
 -- ---- what a step answers
 
--- what is due was told and written, or the fault behind what is due, unless memory ran out
+-- what is due was told and written, or the fault after what is due, unless memory ran out
 abbrev pub Says : Hearing → Result (Unit {0}) ClientFault → List Heard → List Heard → List ℕ → List ℕ → Listener → Type 0
 Says due (Ok done) old new was now l = (new ≡ old ++ due.told) × (now ≡ was ++ due.bytes) × (due.after ≡ Ok l)
 Says due (Err fault) old new was now l = Refuses fault ((new ≡ old ++ due.told) × (now ≡ was ++ due.bytes) × (due.after ≡ Err fault))

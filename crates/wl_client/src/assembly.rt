@@ -20,7 +20,7 @@ pub struct Begun {
     pub prefix: Octets,
     /// The length that the prefix says, once it is whole.
     pub length: Option<u32>,
-    /// The bytes behind it, as far as they came.
+    /// The bytes after it, as far as they came.
     pub message: Octets,
 }
 
@@ -76,7 +76,7 @@ impl Assembly {
         ensures fed { Feeds result (reading_from self.old.limit self.old.ending piece.now)
             into.old into.new self.new.ending }
         ensures limit { self.new.limit ≡ self.old.limit }
-        ensures front { GainsFront (reading_from self.old.limit self.old.ending piece.now).messages
+        ensures prefix { GainsFront (reading_from self.old.limit self.old.ending piece.now).messages
             into.old into.new }
     {
         if let Some(fault) = self.fault {
@@ -107,7 +107,7 @@ fn assemble(
     ensures fault { IfErr result (λ fault. Refuses fault
         ((into.new ≡ into.old ++ (messages_of limit (bytes_of begun.old ++ piece.now)).messages)
         × ((messages_of limit (bytes_of begun.old ++ piece.now)).ending ≡ Fault fault))) }
-    ensures front { GainsFront (messages_of limit (bytes_of begun.old ++ piece.now)).messages into.old into.new }
+    ensures prefix { GainsFront (messages_of limit (bytes_of begun.old ++ piece.now)).messages into.old into.new }
 {
     let mut rest = piece;
     while !rest.is_empty() {
@@ -165,7 +165,7 @@ fn take_prefix(limit: u32, begun: &mut Begun, piece: &[u8]) -> Result<usize, Mes
     }
 }
 
-/// Puts bytes behind others, up to this many in all, and says how many.
+/// Puts bytes after others, up to this many in all, and says how many.
 fn take_front(bytes: &mut Octets, most: usize, piece: &[u8]) -> Result<usize, MessageFault>
     requires room { length bytes.old < most }
     requires some { 0 < length piece.now }
@@ -192,7 +192,7 @@ fn finish(
         × ((messages_of limit (bytes_of begun.old)).ending ≡ Rest (bytes_of begun.new))) }
     ensures part { OnOk result (IsPart limit begun.new) }
     ensures fault { IfErr result (λ fault. fault ≡ MessageFault.Memory) }
-    ensures front { GainsFront (messages_of limit (bytes_of begun.old)).messages into.old into.new }
+    ensures prefix { GainsFront (messages_of limit (bytes_of begun.old)).messages into.old into.new }
 {
     match begun.length {
         None => Ok(()),
@@ -206,12 +206,12 @@ fn finish(
     }
 }
 
-/// Puts the message behind what `into` holds, and begins the next one.
+/// Puts the message after what `into` holds, and begins the next one.
 #[tactic(auto, unfolding(grpc_wire::specs::Messages::prefix_of))]
 fn tell(alloc: Global, begun: &mut Begun, into: &mut Row<Octets>) -> Result<(), MessageFault>
     ensures ok { OnOk result (into.new ≡ into.old ++ begun.old.message ∷ []) }
     ensures next { OnOk result (begun.new ≡ record { prefix = []; length = None; message = [] }) }
-    ensures front { GainsFront (begun.old.message ∷ []) into.old into.new }
+    ensures prefix { GainsFront (begun.old.message ∷ []) into.old into.new }
     ensures memory { IfErr result (λ fault. fault ≡ MessageFault.Memory) }
 {
     begun.prefix = Octets::empty(alloc);

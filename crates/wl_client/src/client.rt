@@ -72,9 +72,9 @@ impl Client {
         }
     }
 
-    /// More of what the server sends, however it is cut. What is heard in it goes behind what `into` holds, and what is
+    /// More of what the server sends, however it is cut. What is heard in it goes after what `into` holds, and what is
     /// to be written for it (acknowledgements of SETTINGS and PING, and for each DATA frame a WINDOW_UPDATE of the
-    /// connection and of the stream) behind what `out` holds. After a fault or out of memory each later call gives that
+    /// connection and of the stream) after what `out` holds. After a fault or out of memory each later call gives that
     /// answer again; what came before the fault is in `into` and `out`, and out of memory a prefix of it.
     pub fn feed(
         &mut self,

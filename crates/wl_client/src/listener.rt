@@ -56,17 +56,17 @@ pub struct Listener {
     pub messages: Assembly,
 }
 
-/// Whether a block has too many bytes with these behind it.
+/// Whether a block has too many bytes with these after it.
 fn is_too_long(block: &OpenBlock, more: &[u8]) -> bool
     ensures { result ≡ nat_lt MAX_HEADER_BLOCK_LEN (length block.now.bytes + length more.now) }
 {
     block.bytes.len() + more.len() > MAX_HEADER_BLOCK_LEN
 }
 
-/// Puts each message behind what was heard.
+/// Puts each message after what was heard.
 fn tell_messages(found: Row<Octets>, into: &mut Row<Heard>) -> Result<(), Memory>
     ensures ok { OnOk result (into.new ≡ into.old ++ map Message found) }
-    ensures front { GainsFront (map Message found) into.old into.new }
+    ensures prefix { GainsFront (map Message found) into.old into.new }
 {
     for message in found.into_vec() {
         into.push(Heard::Message(message))?;
@@ -78,7 +78,7 @@ fn tell_messages(found: Row<Octets>, into: &mut Row<Heard>) -> Result<(), Memory
 #[tactic(auto, unfolding(crate::specs::Hearing::credits))]
 fn put_credits(out: &mut Octets, size: u32) -> Result<(), Memory>
     ensures ok { OnOk result (out.new ≡ out.old ++ credits size) }
-    ensures front { GainsFront (credits size) out.old out.new }
+    ensures prefix { GainsFront (credits size) out.old out.new }
 {
     if size == 0 {
         return Ok(());
@@ -89,7 +89,7 @@ fn put_credits(out: &mut Octets, size: u32) -> Result<(), Memory>
 /// WINDOW_UPDATE of the connection, and of the stream.
 fn put_both(out: &mut Octets, step: u32) -> Result<(), Memory>
     ensures ok { OnOk result (out.new ≡ out.old ++ credits_of step) }
-    ensures front { GainsFront (credits_of step) out.old out.new }
+    ensures prefix { GainsFront (credits_of step) out.old out.new }
 {
     put_credit(out, 0, step)?;
     put_credit(out, CALL_STREAM, step)
@@ -97,7 +97,7 @@ fn put_both(out: &mut Octets, step: u32) -> Result<(), Memory>
 
 fn put_credit(out: &mut Octets, stream: u32, step: u32) -> Result<(), Memory>
     ensures ok { OnOk result (out.new ≡ out.old ++ frame_encoding (record { stream = stream; body = bodies.WindowUpdate step })) }
-    ensures front { GainsFront (frame_encoding (record { stream = stream; body = bodies.WindowUpdate step })) out.old out.new }
+    ensures prefix { GainsFront (frame_encoding (record { stream = stream; body = bodies.WindowUpdate step })) out.old out.new }
 {
     put_frame(
         out,
@@ -113,7 +113,7 @@ fn put_answer(out: &mut Octets, body: Body) -> Result<(), ClientFault>
     requires { length (payload_of body) ≤ MAX_FRAME_SIZE }
     ensures ok { OnOk result (out.new ≡ out.old ++ frame_encoding (record { stream = 0; body = body })) }
     ensures err { IfErr result (λ fault. fault ≡ faults.Memory) }
-    ensures front { GainsFront (frame_encoding (record { stream = 0; body = body })) out.old out.new }
+    ensures prefix { GainsFront (frame_encoding (record { stream = 0; body = body })) out.old out.new }
 {
     put_frame(out, &Frame { stream: 0, body })?;
     Ok(())
@@ -168,7 +168,7 @@ impl Listener {
         into: &mut Row<Heard>,
     ) -> Result<(), ClientFault>
         ensures said { Tells (status_heard (grpc_code headers.now) headers.now self.old) result into.old into.new self.new }
-        ensures front { GainsFront (status_heard (grpc_code headers.now) headers.now self.old).told into.old into.new }
+        ensures prefix { GainsFront (status_heard (grpc_code headers.now) headers.now self.old).told into.old into.new }
     {
         let Some(code) = grpc_code(headers) else {
             return Err(ClientFault::NoStatus);
@@ -188,7 +188,7 @@ impl Listener {
         into: &mut Row<Heard>,
     ) -> Result<(), ClientFault>
         ensures said { Tells (first_heard (http_fault headers.now) ended headers.now self.old) result into.old into.new self.new }
-        ensures front { GainsFront (first_heard (http_fault headers.now) ended headers.now self.old).told into.old into.new }
+        ensures prefix { GainsFront (first_heard (http_fault headers.now) ended headers.now self.old).told into.old into.new }
     {
         if let Some(number) = http_fault(headers) {
             return Err(ClientFault::HttpStatus(number));
@@ -210,7 +210,7 @@ impl Listener {
         into: &mut Row<Heard>,
     ) -> Result<(), ClientFault>
         ensures said { Tells (list_heard self.old.stage ended headers.now self.old) result into.old into.new self.new }
-        ensures front { GainsFront (list_heard self.old.stage ended headers.now self.old).told into.old into.new }
+        ensures prefix { GainsFront (list_heard self.old.stage ended headers.now self.old).told into.old into.new }
     {
         match self.stage {
             Stage::Opening => self.begin(alloc, ended, headers, into),
@@ -235,7 +235,7 @@ impl Listener {
         into: &mut Row<Heard>,
     ) -> Result<(), ClientFault>
         ensures said { Tells (block_heard block whole self.old) result into.old into.new self.new }
-        ensures front { GainsFront (block_heard block whole self.old).told into.old into.new }
+        ensures prefix { GainsFront (block_heard block whole self.old).told into.old into.new }
     {
         if !whole {
             self.block = Some(block);
@@ -255,7 +255,7 @@ impl Listener {
         into: &mut Row<Heard>,
     ) -> Result<(), ClientFault>
         ensures said { Tells (continued self.old.block more.now whole self.old) result into.old into.new self.new }
-        ensures front { GainsFront (continued self.old.block more.now whole self.old).told into.old into.new }
+        ensures prefix { GainsFront (continued self.old.block more.now whole self.old).told into.old into.new }
     {
         match mem::replace(&mut self.block, None) {
             Some(mut block) => {
@@ -286,7 +286,7 @@ impl Listener {
             ending = (reading_from self.old.messages.limit self.old.messages.ending bytes.now).ending;
           };
         }) }
-        ensures front { GainsFront
+        ensures prefix { GainsFront
             (map Message (reading_from self.old.messages.limit self.old.messages.ending bytes.now).messages)
             into.old into.new }
     {
@@ -330,7 +330,7 @@ impl Listener {
     #[tactic(auto, unfolding(crate::specs::Hearing::control_heard))]
     fn take_control(&self, stream: u32, body: Body, out: &mut Octets) -> Result<(), ClientFault>
         ensures said { Writes (control_heard stream body self.now) result out.old out.new self.now }
-        ensures front { GainsFront (control_heard stream body self.now).bytes out.old out.new }
+        ensures prefix { GainsFront (control_heard stream body self.now).bytes out.old out.new }
     {
         match body {
             Body::Reset { code } if stream == CALL_STREAM => Err(ClientFault::Reset(code)),

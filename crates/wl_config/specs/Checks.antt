@@ -11,7 +11,7 @@ abbrev pub no_selector_fault : Place → List ℕ → Option SelectorFault → R
 no_selector_fault p text None = Ok text
 no_selector_fault p text (Some e) = Err (Selector p)
 
--- The fault of a member whose text has this fault. Want of memory has no place.
+-- The fault of a member whose text has this fault. Out of memory has no place.
 abbrev pub selector_fault_at : Place → SelectorFault → ConfigFault
 selector_fault_at p selector.Memory = Memory
 selector_fault_at p selector.NoColon = Selector p
@@ -19,7 +19,7 @@ selector_fault_at p selector.EmptyKind = Selector p
 selector_fault_at p selector.EmptyValue = Selector p
 selector_fault_at p selector.NotUtf8 = Selector p
 
--- This fault is the one that is due. Want of memory is free.
+-- This fault is the one that is due. Out of memory is free.
 abbrev pub Faults : {Y : Type 0} → ConfigFault → Result Y ConfigFault → Type 0
 Faults Memory due = Unit {0}
 Faults NotJson due = due ≡ Err NotJson

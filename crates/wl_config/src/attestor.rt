@@ -1,87 +1,60 @@
-//! An attestor by the socket over which a caller came.
+//! An attestor by where a caller came from.
 
-ghost use Rattle.std.specs.Prelude.{◌≡◌, [], map, IfOk, IfErr};
+ghost use Rattle.std.specs.Prelude.{◌≡◌, ◌++◌, ◌∷◌, [], None, IfOk, IfErr};
+ghost use Rattle.wl_selector.specs.Selectors.{sorted_texts};
 ghost use Rattle.wl_edge.specs.Calls.{Answers};
+ghost use Rattle.wl_edge.specs.declared.fault.EdgeFault.{EdgeFault};
+ghost use Rattle.wl_config.specs.Attested.{uid_selector, attested_to};
 
-use crate::config::Config;
+use crate::selectors::uid_selector;
 use std::alloc::Global;
-use std::marker::Model;
-use wl_edge::{Attestor, EdgeFault};
-use wl_octets::{Memory, Row};
-use wl_selector::{Selectors, SelectorsFault};
+use wl_edge::{Attestor, EdgeFault, Origin};
+use wl_octets::{Memory, clone_all};
+use wl_selector::Selectors;
 
-/// An attestor that gives each caller the selectors which the configuration names for its socket. Contracts see it as
-/// the list of these, by the sockets' numbers. It cannot fail, and tells no calls.
+/// An attestor that gives each caller the selectors of the socket over which it came, and that of its uid, where the kernel
+/// names it. It cannot fail, and tells no calls.
 #[derive(Drop)]
 pub struct SocketAttestor {
     alloc: Global,
-    sockets: Row<Selectors>,
-}
-
-impl Model for SocketAttestor {
-    ghost use Rattle.std.specs.Prelude.{List, ℕ};
-
-    ghost Value = { List (List (List ℕ)) };
-
-    ghost view = { λ a. a.sockets };
-}
-
-/// The empty set.
-fn no_selectors(alloc: Global) -> Result<Selectors, Memory>
-    ensures { IfOk result (λ s. s ≡ []) }
-{
-    match Selectors::from_list(alloc, Vec::new(alloc), 0) {
-        Ok(none) => Ok(none),
-        Err(SelectorsFault::TooMany(_)) => unreachable!(),
-        Err(SelectorsFault::Memory) => Err(Memory),
-    }
 }
 
 impl SocketAttestor {
-    ghost use Rattle.wl_config.specs.Attested.{selectors_at};
-
-    /// An attestor by the sockets of this configuration.
-    pub fn start(alloc: Global, config: &Config) -> Result<SocketAttestor, Memory>
-        ensures { IfOk result (λ a. a ≡ map (λ s. s.selectors) config.now.sockets) }
-    {
-        let mut sockets = Vec::new(alloc);
-        for socket in config.sockets.as_slice() {
-            sockets.push(socket.selectors.copy(alloc)?)?;
-        }
-        Ok(SocketAttestor {
-            alloc,
-            sockets: Row::from_vec(sockets),
-        })
+    /// An attestor.
+    pub fn start(alloc: Global) -> SocketAttestor {
+        SocketAttestor { alloc }
     }
+}
 
-    /// The selectors of the socket of this number, from 0; none where there is no such socket.
-    pub fn selectors(&self, socket: u32) -> Result<Selectors, Memory>
-        ensures { IfOk result (λ s. s ≡ selectors_at self.now socket) }
-    {
-        match self.sockets.get(socket as usize) {
-            Some(selectors) => selectors.copy(self.alloc),
-            None => no_selectors(self.alloc),
-        }
+/// These selectors and that of the uid. More than 2^32-1 of them are out of memory.
+fn with_uid(alloc: Global, selectors: &Selectors, uid: u32) -> Result<Selectors, Memory>
+    ensures { IfOk result (λ s. s ≡ sorted_texts (selectors.now ++ uid_selector uid ∷ [])) }
+{
+    let mut items = clone_all(alloc, selectors.as_slice())?.into_vec();
+    items.push(uid_selector(alloc, uid)?)?;
+    match Selectors::from_list(alloc, items, u32::MAX) {
+        Ok(selectors) => Ok(selectors),
+        Err(_) => Err(Memory),
     }
 }
 
 impl Attestor for SocketAttestor {
-    ghost use Rattle.wl_config.specs.Attested.{selectors_at};
-    ghost use Rattle.wl_edge.specs.declared.fault.EdgeFault.{EdgeFault};
-    ghost use Rattle.std.specs.Prelude.{None};
-
     ghost calls = { λ a. None };
 
     ghost faults = { λ a. 0 };
 
-    fn attest(&mut self, socket: u32) -> Result<Selectors, EdgeFault>
+    fn attest(&mut self, origin: &Origin) -> Result<Selectors, EdgeFault>
         ensures told { Answers (⟦<SocketAttestor as Attestor>⟧.calls self.old) (⟦<SocketAttestor as Attestor>⟧.calls self.new)
             (⟦<SocketAttestor as Attestor>⟧.faults self.old) (⟦<SocketAttestor as Attestor>⟧.faults self.new)
-            (λ answer. record { socket = socket; answer = answer }) result }
-        ensures answer { IfOk result (λ s. s ≡ selectors_at self.old socket) }
+            (λ answer. record { origin = origin.now; answer = answer }) result }
+        ensures answer { IfOk result (λ s. s ≡ attested_to origin.now) }
         ensures memory { IfErr result (λ e. e ≡ EdgeFault.Memory) }
         ensures same { self.new ≡ self.old }
     {
-        Ok(self.selectors(socket)?)
+        let selectors = origin.selectors.part();
+        match origin.uid {
+            Some(uid) => Ok(with_uid(self.alloc, selectors, uid)?),
+            None => Ok(selectors.copy(self.alloc)?),
+        }
     }
 }

@@ -83,11 +83,11 @@ fn own_file(
     path: Octets,
     value: &Value,
 ) -> Result<Vec<SocketFile>, ConfigFault>
-    requires few { count ≤ MAX_SOCKETS }
+    requires at_most { count ≤ MAX_SOCKETS }
     requires some { 0 < length path }
     ensures value { Gives (λ v. v.items) result (own_file_of index count path (view value.now)) }
     ensures some { IfOk result (λ v. 0 < length v.items) }
-    ensures few { IfOk result (λ v. count + length v.items ≤ MAX_SOCKETS) }
+    ensures at_most { IfOk result (λ v. count + length v.items ≤ MAX_SOCKETS) }
     ensures paths { IfOk result (λ v. AllByRecursion HasPath v.items) }
 {
     absent(socket_place(index, 7), "uids", value)?;
@@ -140,11 +140,11 @@ fn uid_files(
     at: usize,
     value: &Value,
 ) -> Result<Vec<SocketFile>, ConfigFault>
-    requires few { count ≤ MAX_SOCKETS }
+    requires at_most { count ≤ MAX_SOCKETS }
     requires at { at + 5 ≤ length path.now }
     ensures value { Gives (λ v. v.items) result (uid_files_of index count path.now at (view value.now)) }
     ensures some { IfOk result (λ v. 0 < length v.items) }
-    ensures few { IfOk result (λ v. count + length v.items ≤ MAX_SOCKETS) }
+    ensures at_most { IfOk result (λ v. count + length v.items ≤ MAX_SOCKETS) }
     ensures paths { IfOk result (λ v. AllByRecursion HasPath v.items) }
 {
     no_guard(index, value)?;
@@ -160,11 +160,11 @@ fn files_for(
     path: Octets,
     value: &Value,
 ) -> Result<Vec<SocketFile>, ConfigFault>
-    requires few { count ≤ MAX_SOCKETS }
+    requires at_most { count ≤ MAX_SOCKETS }
     requires some { 0 < length path }
     ensures value { Gives (λ v. v.items) result (paths_for index count path (marks_of path) (view value.now)) }
     ensures some { IfOk result (λ v. 0 < length v.items) }
-    ensures few { IfOk result (λ v. count + length v.items ≤ MAX_SOCKETS) }
+    ensures at_most { IfOk result (λ v. count + length v.items ≤ MAX_SOCKETS) }
     ensures paths { IfOk result (λ v. AllByRecursion HasPath v.items) }
 {
     let marks = marks(alloc, path.as_slice())?;
@@ -227,10 +227,10 @@ pub(crate) fn files(
     before: &[SocketFact],
     value: &Value,
 ) -> Result<Vec<SocketFile>, ConfigFault>
-    requires few { length before.now ≤ MAX_SOCKETS }
+    requires at_most { length before.now ≤ MAX_SOCKETS }
     ensures value { Gives (λ v. v.items) result (files_of index before.now (view value.now)) }
     ensures some { IfOk result (λ v. 0 < length v.items) }
-    ensures few { IfOk result (λ v. length before.now + length v.items ≤ MAX_SOCKETS) }
+    ensures at_most { IfOk result (λ v. length before.now + length v.items ≤ MAX_SOCKETS) }
     ensures paths { IfOk result (λ v. AllByRecursion HasPath v.items) }
     ensures fresh { IfOk result (λ v. are_new before.now v.items ≡ true) }
 {

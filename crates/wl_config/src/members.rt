@@ -17,7 +17,7 @@ use wl_octets::Octets;
 fn number_within(limit: u32, place: Place, value: &Value) -> Result<u32, ConfigFault>
     ensures value { Gives (λ n. n) result (number_within limit place (view value.now)) }
     ensures some { IfOk result (λ n. 0 < n) }
-    ensures few { IfOk result (λ n. n ≤ limit) }
+    ensures at_most { IfOk result (λ n. n ≤ limit) }
 {
     let number = number_at(ConfigFault::Kind(place), value)?;
     if number == 0 || number > u64::from(limit) {
@@ -36,10 +36,10 @@ pub(crate) fn number_or(
     value: &Value,
 ) -> Result<u32, ConfigFault>
     requires some { 0 < default }
-    requires few { default ≤ limit }
+    requires at_most { default ≤ limit }
     ensures value { Gives (λ n. n) result (number_or default limit place name.now (view value.now)) }
     ensures some { IfOk result (λ n. 0 < n) }
-    ensures few { IfOk result (λ n. n ≤ limit) }
+    ensures at_most { IfOk result (λ n. n ≤ limit) }
 {
     match value.get(name) {
         Some(member) => number_within(limit, place, member),
@@ -83,7 +83,7 @@ pub(crate) fn path_of(
 pub(crate) fn list_at(limit: usize, place: Place, value: &Value) -> Result<&[Value], ConfigFault>
     ensures value { Gives (λ v. map view v.now) result (list_at limit place (view value.now)) }
     ensures some { IfOk result (λ v. 0 < length v.now) }
-    ensures few { IfOk result (λ v. length v.now ≤ limit) }
+    ensures at_most { IfOk result (λ v. length v.now ≤ limit) }
 {
     let items = array_at(ConfigFault::Kind(place), value)?;
     if items.is_empty() {
@@ -105,7 +105,7 @@ pub(crate) fn list_of<'a>(
 ) -> Result<&'a [Value], ConfigFault>
     ensures value { Gives (λ v. map view v.now) result (list_of limit place name.now (view value.now)) }
     ensures some { IfOk result (λ v. 0 < length v.now) }
-    ensures few { IfOk result (λ v. length v.now ≤ limit) }
+    ensures at_most { IfOk result (λ v. length v.now ≤ limit) }
 {
     list_at(
         limit,

@@ -55,7 +55,7 @@ fn value(alloc: Global, bytes: &[u8]) -> Result<Value, ConfigFault>
 fn config_sockets(alloc: Global, value: &Value) -> Result<Vec<SocketFact>, ConfigFault>
     ensures value { Gives (λ v. v.items) result (config_sockets_of (view value.now)) }
     ensures some { IfOk result (λ v. 0 < length v.items) }
-    ensures few { IfOk result (λ v. length v.items ≤ MAX_SOCKETS) }
+    ensures at_most { IfOk result (λ v. length v.items ≤ MAX_SOCKETS) }
     ensures within { IfOk result (λ v. SocketsWithin v.items) }
 {
     sockets(alloc, list_of(MAX_SOCKETS, top_place(5), "sockets", value)?)
@@ -113,7 +113,7 @@ fn first_members(alloc: Global, value: &Value) -> Result<Suppliers, ConfigFault>
 fn poll_seconds(value: &Value) -> Result<u32, ConfigFault>
     ensures value { Gives (λ n. n) result (poll_seconds_of (view value.now)) }
     ensures some { IfOk result (λ n. 0 < n) }
-    ensures few { IfOk result (λ n. n ≤ MAX_POLL_SECONDS) }
+    ensures at_most { IfOk result (λ n. n ≤ MAX_POLL_SECONDS) }
 {
     number_or(
         DEFAULT_POLL_SECONDS,
@@ -129,7 +129,7 @@ fn poll_seconds(value: &Value) -> Result<u32, ConfigFault>
 fn signers(value: &Value) -> Result<u32, ConfigFault>
     ensures value { Gives (λ n. n) result (signers_of (view value.now)) }
     ensures some { IfOk result (λ n. 0 < n) }
-    ensures few { IfOk result (λ n. n ≤ MAX_SIGNERS) }
+    ensures at_most { IfOk result (λ n. n ≤ MAX_SIGNERS) }
 {
     number_or(DEFAULT_SIGNERS, MAX_SIGNERS, top_place(6), "signers", value)
 }

@@ -71,7 +71,7 @@ pub(crate) fn texts(
     value: &Value,
 ) -> Result<Vec<Selector>, ConfigFault>
     ensures value { Gives (λ v. v.items) result (texts_of needed place (view value.now)) }
-    ensures few { IfOk result (λ v. length v.items ≤ MAX_SOCKET_SELECTORS) }
+    ensures at_most { IfOk result (λ v. length v.items ≤ MAX_SOCKET_SELECTORS) }
 {
     if needed {
         let values = list_of(MAX_SOCKET_SELECTORS, place, "selectors", value)?;
@@ -105,7 +105,7 @@ fn only_memory(fault: SelectorFault) -> Memory
 }
 
 /// The selector of a uid.
-fn uid_selector(alloc: Global, uid: u32) -> Result<Selector, Memory>
+pub(crate) fn uid_selector(alloc: Global, uid: u32) -> Result<Selector, Memory>
     ensures { IfOk result (λ s. s ≡ codes "unix:uid:" ++ decimal uid) }
 {
     let text = uid_text(alloc, uid)?;
@@ -123,7 +123,7 @@ pub(crate) fn selectors_with(
 ) -> Result<Selectors, Memory>
     requires { length texts.now ≤ MAX_SOCKET_SELECTORS }
     ensures value { IfOk result (λ s. s ≡ sorted_texts (texts.now ++ own_selectors uid)) }
-    ensures few { IfOk result (λ s. length s ≤ MAX_SOCKET_SELECTORS + 1) }
+    ensures at_most { IfOk result (λ s. length s ≤ MAX_SOCKET_SELECTORS + 1) }
 {
     let mut items = clone_all(alloc, texts)?.into_vec();
     if let Some(uid) = uid {

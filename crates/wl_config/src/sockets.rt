@@ -34,7 +34,7 @@ fn served(
     requires many { many ≤ MAX_SOCKETS }
     ensures value { Gives (λ n. n) result (served_of place name.now taken many (view value.now)) }
     ensures some { IfOk result (λ n. 0 < n) }
-    ensures few { IfOk result (λ n. n ≤ MAX_CONNECTIONS) }
+    ensures at_most { IfOk result (λ n. n ≤ MAX_CONNECTIONS) }
     ensures room { IfOk result (λ n. taken + many * n ≤ MAX_ALL_CONNECTIONS) }
 {
     let connections = number_or(DEFAULT_CONNECTIONS, MAX_CONNECTIONS, place, name, value)?;
@@ -60,7 +60,7 @@ fn connections(index: u32, taken: u32, many: u32, value: &Value) -> Result<u32, 
     requires many { many ≤ MAX_SOCKETS }
     ensures value { Gives (λ n. n) result (connections_of index taken many (view value.now)) }
     ensures some { IfOk result (λ n. 0 < n) }
-    ensures few { IfOk result (λ n. n ≤ MAX_CONNECTIONS) }
+    ensures at_most { IfOk result (λ n. n ≤ MAX_CONNECTIONS) }
     ensures room { IfOk result (λ n. taken + many * n ≤ MAX_ALL_CONNECTIONS) }
 {
     if says_workers(value) {
@@ -79,7 +79,7 @@ fn fact(
 ) -> Result<SocketFact, wl_octets::Memory>
     requires texts { length texts.now ≤ MAX_SOCKET_SELECTORS }
     requires some { 0 < connections }
-    requires few { connections ≤ MAX_CONNECTIONS }
+    requires at_most { connections ≤ MAX_CONNECTIONS }
     requires path { HasPath file.now }
     ensures value { IfOk result (λ s. s ≡ fact_of connections texts.now file.now) }
     ensures within { IfOk result SocketWithin }
@@ -101,7 +101,7 @@ fn facts(
 ) -> Result<Vec<SocketFact>, ConfigFault>
     requires texts { length texts.now ≤ MAX_SOCKET_SELECTORS }
     requires some { 0 < connections }
-    requires few { connections ≤ MAX_CONNECTIONS }
+    requires at_most { connections ≤ MAX_CONNECTIONS }
     requires paths { AllByRecursion HasPath files.now }
     ensures value { IfOk result (λ v. v.items ≡ map (fact_of connections texts.now) files.now) }
     ensures within { IfOk result (λ v. AllByRecursion SocketWithin v.items) }
@@ -144,7 +144,7 @@ fn socket(
     ensures within { IfOk result (λ a. SocketsWithin (before.now ++ a.sockets.items)) }
     ensures taken { IfOk result (λ a. a.taken ≡ rooms (before.now ++ a.sockets.items)) }
     ensures some { IfOk result (λ a. 0 < length a.sockets.items) }
-    ensures few { IfOk result (λ a. length (before.now ++ a.sockets.items) ≤ MAX_SOCKETS) }
+    ensures at_most { IfOk result (λ a. length (before.now ++ a.sockets.items) ≤ MAX_SOCKETS) }
 {
     let files = files(alloc, index, before, value)?;
     let many = files.len() as u32;
@@ -169,7 +169,7 @@ pub(crate) fn sockets(alloc: Global, values: &[Value]) -> Result<Vec<SocketFact>
     ensures value { Gives (λ v. v.items) result (sockets_of (map view values.now)) }
     ensures within { IfOk result (λ v. SocketsWithin v.items) }
     ensures some { IfOk result (λ v. 0 < length values.now → 0 < length v.items) }
-    ensures few { IfOk result (λ v. length v.items ≤ MAX_SOCKETS) }
+    ensures at_most { IfOk result (λ v. length v.items ≤ MAX_SOCKETS) }
 {
     let mut done = Vec::new(alloc);
     let mut index: u32 = 0;

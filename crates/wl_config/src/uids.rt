@@ -29,7 +29,7 @@ pub(crate) struct UidRange {
 /// The uid that these digits say.
 fn uid(digits: &[u8]) -> Option<u32>
     ensures value { result ≡ decimals.number_up_to MAX_ID digits.now }
-    ensures few { IfSome result (λ n. n ≤ MAX_ID) }
+    ensures at_most { IfSome result (λ n. n ≤ MAX_ID) }
 {
     match number_up_to(u64::from(MAX_ID), digits) {
         Some(number) => Some(number as u32),
@@ -39,7 +39,7 @@ fn uid(digits: &[u8]) -> Option<u32>
 
 /// The uids from the first to the last, where they are that way round.
 fn range_between(first: Option<u32>, last: Option<u32>) -> Option<UidRange>
-    requires few { IfSome last (λ n. n ≤ MAX_ID) }
+    requires at_most { IfSome last (λ n. n ≤ MAX_ID) }
     ensures value { result ≡ range_between first last }
     ensures some { IfSome result IsRange }
 {
@@ -106,7 +106,7 @@ fn ranges(alloc: Global, place: Place, values: &[Value]) -> Result<Vec<UidRange>
 fn count_of(ranges: &[UidRange]) -> usize
     requires { length ranges.now ≤ MAX_SOCKETS }
     ensures value { result ≡ length (flat_map numbers_of ranges.now) }
-    ensures few { result < 2 ^ 63 }
+    ensures at_most { result < 2 ^ 63 }
 {
     let mut count: usize = 0;
     for range in ranges {
@@ -118,10 +118,10 @@ fn count_of(ranges: &[UidRange]) -> usize
 /// Sees to it that there is room for so many sockets more, beside those that there are.
 #[tactic(auto, unfolding(crate::specs::Uids::room_for))]
 pub(crate) fn room_for(place: Place, count: usize, more: usize) -> Result<(), ConfigFault>
-    requires few { count ≤ MAX_SOCKETS }
+    requires at_most { count ≤ MAX_SOCKETS }
     requires fits { more < 2 ^ 63 }
     ensures value { Gives (λ x. x) result (room_for place count more) }
-    ensures few { OnOk result (count + more ≤ MAX_SOCKETS) }
+    ensures at_most { OnOk result (count + more ≤ MAX_SOCKETS) }
 {
     let all = count + more;
     if all > MAX_SOCKETS {
@@ -164,7 +164,7 @@ pub(crate) fn uids(
     requires { count ≤ MAX_SOCKETS }
     ensures value { Gives (λ v. v.items) result (uids_of index count (view value.now)) }
     ensures some { IfOk result (λ v. 0 < length v.items) }
-    ensures few { IfOk result (λ v. count + length v.items ≤ MAX_SOCKETS) }
+    ensures at_most { IfOk result (λ v. count + length v.items ≤ MAX_SOCKETS) }
 {
     let place = socket_place(index, 7);
     let ranges = ranges(alloc, place, list_of(MAX_SOCKETS, place, "uids", value)?)?;

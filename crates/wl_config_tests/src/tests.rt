@@ -1,9 +1,10 @@
 //! What a configuration says.
 
+use std::alloc::Global;
 use std::process::Abort;
 use std::test::Fail;
 use wl_config::*;
-use wl_edge::Attestor;
+use wl_edge::{Attestor, Origin};
 
 const EXAMPLE: &str =
     r#"{"version":1,"upstream":"/run/authority.sock","signer":"/run/signer.sock","poll_seconds":5,"signers":7,"log":"debug","metrics":"/m","sockets":[{"path":"/run/web.sock","owner":1000,"group":33,"mode":"0660","workers":4,"selectors":["unix:uid:1000"]}]}"#;
@@ -73,8 +74,9 @@ fn config_calls(rt: HostRuntime) -> Result<(), Fail> {
     is_socket(&rt, web, "/run/web.sock", open, 4, &["unix:uid:1000"]);
     assert!(rt; (config.signers, config.log) == (7, LogLevel::Debug));
     assert!(rt; config.metrics.as_ref().map(|path| path.as_slice()) == Some(b"/m".as_slice()));
-    let mut attestor = SocketAttestor::start(rt.alloc(), &config)?;
-    let selectors = attestor.attest(0)?;
+    let mut attestor = SocketAttestor::start(rt.alloc());
+    let origin = Origin::new(rt.alloc(), web.selectors.copy(rt.alloc())?, 0, None)?;
+    let selectors = attestor.attest(&origin)?;
     assert!(rt; selectors == web.selectors);
     Ok(())
 }
@@ -144,19 +146,40 @@ fn modes(rt: HostRuntime) -> Result<(), Fail> {
     Ok(())
 }
 
+/// What a caller of this uid is attested to over this socket, as texts with a space between them.
+fn attested(
+    alloc: Global,
+    number: u32,
+    socket: &SocketFact,
+    uid: Option<u32>,
+) -> Result<String, Fail> {
+    let origin = Origin::new(alloc, socket.selectors.copy(alloc)?, number, uid)?;
+    let selectors = SocketAttestor::start(alloc).attest(&origin)?;
+    let mut text = String::new(alloc);
+    for selector in selectors.as_slice() {
+        text.push_str(str::from_utf8(selector.as_bytes()).map_err(|_| "text")?)?;
+        text.push(' ')?;
+    }
+    Ok(text)
+}
+
+/// By the socket, and by the uid where the kernel names it. A selector that both give counts once.
 #[test]
-fn attested_by_socket(rt: HostRuntime) -> Result<(), Fail> {
+fn attested_by_origin(rt: HostRuntime) -> Result<(), Fail> {
     let alloc = rt.alloc();
     let text =
-        r#"{"version":1,"upstream":"u","signer":"s","sockets":[{"path":"a","selectors":["a:1"]},{"path":"b","selectors":["b:2","b:1"]}]}"#;
-    let mut attestor = SocketAttestor::start(alloc, &read_config(alloc, text.as_bytes())?)?;
-    let wanted: [&[&[u8]]; 3] = [&[b"a:1"], &[b"b:1", b"b:2"], &[]];
-    for (number, texts) in wanted.iter().enumerate() {
-        let selectors = attestor.attest(number as u32)?;
-        assert_eq!(rt; selectors.as_slice().len(), texts.len());
-        for (selector, text) in selectors.as_slice().iter().zip(texts.iter()) {
-            assert_eq!(rt; selector.as_bytes(), *text);
-        }
+        r#"{"version":1,"upstream":"u","signer":"s","sockets":[{"path":"a","selectors":["x:1"]},{"path":"b","selectors":["b:2","unix:uid:33"]}]}"#;
+    let config = read_config(alloc, text.as_bytes())?;
+    let [first, second] = config.sockets.as_slice() else {
+        return Err("two sockets".into());
+    };
+    for (number, socket, uid, wanted) in [
+        (0, first, None, "x:1 "),
+        (0, first, Some(33), "unix:uid:33 x:1 "),
+        (1, second, Some(0), "b:2 unix:uid:0 unix:uid:33 "),
+        (1, second, Some(33), "b:2 unix:uid:33 "),
+    ] {
+        assert_eq!(rt; attested(alloc, number, socket, uid)?.as_str(), wanted);
     }
     Ok(())
 }

@@ -1,5 +1,5 @@
 pub mod Courses
-pub mod Fitting
+pub mod RequestWords
 pub mod Ids
 pub mod Messages
 pub mod Passages

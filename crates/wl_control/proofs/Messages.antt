@@ -8,7 +8,7 @@ use Rattle.pb_wire.specs.Varint.{varint}
 use Rattle.pb_wire.proofs.Varints.{varint-small, varint-more}
 use Rattle.wl_control.specs.declared.request.TokenAsk.{TokenAsk}
 use Rattle.wl_control.specs.declared.request.Request.{Request}
-use Rattle.wl_control.specs.declared.request.Request.TheVariants.{FetchX509, FetchBundles, FetchJwt, FetchJwtBundles, Watch, Keep, Health, HealthWatch}
+use Rattle.wl_control.specs.declared.request.Request.TheVariants.{FetchX509, FetchBundles, FetchJwt, FetchJwtBundles, Watch, Keep, KeepBundles, Health, HealthWatch}
 use Rattle.wl_control.specs.Words.{is_audience, IsFit}
 use Rattle.wl_control.specs.Calls.{id_field, token_message, message_of}
 
@@ -62,5 +62,6 @@ message_short (FetchJwtBundles form) fit = omega arith
 message_short (FetchJwt ask) fit = token_most ask fit
 message_short (Watch count) fit = omega arith
 message_short (Keep count) fit = omega arith
+message_short (KeepBundles kind) fit = omega arith
 message_short (Health service) fit = omega (arith, service_most service fit)
 message_short (HealthWatch count) fit = omega arith

@@ -82,7 +82,7 @@ sent_whole old new whole rest none s =
     let same : s.part ≡ whole = sym (s.split ∙ ap (λ xs. s.part ++ xs) none ∙ append-nil s.part) in
     subst (λ (xs : List ℕ). LinkGains old new [] xs) same s.gained
 
--- a sending failed behind a part
+-- a sending failed after a part
 pub sending_fails : (old mid new : Option LinkLog) (a b c : ℕ) (whole rest : List ℕ) → Sending old mid whole rest → a ≤ b → b ≤ c → Rose b c → new ≡ mid → SendsAll old new a c whole false
 sending_fails old mid new a b c whole rest s first last rose same =
     (rose_wide a b c c first (omega arith) rose, omega arith, (s.part, (rest, s.split), subst (λ (m : Option LinkLog). LinkGains old m [] s.part) (sym same) s.gained))

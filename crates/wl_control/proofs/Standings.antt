@@ -135,7 +135,7 @@ after_silent answers a none = ap (λ b. (heard b).after) (bytes_same answers a n
 
 -- ---- what goes out
 
--- a prefix of what is due behind what went out is one of all that is due
+-- a prefix of what is due after what went out is one of all that is due
 begins_more : (whole first due part tail : List ℕ) → whole ≡ first ++ (due ++ tail) → BeginsWith due part → BeginsWith whole (first ++ part)
 begins_more whole first due part tail is b =
     (b.0 ++ tail, is ∙ (ap (λ xs. first ++ (xs ++ tail)) b.1 ∙ (ap (λ xs. first ++ xs) (append_assoc part b.0 tail) ∙ sym (append_assoc first part (b.0 ++ tail)))))

@@ -5,15 +5,16 @@ use Rattle.pb_wire.specs.Spelling.{field, optional_field}
 use Rattle.workload_proto.specs.declared.field_number.TheConstants.{JWT_REQUEST_AUDIENCE, JWT_REQUEST_SPIFFE_ID}
 use Rattle.grpc_wire.specs.declared.method.Method.{Method}
 use Rattle.grpc_wire.specs.declared.method.Method.TheVariants as methods
+use Rattle.bundle_files.specs.declared.kind.BundleKind.TheVariants as bundle_kinds
 use Rattle.wl_control.specs.declared.asked.Asked.{Asked}
 use Rattle.wl_control.specs.declared.asked.Kind.{Kind}
-use Rattle.wl_control.specs.declared.asked.Kind.TheVariants.{X509, X509Frame, Bundles, Jwt, DecodedJwt, JwtBundles, State}
+use Rattle.wl_control.specs.declared.asked.Kind.TheVariants.{X509, X509Frame, BundlesFrame, Bundles, Jwt, DecodedJwt, JwtBundles, State}
 use Rattle.wl_control.specs.declared.call.TheConstants.{HEALTH_REQUEST_SERVICE}
 use Rattle.wl_control.specs.declared.request.Form.TheVariants.{Lines}
 use Rattle.wl_control.specs.declared.request.TokenForm.{TokenForm}
 use Rattle.wl_control.specs.declared.request.TokenAsk.{TokenAsk}
 use Rattle.wl_control.specs.declared.request.Request.{Request}
-use Rattle.wl_control.specs.declared.request.Request.TheVariants.{FetchX509, FetchBundles, FetchJwt, FetchJwtBundles, Watch, Keep, Health, HealthWatch}
+use Rattle.wl_control.specs.declared.request.Request.TheVariants.{FetchX509, FetchBundles, FetchJwt, FetchJwtBundles, Watch, Keep, KeepBundles, Health, HealthWatch}
 
 abbrev pub method_of : Request → Method
 method_of (FetchX509 form) = methods.X509Svid
@@ -22,10 +23,12 @@ method_of (FetchJwt ask) = methods.JwtSvid
 method_of (FetchJwtBundles form) = methods.JwtBundles
 method_of (Watch count) = methods.X509Svid
 method_of (Keep count) = methods.X509Svid
+method_of (KeepBundles bundle_kinds.X509) = methods.X509Bundles
+method_of (KeepBundles bundle_kinds.Jwt) = methods.JwtBundles
 method_of (Health service) = methods.HealthCheck
 method_of (HealthWatch count) = methods.HealthWatch
 
--- how many messages, and whether the status 0 is awaited behind them: the streams of Workload API and of Watch have no end
+-- how many messages, and whether the status 0 is awaited after them: the streams of Workload API and of Watch have no end
 abbrev pub stream_of : Kind → ℕ → Asked
 stream_of kind count = record { kind = kind; left = count; awaits = false }
 
@@ -42,6 +45,7 @@ asked_of (FetchJwt ask) = answer_of (jwt_kind ask.is_decoded ask.form)
 asked_of (FetchJwtBundles form) = stream_of (JwtBundles form) 1
 asked_of (Watch count) = stream_of (X509 Lines) count
 asked_of (Keep count) = stream_of X509Frame count
+asked_of (KeepBundles kind) = stream_of (BundlesFrame kind) 1
 asked_of (Health service) = answer_of State
 asked_of (HealthWatch count) = stream_of State count
 
@@ -61,5 +65,6 @@ message_of (FetchJwtBundles form) = []
 message_of (FetchJwt ask) = token_message ask
 message_of (Watch count) = []
 message_of (Keep count) = []
+message_of (KeepBundles kind) = []
 message_of (Health service) = optional_field HEALTH_REQUEST_SERVICE service
 message_of (HealthWatch count) = []

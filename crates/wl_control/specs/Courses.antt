@@ -20,7 +20,7 @@ asks a = record { lines = []; after = Ok a }
 abbrev pub decides : Verdict → Course
 decides v = record { lines = []; after = Err v }
 
--- one message less is asked for; with the last all was had, but for a status that is awaited
+-- one message less is asked for; with the last all was had, except a status that is awaited
 abbrev pub one_less : Asked → Result Asked Verdict
 one_less a = if (a.left == 1) && not a.awaits then Err Done else Ok (record a { left = a.left - 1 })
 

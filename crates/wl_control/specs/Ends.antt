@@ -13,7 +13,7 @@ use Rattle.wl_control.specs.Runs.{course_by, verdict_line, verdict_of, text_of, 
 
 -- ---- what goes on outside
 
--- What the link gave and took and what the sink took, each where it is told, and how often each had failed.
+-- What the link gave and took and what the sink took, each where it is recorded, and how often each had failed.
 pub record Moment : Type 0 where
   pub link : Option LinkLog
   pub sink : Option (List ℕ)
@@ -115,7 +115,7 @@ abbrev pub EndsWith : Request → Moment → Moment → Result ℕ Memory → Ty
 EndsWith q old new (Ok status) = Ends q old new status
 EndsWith q old new (Err memory) = BreaksOff q old new
 
--- all was sent, or a sending failed behind a prefix
+-- all was sent, or a sending failed after a prefix
 abbrev pub SendsAll : Option LinkLog → Option LinkLog → ℕ → ℕ → List ℕ → Bool → Type 0
 SendsAll old new before now bytes true = LinkGains old new [] bytes × (before ≤ now)
 SendsAll old new before now bytes false = Rose before now × (before ≤ now) × ((part : List ℕ) × BeginsWith bytes part × LinkGains old new [] part)

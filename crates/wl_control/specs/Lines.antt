@@ -18,13 +18,16 @@ use Rattle.wl_client.specs.Messages.{x509_of, bundles_of, jwt_of, jwt_bundles_of
 use Rattle.workload_proto.specs.declared.field_number.TheConstants.{X509_SVID_CHAIN, MAP_ITEM_VALUE}
 use Rattle.grpc_wire.specs.Messages.{framed}
 use Rattle.svid_files.specs.Files.{has_files}
+use Rattle.bundle_files.specs.declared.kind.BundleKind.{BundleKind}
+use Rattle.bundle_files.specs.declared.kind.BundleKind.TheVariants as bundle_kinds
+use Rattle.bundle_files.specs.Files.{have_files}
 use Rattle.jws_text.specs.declared.said.Said.{Said}
 use Rattle.jws_text.specs.Tokens.{said_in}
 use Rattle.svid_forms.specs.Decoded.{decoded_json}
 use Rattle.svid_forms.specs.Blocks.{svid_blocks, bundle_blocks, is_svid_whole, is_bundle_whole}
 use Rattle.svid_forms.specs.Json.{x509_json, bundles_json, jwt_json, jwt_bundles_json}
 use Rattle.wl_control.specs.declared.asked.Kind.{Kind}
-use Rattle.wl_control.specs.declared.asked.Kind.TheVariants.{X509, X509Frame, Bundles, Jwt, DecodedJwt, JwtBundles, State}
+use Rattle.wl_control.specs.declared.asked.Kind.TheVariants.{X509, X509Frame, BundlesFrame, Bundles, Jwt, DecodedJwt, JwtBundles, State}
 use Rattle.wl_control.specs.declared.request.Form.TheVariants.{Lines, Pem, Json}
 use Rattle.wl_control.specs.declared.request.TokenForm.TheVariants as token
 use Rattle.wl_control.specs.Escapes.{hex, escaped}
@@ -56,7 +59,7 @@ said_part (Some s) = said_parts s.head s.claims
 unfoldable pub decoded_line : JwtItem → List ℕ
 decoded_line s = jwt_start s ++ said_part (said_in s.svid) ++ codes " signature=unverified" ++ line_end
 
--- grpc.health.v1: 1 is SERVING, 2 NOT_SERVING; own rule: any other is told as unknown
+-- grpc.health.v1: 1 is SERVING, 2 NOT_SERVING; own rule: any other is reported as unknown
 unfoldable pub state_line : ℕ → List ℕ
 state_line state = if state == 1 then codes "serving\n" else if state == 2 then codes "not serving\n" else codes "service unknown\n"
 
@@ -102,6 +105,10 @@ svids_pem m = flat_map svid_blocks m.svids
 abbrev pub may_be_kept : List ℕ → X509Response → Bool
 may_be_kept message m = has_files m && nat_lt (length message) 4294967296
 
+-- the same of a message with these bundles
+abbrev pub may_bundles_be_kept : BundleKind → List ℕ → List MapItem → Bool
+may_bundles_be_kept kind message items = have_files kind items && nat_lt (length message) 4294967296
+
 abbrev pub bundles_are_whole : BundlesResponse → Bool
 bundles_are_whole m = list_all is_bundle_whole m.bundles
 
@@ -112,6 +119,8 @@ unfoldable pub lines_of : Kind → List ℕ → Result (List ℕ) FieldFault
 lines_of (X509 Lines) message = lines_by svid_lines (x509_of message)
 lines_of (X509 Pem) message = whole_by X509_SVID_CHAIN svids_are_whole svids_pem (x509_of message)
 lines_of X509Frame message = whole_by X509_SVID_CHAIN (may_be_kept message) (λ m. framed message) (x509_of message)
+lines_of (BundlesFrame bundle_kinds.X509) message = whole_by MAP_ITEM_VALUE (λ m. may_bundles_be_kept bundle_kinds.X509 message m.bundles) (λ m. framed message) (bundles_of message)
+lines_of (BundlesFrame bundle_kinds.Jwt) message = whole_by MAP_ITEM_VALUE (λ m. may_bundles_be_kept bundle_kinds.Jwt message m.bundles) (λ m. framed message) (jwt_bundles_of message)
 lines_of (X509 Json) message = lines_by x509_json (x509_of message)
 lines_of (Bundles Lines) message = lines_by bundle_lines (bundles_of message)
 lines_of (Bundles Pem) message = whole_by MAP_ITEM_VALUE bundles_are_whole bundles_pem (bundles_of message)

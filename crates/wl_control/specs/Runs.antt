@@ -104,11 +104,11 @@ abbrev pub verdict_line : Option Verdict → List ℕ
 verdict_line None = []
 verdict_line (Some v) = line_of v
 
--- the lines of the messages, and behind them that of the verdict
+-- the lines of the messages, and after them that of the verdict
 unfoldable pub text_of : Request → List Answer → List ℕ
 text_of q answers = (course_by q answers).lines ++ verdict_line (verdict_of q answers)
 
--- the bytes that open the call, and behind them all that is written for the server's bytes
+-- the bytes that open the call, and after them all that is written for the server's bytes
 unfoldable pub sent_of : Request → List Answer → List ℕ
 sent_of q answers = opening_of (method_of q) (message_of q) ++ (heard (bytes_in answers)).bytes
 

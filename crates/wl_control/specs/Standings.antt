@@ -44,7 +44,7 @@ pub record Starts (q : Request) (call : Call) : Type 0 where
   pub patience : call.patience ≡ patience_of q
   pub idles : call.idles ≡ 0
 
--- A call stands behind these answers: they decide nothing, all that is due for them was sent and written, and its counts are
+-- A call stands after these answers: they decide nothing, all that is due for them was sent and written, and its counts are
 -- those of these answers.
 pub record Standing (q : Request) (start now : Moment) (call : Call) (answers : List Answer) : Type 0 where
   pub passes : Passes start now answers (sent_of q answers) (course_by q answers).lines
@@ -57,7 +57,7 @@ pub record Standing (q : Request) (start now : Moment) (call : Call) (answers : 
   pub patience : call.patience ≡ patience_of q
   pub idle : idles_in answers ≡ call.idles
 
--- a step goes on behind more answers, or ends the call
+-- a step goes on after more answers, or ends the call
 abbrev pub StepEnds : Request → Moment → Moment → Call → Result (Option ℕ) Memory → Type 0
 StepEnds q start now call (Ok None) = (answers : List Answer) × Standing q start now call answers
 StepEnds q start now call (Ok (Some status)) = Ends q start now status

@@ -16,7 +16,7 @@ use Rattle.wl_control.specs.declared.request.TokenAsk.{TokenAsk}
 use Rattle.wl_control.specs.declared.request.Choice.{Choice}
 use Rattle.wl_control.specs.declared.request.Choice.TheVariants.{Pem, Json, Decode, Id}
 use Rattle.wl_control.specs.declared.request.Request.{Request}
-use Rattle.wl_control.specs.declared.request.Request.TheVariants.{FetchX509, FetchBundles, FetchJwt, FetchJwtBundles, Watch, Keep, Health, HealthWatch}
+use Rattle.wl_control.specs.declared.request.Request.TheVariants.{FetchX509, FetchBundles, FetchJwt, FetchJwtBundles, Watch, Keep, KeepBundles, Health, HealthWatch}
 
 abbrev pub at_least_one : Option ℕ → Option ℕ
 at_least_one None = None
@@ -144,5 +144,6 @@ IsFit (FetchJwtBundles f) = Unit {0}
 IsFit (FetchJwt a) = (length a.audiences ≤ MAX_AUDIENCES) × (list_all is_audience a.audiences ≡ true) × IfSome a.id (λ id. length id ≤ MAX_ID_LEN)
 IsFit (Watch count) = Unit {0}
 IsFit (Keep count) = Unit {0}
+IsFit (KeepBundles kind) = Unit {0}
 IsFit (Health service) = length service ≤ MAX_WORD_LEN
 IsFit (HealthWatch count) = Unit {0}

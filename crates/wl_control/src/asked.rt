@@ -7,6 +7,7 @@ ghost use Rattle.wl_control.specs.Takings.{Runs};
 
 use crate::lines::put_lines;
 use crate::request::{Form, TokenForm};
+use bundle_files::BundleKind;
 use pb_wire::FieldFault;
 use std::alloc::Global;
 use wl_client::{ClientFault, Heard};
@@ -19,6 +20,8 @@ pub enum Kind {
     X509(Form),
     /// An `X509SVIDResponse` that has files, as a frame of gRPC.
     X509Frame,
+    /// An `X509BundlesResponse` or a `JWTBundlesResponse` that has files, as a frame of gRPC.
+    BundlesFrame(BundleKind),
     /// An `X509BundlesResponse`.
     Bundles(Form),
     /// A `JWTSVIDResponse`.
@@ -116,7 +119,7 @@ impl Asked {
         }
     }
 
-    /// Takes parts of an answer in turn, up to the one that decides, and puts the lines that are due behind `text`.
+    /// Takes parts of an answer in turn, up to the one that decides, and puts the lines that are due after `text`.
     pub fn take_all(
         &mut self,
         alloc: Global,

@@ -9,6 +9,7 @@ ghost use Rattle.wl_control.specs.Calls.{method_of, message_of, token_message, i
 
 use crate::asked::{Asked, Kind};
 use crate::request::{Form, Request, TokenAsk, TokenForm};
+use bundle_files::BundleKind;
 use grpc_wire::Method;
 use pb_wire::put_bytes;
 use std::alloc::Global;
@@ -25,9 +26,9 @@ pub(crate) fn method_of(request: &Request) -> Method
 {
     match request {
         Request::FetchX509(_) | Request::Watch(_) | Request::Keep(_) => Method::X509Svid,
-        Request::FetchBundles(_) => Method::X509Bundles,
+        Request::FetchBundles(_) | Request::KeepBundles(BundleKind::X509) => Method::X509Bundles,
         Request::FetchJwt(_) => Method::JwtSvid,
-        Request::FetchJwtBundles(_) => Method::JwtBundles,
+        Request::FetchJwtBundles(_) | Request::KeepBundles(BundleKind::Jwt) => Method::JwtBundles,
         Request::Health(_) => Method::HealthCheck,
         Request::HealthWatch(_) => Method::HealthWatch,
     }
@@ -76,6 +77,7 @@ pub(crate) fn asked_of(request: &Request) -> Asked
         Request::FetchJwtBundles(form) => stream_of(Kind::JwtBundles(*form), 1),
         Request::Watch(count) => stream_of(Kind::X509(Form::Lines), *count),
         Request::Keep(count) => stream_of(Kind::X509Frame, *count),
+        Request::KeepBundles(kind) => stream_of(Kind::BundlesFrame(*kind), 1),
         Request::Health(_) => answer_of(Kind::State),
         Request::HealthWatch(count) => stream_of(Kind::State, *count),
     }
@@ -130,6 +132,7 @@ pub(crate) fn message_of(alloc: Global, request: &Request) -> Result<Vec<u8>, Me
         | Request::FetchJwtBundles(_)
         | Request::Watch(_)
         | Request::Keep(_)
+        | Request::KeepBundles(_)
         | Request::HealthWatch(_) => {}
     }
     Ok(message)

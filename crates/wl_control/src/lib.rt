@@ -20,5 +20,5 @@ pub mod status;
 mod words;
 
 pub use laws::escaped_text_has_no_newline;
-pub use program::{control, keep};
+pub use program::{control, keep, keep_bundles};
 pub use words::refusal;

@@ -8,13 +8,17 @@ ghost use Rattle.workload_proto.specs.declared.field_number.TheConstants.{X509_S
 ghost use Rattle.grpc_wire.specs.Messages.{framed};
 ghost use Rattle.svid_forms.specs.Json.{x509_json, bundles_json, jwt_json, jwt_bundles_json};
 ghost use Rattle.wl_control.specs.Escapes.{hex};
-ghost use Rattle.wl_control.specs.Lines.{line_end, svid_line, svid_lines, bundle_line, bundle_lines, jwt_start, jwt_line, jwt_lines, jwt_bundle_lines, state_line, status_line, fault_line, svids_are_whole, svids_pem, bundles_are_whole, bundles_pem, may_be_kept, lines_of, lines_by, whole_by};
+ghost use Rattle.wl_control.specs.Lines.{line_end, svid_line, svid_lines, bundle_line, bundle_lines, jwt_start, jwt_line, jwt_lines, jwt_bundle_lines, state_line, status_line, fault_line, svids_are_whole, svids_pem, bundles_are_whole, bundles_pem, may_be_kept, may_bundles_be_kept, lines_of, lines_by, whole_by};
+ghost use Rattle.bundle_files.specs.declared.kind.BundleKind.TheVariants as bundle_kinds;
+ghost use Rattle.wl_client.specs.declared.response.BundlesResponse.{BundlesResponse};
+ghost use Rattle.wl_client.specs.declared.response.JwtBundlesResponse.{JwtBundlesResponse};
 ghost use Rattle.wl_control.specs.Takings.{Writes};
 
 use crate::asked::Kind;
 use crate::decoded::{put_decoded_lines, put_decoded_object};
 use crate::escapes::{put_escaped, put_hex};
 use crate::request::{Form, TokenForm};
+use bundle_files::{BundleKind, have_files};
 use grpc_wire::put_message;
 use std::alloc::Global;
 use std::string::ToString;
@@ -216,6 +220,40 @@ fn put_x509_frame(alloc: Global, out: &mut Vec<u8>, message: &[u8]) -> Result<()
     Ok(())
 }
 
+/// Whether the message with these bundles has files, and a length of four bytes.
+fn may_bundles_be_kept(
+    alloc: Global,
+    kind: BundleKind,
+    message: &[u8],
+    bundles: &[MapItem],
+) -> Result<bool, Memory>
+    ensures { IfOk result (λ may. may ≡ may_bundles_be_kept kind message.now bundles.now) }
+{
+    Ok(have_files(alloc, kind, bundles)? && message.len() < LENGTHS)
+}
+
+fn put_bundles_frame(alloc: Global, out: &mut Vec<u8>, message: &[u8]) -> Result<(), ProtoFault>
+    ensures { Writes (whole_by MAP_ITEM_VALUE (λ m. may_bundles_be_kept bundle_kinds.X509 message.now m.bundles) (λ m. framed message.now) (bundles_of message.now)) result out.old.items out.new.items }
+{
+    let said = decode_bundles(alloc, message)?;
+    if !may_bundles_be_kept(alloc, BundleKind::X509, message, said.bundles.as_slice())? {
+        return Err(ProtoFault::FieldKind(field_number::MAP_ITEM_VALUE));
+    }
+    put_frame(alloc, out, message)?;
+    Ok(())
+}
+
+fn put_jwt_bundles_frame(alloc: Global, out: &mut Vec<u8>, message: &[u8]) -> Result<(), ProtoFault>
+    ensures { Writes (whole_by MAP_ITEM_VALUE (λ m. may_bundles_be_kept bundle_kinds.Jwt message.now m.bundles) (λ m. framed message.now) (jwt_bundles_of message.now)) result out.old.items out.new.items }
+{
+    let said = decode_jwt_bundles(alloc, message)?;
+    if !may_bundles_be_kept(alloc, BundleKind::Jwt, message, said.bundles.as_slice())? {
+        return Err(ProtoFault::FieldKind(field_number::MAP_ITEM_VALUE));
+    }
+    put_frame(alloc, out, message)?;
+    Ok(())
+}
+
 fn put_x509_object(alloc: Global, out: &mut Vec<u8>, message: &[u8]) -> Result<(), ProtoFault>
     ensures { Writes (lines_by x509_json (x509_of message.now)) result out.old.items out.new.items }
 {
@@ -309,6 +347,8 @@ pub(crate) fn put_lines(
         Kind::X509(Form::Lines) => put_x509_lines(alloc, out, message),
         Kind::X509(Form::Pem) => put_x509_pem(alloc, out, message),
         Kind::X509Frame => put_x509_frame(alloc, out, message),
+        Kind::BundlesFrame(BundleKind::X509) => put_bundles_frame(alloc, out, message),
+        Kind::BundlesFrame(BundleKind::Jwt) => put_jwt_bundles_frame(alloc, out, message),
         Kind::X509(Form::Json) => put_x509_object(alloc, out, message),
         Kind::Bundles(Form::Lines) => put_bundles_lines(alloc, out, message),
         Kind::Bundles(Form::Pem) => put_bundles_blocks(alloc, out, message),

@@ -3,7 +3,7 @@
 ghost use Rattle.std.specs.Prelude.{◌≡◌, ◌<◌, ◌≤◌, ◌+◌, ◌*◌, ◌-◌, List, [], length, map, string_bytes, Some, None, IfOk};
 ghost use Rattle.wl_edge.specs.declared.link.Heard.{Heard as Answer};
 ghost use Rattle.wl_control.specs.declared.request.Request.{Request};
-ghost use Rattle.wl_control.specs.declared.request.Request.TheVariants.{Keep};
+ghost use Rattle.wl_control.specs.declared.request.Request.TheVariants.{Keep, KeepBundles};
 ghost use Rattle.wl_control.specs.declared.asked.Verdict.TheVariants.{Faulted};
 ghost use Rattle.wl_control.specs.Words.{request_of, IsFit};
 ghost use Rattle.wl_control.specs.Ends.{Moment, moment, Delivers, EndsWith, StatusExplains};
@@ -17,6 +17,7 @@ use crate::request::Request;
 use crate::sending::{Turn, deliver, send_all};
 use crate::status::{OUT_OF_MEMORY, READ_FAILED, USAGE, WRITE_FAILED};
 use crate::words::{MAX_COUNT, NoRequest, read_request};
+use bundle_files::BundleKind;
 use std::alloc::Global;
 use std::string::String;
 use wl_client::{Client, ClientFault};
@@ -283,6 +284,24 @@ pub fn keep<L: Link, K: Sink>(alloc: Global, count: u32, link: &mut L, sink: &mu
         (moment (L.told link.new) (K.taken sink.new) (L.failed_receives link.new) (L.failed_sends link.new) (K.faults sink.new)) result }
 {
     match make_call(alloc, &Request::Keep(count), link, sink) {
+        Ok(status) => status,
+        Err(Memory) => OUT_OF_MEMORY,
+    }
+}
+
+/// Fetches one message of FetchX509Bundles or FetchJWTBundles, and writes it as a frame of gRPC, as [`keep`] does. One that has no
+/// files (`bundle_files`) is a fault. The statuses, the lines and the bounds are those of [`control`].
+pub fn keep_bundles<L: Link, K: Sink>(
+    alloc: Global,
+    kind: BundleKind,
+    link: &mut L,
+    sink: &mut K,
+) -> u8
+    ensures { StatusExplains (Some (KeepBundles kind))
+        (moment (L.told link.old) (K.taken sink.old) (L.failed_receives link.old) (L.failed_sends link.old) (K.faults sink.old))
+        (moment (L.told link.new) (K.taken sink.new) (L.failed_receives link.new) (L.failed_sends link.new) (K.faults sink.new)) result }
+{
+    match make_call(alloc, &Request::KeepBundles(kind), link, sink) {
         Ok(status) => status,
         Err(Memory) => OUT_OF_MEMORY,
     }

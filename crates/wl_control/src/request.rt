@@ -1,5 +1,6 @@
 //! What the words ask for.
 
+use bundle_files::BundleKind;
 use wl_octets::{Octets, Row};
 
 /// How certificates are written.
@@ -62,6 +63,8 @@ pub enum Request {
     Watch(u32),
     /// So many messages of FetchX509SVID, each as a frame of gRPC. No words ask for it.
     Keep(u32),
+    /// One message of FetchX509Bundles or FetchJWTBundles, as a frame of gRPC. No words ask for it.
+    KeepBundles(BundleKind),
     /// The message of Check for this service.
     Health(Octets),
     /// So many messages of Watch for the empty service.

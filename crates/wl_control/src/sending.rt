@@ -33,7 +33,7 @@ pub(crate) fn send_all<L: Link>(link: &mut L, bytes: &[u8]) -> bool
     true
 }
 
-/// The status of a verdict, whose line goes behind the others.
+/// The status of a verdict, whose line goes after the others.
 fn put_verdict(text: &mut Vec<u8>, verdict: &Verdict) -> Result<u8, Memory>
     ensures status { IfOk result (λ status. status ≡ status_of verdict.now) }
     ensures line { OnOk result (text.new.items ≡ text.old.items ++ line_of verdict.now) }

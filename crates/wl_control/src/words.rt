@@ -262,9 +262,11 @@ Options of fetch, anywhere before the first --:
   --decode         what each token says, its signature not verified (jwt)
 
 Files:
-  fetch x509 --write FOLDER   the files of one message, all at once
-  keep FOLDER                 the files of each message, until wlctl is stopped
-  --envoy, after either       sds.yaml besides, for Envoy; FOLDER then begins with /
+  fetch x509 --write FOLDER          the files of one message, all at once
+  fetch bundles --write FOLDER       DOMAIN.pem of each trust domain's X.509 bundle
+  fetch jwt-bundles --write FOLDER   DOMAIN.jwks.json of each trust domain's JWT bundle
+  keep FOLDER                        the files of each message of fetch x509, until wlctl is stopped
+  --envoy                            after keep FOLDER and fetch x509 --write FOLDER: sds.yaml besides, for Envoy; FOLDER then begins with /
 
 The socket comes first: its path, --socket PATH or ADDRESS, or else SPIFFE_ENDPOINT_SOCKET.
 ";

@@ -9,7 +9,7 @@ use std::process::Abort;
 use std::string::String;
 use std::test::*;
 use wl_control::*;
-use wl_edge::{Heard, Link, LinkPlan, MemoryLink, MemorySink};
+use wl_edge::{Heard, Link, LinkPlan, MemoryLink, MemorySink, Origin};
 use wl_octets::{Memory, Octets, Row};
 
 /// The server's SETTINGS, its acknowledgement of the client's, and the head of an answer.
@@ -73,7 +73,10 @@ fn slow_link(alloc: Global, idles: usize, parts: &[&[u8]]) -> Result<MemoryLink,
         bytes.push_slice(part)?;
     }
     gives.push(Heard::Piece(bytes))?;
-    MemoryLink::start(alloc, LinkPlan::smooth(alloc, gives, 10_000, 65_536))
+    MemoryLink::start(
+        alloc,
+        LinkPlan::smooth(alloc, Origin::nowhere(alloc)?, gives, 10_000, 65_536),
+    )
 }
 
 /// A link that gives this in one piece and takes so many bytes.
@@ -84,14 +87,17 @@ fn narrow_link(alloc: Global, parts: &[&[u8]], room: usize) -> Result<MemoryLink
     }
     let mut gives = Row::empty(alloc);
     gives.push(Heard::Piece(bytes))?;
-    MemoryLink::start(alloc, LinkPlan::smooth(alloc, gives, 10, room))
+    MemoryLink::start(
+        alloc,
+        LinkPlan::smooth(alloc, Origin::nowhere(alloc)?, gives, 10, room),
+    )
 }
 
 pub(crate) fn link_of(alloc: Global, parts: &[&[u8]]) -> Result<MemoryLink, Memory> {
     slow_link(alloc, 0, parts)
 }
 
-/// Puts a frame of type 10, which is unknown, behind the others: 16,137 bytes and so many more.
+/// Puts a frame of type 10, which is unknown, after the others: 16,137 bytes and so many more.
 fn put_strange(out: &mut Octets, more: u8) -> Result<(), Memory> {
     out.push_slice(&[0, 63, more, 10, 0, 0, 0, 0, 0])?;
     out.push_slice(&[0; 16_128])?;
@@ -107,6 +113,7 @@ fn chatty_link(alloc: Global, more: u8) -> Result<RepeatingLink, Memory> {
     then.push_slice(BEGUN)?;
     then.push_slice(SVID)?;
     Ok(RepeatingLink {
+        origin: Origin::nowhere(alloc)?,
         piece,
         times: 4_095,
         then,
@@ -477,7 +484,7 @@ fn watching_without_a_count_has_no_end(rt: HostRuntime) -> Result<(), Fail> {
 #[test]
 fn only_so_much_is_read(rt: HostRuntime) -> Result<(), Fail> {
     let alloc = rt.alloc();
-    // The last byte of the SVID is byte 67,108,864, and then one behind that.
+    // The last byte of the SVID is byte 67,108,864, and then one after that.
     let table: [(u8, u8, &[u8]); 2] = [
         (
             147,
@@ -521,11 +528,17 @@ fn failures_have_their_status(rt: HostRuntime) -> Result<(), Fail> {
     let alloc = rt.alloc();
     let words = words_of(alloc, "fetch x509")?;
     // The link has room for no answer, and then for no byte; and then the sink has none.
-    let mut link = MemoryLink::start(alloc, LinkPlan::smooth(alloc, Row::empty(alloc), 0, 65_536))?;
+    let mut link = MemoryLink::start(
+        alloc,
+        LinkPlan::smooth(alloc, Origin::nowhere(alloc)?, Row::empty(alloc), 0, 65_536),
+    )?;
     let mut sink = MemorySink::start(alloc, 100, 65_536, usize::MAX, Row::empty(alloc))?;
     let got = control(&rt, alloc, words.as_slice(), &mut link, &mut sink);
     assert_eq!(rt; got, status::READ_FAILED);
-    let mut link = MemoryLink::start(alloc, LinkPlan::smooth(alloc, Row::empty(alloc), 10, 8))?;
+    let mut link = MemoryLink::start(
+        alloc,
+        LinkPlan::smooth(alloc, Origin::nowhere(alloc)?, Row::empty(alloc), 10, 8),
+    )?;
     let got = control(&rt, alloc, words.as_slice(), &mut link, &mut sink);
     assert_eq!(rt; got, status::WRITE_FAILED);
     let mut link = link_of(alloc, &[BEGUN, SVID])?;

@@ -7,7 +7,7 @@ use Rattle.std.proofs.lemmas.Bool.{ltb-true, eqb-true, ltb-false}
 use Rattle.std.proofs.lemmas.List.{take-append-drop, take-append-le, take_all, append-nil}
 use Rattle.std.proofs.lemmas.List.Folds.{list_any-append}
 use Rattle.std.proofs.lemmas.List.Sums.{split_at_first, passes_at_first}
-use Rattle.wl_edge.proofs.Reading.{Reading}
+use Rattle.wl_edge.proofs.Sources.{Reading}
 use Rattle.wl_edge.specs.Edge.{Rose}
 use Rattle.wl_signlink.specs.declared.exchanges.Piece.TheVariants.{Line, More, TooLong}
 use Rattle.wl_signlink.specs.Exchanges.{has_newline, FirstLine, ReadsLine, NoLine, CutPiece, PieceGives}
@@ -66,7 +66,7 @@ none_in xs ys first second = list_any-append newline xs ys ∙ ap (λ b. b || ha
 none_in_front : (n : ℕ) (xs : List ℕ) → has_newline xs ≡ false → has_newline (take n xs) ≡ false
 none_in_front n xs h = none_of (has_newline (take n xs)) (has_newline (drop n xs)) (sym (list_any-append newline (take n xs) (drop n xs)) ∙ ap has_newline (take-append-drop n xs) ∙ h)
 
--- what a read gave stands behind what came before
+-- what a read gave stands after what came before
 pub read_more : (has left new : Option (List ℕ)) (before bytes : List ℕ) (n : ℕ) → Reading has left before → IfSome left (λ l. (new ≡ Some (drop n l)) × (take n bytes ≡ take n l) × (n ≤ length l)) → Reading has new (before ++ take n bytes)
 read_more None left new before bytes n r got = tt
 read_more (Some whole) left new before bytes n r got =

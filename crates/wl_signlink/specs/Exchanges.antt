@@ -13,7 +13,7 @@ use Rattle.wl_signlink.specs.declared.limits.TheConstants.{REPLY_LIMIT}
 abbrev pub has_newline : List ℕ → Bool
 has_newline bytes = list_any (λ b. b == 10) bytes
 
--- What a source has begins with this line and a newline. What was read with them from behind the newline is lost; where
+-- What a source has begins with this line and a newline. What was read with them from after the newline is lost; where
 -- the line is the last, that is nothing.
 pub record FirstLine (whole : List ℕ) (new : Option (List ℕ)) (line : List ℕ) (is_last : Bool) : Type 0 where
   pub behind : List ℕ
@@ -32,9 +32,9 @@ pub record ReadsLine (old new : Option (List ℕ)) (line : List ℕ) (is_last : 
 abbrev pub NoLine : Option (List ℕ) → Type 0
 NoLine old = IfSome old (λ whole. has_newline (take (REPLY_LIMIT + 1) whole) ≡ false)
 
--- ---- a piece that came, behind what came before it
+-- ---- a piece that came, after what came before it
 
--- what stands in a piece before its first newline, and behind it
+-- what stands in a piece before its first newline, and after it
 pub record CutPiece (piece part behind : List ℕ) : Type 0 where
   pub is : piece ≡ part ++ (10 ∷ behind)
   pub one : has_newline part ≡ false

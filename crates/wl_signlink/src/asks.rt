@@ -14,7 +14,7 @@ use wl_edge::{Sink, Source};
 use wl_entry::{Ask, JwtToken, Signed};
 use wl_octets::{Memory, Octets};
 
-/// What a signer answered, and whether nothing came with it behind its line.
+/// What a signer answered, and whether nothing came with it after its line.
 #[derive(Drop)]
 pub struct Answer<T> {
     pub value: T,

@@ -14,14 +14,14 @@ use wl_octets::{Memory, Octets};
 pub struct Reply {
     /// The line, without its newline.
     pub line: Octets,
-    /// Whether nothing came with it behind its newline.
+    /// Whether nothing came with it after its newline.
     pub is_last: bool,
 }
 
 /// What a piece of a line is.
 #[derive(Clone, Copy, Debug, PartialEq)]
 pub(crate) enum Piece {
-    /// It ends the line; the flag says whether nothing is behind the newline.
+    /// It ends the line; the flag says whether nothing is after the newline.
     Line(bool),
     /// The line goes on.
     More,
@@ -40,7 +40,7 @@ fn newline(piece: &[u8]) -> Option<usize>
     piece.iter().position(|byte| *byte == b'\n')
 }
 
-/// Takes a piece behind what came before it, up to its first newline.
+/// Takes a piece after what came before it, up to its first newline.
 fn take_piece(done: &mut Vec<u8>, piece: &[u8]) -> Result<Piece, Memory>
     requires { length done.old.items ≤ REPLY_LIMIT }
     ensures { IfOk result (PieceGives done.old.items done.new.items piece.now) }

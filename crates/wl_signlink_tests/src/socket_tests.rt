@@ -54,7 +54,7 @@ fn answers(
     Ok(())
 }
 
-/// Waits until so many connections ended, but for some seconds at most.
+/// Waits until so many connections ended, some seconds at most.
 fn wait_for(rt: &impl Clock, ended: &AtomicUsize, count: usize) {
     for _ in 0..5_000 {
         if ended.load(Ordering::SeqCst) >= count {
@@ -73,7 +73,7 @@ enum Outcome {
     Memory,
 }
 
-/// The outcome of an answer, of which it is told whether it is the one that is due.
+/// The outcome of an answer, and whether it is the one that is due.
 fn told(answer: Result<bool, EdgeFault>) -> Outcome {
     match answer {
         Ok(true) => Outcome::Due,
@@ -99,7 +99,7 @@ fn jwt_outcome<S: Signer>(signer: &mut S, ask: &Ask, audience: &[Octets]) -> Out
     }
 }
 
-/// The first connection ends after an answer that has a late one behind it; the second gives no reply that can be
+/// The first connection ends after an answer that has a late one after it; the second gives no reply that can be
 /// read; the third ends before its second answer; the fourth hands back the number of its ask, and then the same again.
 const CONNECTIONS: [&[&str]; 5] = [
     &[

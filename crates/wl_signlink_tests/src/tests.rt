@@ -51,7 +51,7 @@ fn outcomes(alloc: Global, line: &[u8]) -> Result<(bool, bool), AllocError> {
     Ok((identity, token))
 }
 
-/// Whether these bytes are the texts, one behind the other.
+/// Whether these bytes are the texts, one after the other.
 fn are_texts_of(bytes: &[u8], texts: &[&str]) -> bool {
     let mut rest = bytes;
     for text in texts {
@@ -313,7 +313,7 @@ fn replies_cut_and_changed(rt: HostRuntime) -> Result<(), Fail> {
     Ok(())
 }
 
-/// A reply with spaces behind it, so many bytes in all.
+/// A reply with spaces after it, so many bytes in all.
 fn padded(alloc: Global, length: usize) -> Result<Vec<u8>, AllocError> {
     let mut reply = Vec::from_slice(alloc, TOKEN.as_bytes())?;
     for _ in reply.len()..length {
@@ -341,7 +341,7 @@ fn source(alloc: Global, bytes: &[u8], piece: usize) -> Result<MemorySource, Fai
     Ok(MemorySource::start(Octets::from_slice(alloc, bytes)?, piece, Row::empty(alloc)))
 }
 
-/// Whether this line comes first, and is told as the last or not.
+/// Whether this line comes first, and is said as the last or not.
 fn reads(
     alloc: Global,
     bytes: &[u8],

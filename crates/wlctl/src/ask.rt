@@ -212,7 +212,7 @@ pub fn answer_to(rt: &HostRuntime, address: &Address, ask: Ask<'_>) -> Result<Oc
     let Ok(address) = address.copy() else {
         return Err(AskFault::Memory);
     };
-    let mut link = DialedLink::start_at(own, address);
+    let mut link = DialedLink::start_at(own, alloc, address)?;
     let mut client = Client::start(alloc, ask.method, ask.message)?;
     let mut answer = Answer {
         message: None,

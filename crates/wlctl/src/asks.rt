@@ -1,8 +1,9 @@
 //! What words ask of files.
 
 ghost use Rattle.std.specs.Prelude.{◌≡◌, map, option_map, string_bytes};
-ghost use Rattle.wlctl.specs.Asks.{is_place, is_absolute, is_keep, is_envoy, is_write, kept_in, written_to};
+ghost use Rattle.wlctl.specs.Asks.{is_place, is_absolute, is_keep, is_envoy, is_write, kept_in, written_to, is_bundles_write, kind_named, bundles_to};
 
+use bundle_files::BundleKind;
 use std::string::String;
 
 /// Whether a word may be a folder's path: it isn't empty and isn't an option.
@@ -70,6 +71,38 @@ pub fn written_to(words: &[String]) -> Option<(&str, bool)>
             if is_write(command.as_str(), what.as_str(), option.as_str())
                 && is_envoy(envoy.as_str())
                 && is_absolute(folder.as_str()) => { Some((folder.as_str(), true)) }
+        _ => None,
+    }
+}
+
+/// Which bundles a word names.
+fn kind_named(what: &str) -> Option<BundleKind>
+    ensures { result ≡ kind_named what.now }
+{
+    if what == "bundles" {
+        return Some(BundleKind::X509);
+    }
+    if what == "jwt-bundles" {
+        return Some(BundleKind::Jwt);
+    }
+    None
+}
+
+fn is_bundles_write(command: &str, option: &str) -> bool
+    ensures { result ≡ is_bundles_write command.now option.now }
+{
+    command == "fetch" && option == "--write"
+}
+
+/// Which bundles, and the folder of `fetch bundles --write FOLDER` and `fetch jwt-bundles --write FOLDER`.
+pub fn bundles_to(words: &[String]) -> Option<(BundleKind, &str)>
+    ensures { option_map (λ p. (p.0, p.1.now)) result ≡ bundles_to (map string_bytes words.now) }
+{
+    match words {
+        [command, what, option, folder]
+            if is_bundles_write(command.as_str(), option.as_str()) && is_place(folder.as_str()) => {
+            Some((kind_named(what.as_str())?, folder.as_str()))
+        }
         _ => None,
     }
 }

@@ -1,16 +1,20 @@
 //! Commands that write files.
 
-use crate::folder_sink::FolderSink;
+use crate::folder_sink::{BundleFolder, FolderSink};
 use crate::folder_writer::{FolderWriter, Wanted};
 use crate::keeper::{Keeper, next_wait};
+use crate::saying::KeepLog;
 use crate::ticking_link::TickingLink;
 use crate::token_asks::TokenAsker;
+use bundle_files::BundleKind;
+use keep_log::KeepEvent;
+use std::alloc::{AllocGlobal, Global};
 use std::cell::RefCell;
 use std::sync::Wait;
 use std::thread::sleep;
 use std::time::Duration;
-use wl_control::keep;
 use wl_control::status::{CLIENT_FAULT, DENIED, OUT_OF_MEMORY, READ_FAILED, WRITE_FAILED};
+use wl_control::{keep, keep_bundles};
 use wl_edge_real::{Address, DialedLink};
 use wl_octets::{Memory, Octets, Row};
 
@@ -23,20 +27,21 @@ pub struct Job {
 }
 
 /// What writes the files of a job.
-fn keeper_of(
+fn keeper_of<'a>(
     rt: &HostRuntime,
+    log: &'a KeepLog,
     address: &Address,
     wanted: Wanted,
     audiences: Row<Octets>,
     is_kept: bool,
-) -> Result<Keeper, Memory> {
-    let writer = FolderWriter::start(rt.clone()?, rt.alloc(), wanted, is_kept);
+) -> Result<Keeper<'a>, Memory> {
+    let writer = FolderWriter::start(rt.clone()?, log, wanted, is_kept);
     let asker = TokenAsker::start(rt.clone()?, address.copy()?, audiences);
     Keeper::start(rt.clone()?, writer, asker, is_kept)
 }
 
 /// Whether there are tokens to renew.
-fn has_audiences(keeper: &RefCell<Keeper>) -> bool {
+fn has_audiences(keeper: &RefCell<Keeper<'_>>) -> bool {
     match keeper.try_borrow() {
         Ok(keeper) => keeper.has_audiences(),
         Err(_) => false,
@@ -46,13 +51,14 @@ fn has_audiences(keeper: &RefCell<Keeper>) -> bool {
 /// Makes one call of `keep` for so many messages, whose files this keeper writes.
 fn call_once(
     rt: &HostRuntime,
+    log: &KeepLog,
     address: &Address,
-    keeper: &RefCell<Keeper>,
+    keeper: &RefCell<Keeper<'_>>,
     count: u32,
     is_kept: bool,
 ) -> Result<u8, Memory> {
-    let mut dialed = DialedLink::start_at(rt.clone()?, address.copy()?);
-    let mut sink = FolderSink::start(rt.clone()?, keeper, is_kept);
+    let mut dialed = DialedLink::start_at(rt.clone()?, rt.alloc(), address.copy()?)?;
+    let mut sink = FolderSink::start(rt.clone()?, log, keeper, is_kept);
     if !has_audiences(keeper) {
         return Ok(keep(rt.alloc(), count, &mut dialed, &mut sink));
     }
@@ -67,13 +73,32 @@ pub fn write(rt: &HostRuntime, job: Job) -> Result<u8, Memory> {
         wanted,
         audiences,
     } = job;
-    let made = keeper_of(rt, &address, wanted, audiences, false)?;
+    let log = KeepLog::start(rt.clone()?);
+    let made = keeper_of(rt, &log, &address, wanted, audiences, false)?;
     let keeper = RefCell::new(made);
-    let status = call_once(rt, &address, &keeper, 1, false)?;
+    let status = call_once(rt, &log, &address, &keeper, 1, false)?;
     match keeper.try_borrow() {
         Ok(keeper) => Ok(keeper.status().unwrap_or(status)),
         Err(_) => Ok(status),
     }
+}
+
+/// Writes the files of one message of bundles.
+pub fn write_bundles(
+    rt: &HostRuntime,
+    address: Address,
+    kind: BundleKind,
+    wanted: Wanted,
+) -> Result<u8, Memory> {
+    let log = KeepLog::start(rt.clone()?);
+    let writer = FolderWriter::start(rt.clone()?, &log, wanted, false);
+    let folder = BundleFolder {
+        kind,
+        writer: RefCell::new(writer),
+    };
+    let mut link = DialedLink::start_at(rt.clone()?, rt.alloc(), address)?;
+    let mut sink = FolderSink::start(rt.clone()?, &log, &folder, false);
+    Ok(keep_bundles(rt.alloc(), kind, &mut link, &mut sink))
 }
 
 /// Why a call of `keep` ended, in words.
@@ -88,8 +113,18 @@ fn reason_of(status: u8) -> &'static str {
     }
 }
 
+/// That a call of `keep` ended with this status. The next one is made after so many seconds.
+fn ended(alloc: Global, status: u8, wait: u64) -> Result<KeepEvent, Memory> {
+    let reason = Octets::from_slice(alloc, reason_of(status).as_bytes())?;
+    Ok(KeepEvent::Ended {
+        status,
+        wait,
+        reason,
+    })
+}
+
 /// How many sets were written, and whether a file that isn't its own stands in the way.
-fn state_of(keeper: &RefCell<Keeper>) -> (u64, bool) {
+fn state_of(keeper: &RefCell<Keeper<'_>>) -> (u64, bool) {
     match keeper.try_borrow() {
         Ok(keeper) => (keeper.writer().written(), keeper.writer().is_refused()),
         Err(_) => (0, false),
@@ -97,7 +132,7 @@ fn state_of(keeper: &RefCell<Keeper>) -> (u64, bool) {
 }
 
 /// Forgets the message of a call that ended.
-fn forget(keeper: &RefCell<Keeper>) {
+fn forget(keeper: &RefCell<Keeper<'_>>) {
     if let Ok(mut keeper) = keeper.try_borrow_mut() {
         keeper.forget();
     }
@@ -111,12 +146,15 @@ pub fn stay(waits: &impl Wait, rt: &HostRuntime, job: Job) -> Result<u8, Memory>
         wanted,
         audiences,
     } = job;
-    let made = keeper_of(rt, &address, wanted, audiences, true)?;
+    let log = KeepLog::start(rt.clone()?);
+    let made = keeper_of(rt, &log, &address, wanted, audiences, true)?;
     let keeper = RefCell::new(made);
     let mut seconds: u64 = 1;
     'calls: for _ in waits.forever() {
         let (before, _) = state_of(&keeper);
-        let status = call_once(rt, &address, &keeper, u32::MAX, true).unwrap_or(OUT_OF_MEMORY);
+        let status = call_once(rt, &log, &address, &keeper, u32::MAX, true).unwrap_or(
+            OUT_OF_MEMORY,
+        );
         let (written, is_refused) = state_of(&keeper);
         if is_refused {
             break 'calls;
@@ -125,8 +163,7 @@ pub fn stay(waits: &impl Wait, rt: &HostRuntime, job: Job) -> Result<u8, Memory>
         if written > before {
             seconds = 1;
         }
-        let why = reason_of(status);
-        let _ = eprintln!(rt; "event=ended status={status} wait={seconds} reason=\"{why}\"");
+        log.say(ended(rt.alloc(), status, seconds));
         sleep(rt, Duration::from_secs(seconds));
         seconds = next_wait(seconds);
     }

@@ -1,13 +1,14 @@
 //! Sets of files in a folder of the system.
 
-use crate::leaf_text::leaf_text;
-use file_sets::{File, Folder, RealShelf};
+use crate::content::Content;
+use crate::saying::{KeepLog, shortened};
+use crate::written_set::set_of_message;
+use file_sets::{Folder, RealShelf};
+use keep_log::KeepEvent;
 use std::alloc::Global;
 use std::string::String;
 use std::{fs, io};
-use svid_files::{files_in, publish_message};
-use token_files::{Answers, publish_set, set_of};
-use wl_octets::{Memory, Octets, Row};
+use wl_octets::{Memory, Octets};
 
 /// Which files are wanted, and where.
 #[derive(Drop)]
@@ -31,11 +32,15 @@ impl Wanted {
     }
 }
 
+/// Why files aren't written where a file of another kind stands.
+const FOREIGN: &str = "a file of its own stands where a link is due; it was left as it is";
+
 /// Writes files into a folder.
 #[derive(Drop)]
-pub struct FolderWriter {
+pub struct FolderWriter<'a> {
     rt: HostRuntime,
     alloc: Global,
+    log: &'a KeepLog,
     path: String,
     envoy: Option<Octets>,
     is_kept: bool,
@@ -43,18 +48,30 @@ pub struct FolderWriter {
     is_refused: bool,
 }
 
-impl FolderWriter {
-    /// A writer into the folder that is wanted. Where it is kept, each set is told.
-    pub fn start(rt: HostRuntime, alloc: Global, wanted: Wanted, is_kept: bool) -> FolderWriter {
+impl<'a> FolderWriter<'a> {
+    /// A writer into the folder that is wanted. Where it is kept, each set is reported.
+    pub fn start(
+        rt: HostRuntime,
+        log: &'a KeepLog,
+        wanted: Wanted,
+        is_kept: bool,
+    ) -> FolderWriter<'a> {
+        let alloc = rt.alloc();
         FolderWriter {
             rt,
             alloc,
+            log,
             path: wanted.path,
             envoy: wanted.envoy,
             is_kept,
             written: 0,
             is_refused: false,
         }
+    }
+
+    /// The log, in which events of these files are reported.
+    pub fn log(&self) -> &'a KeepLog {
+        self.log
     }
 
     /// How many sets were written.
@@ -84,50 +101,26 @@ impl FolderWriter {
         Ok(())
     }
 
-    /// Says that the files of a message were written.
-    fn say_written(&self, number: u64, count: usize, message: &[u8]) {
-        if !self.is_kept {
-            return;
-        }
-        if let Ok(leaf) = leaf_text(self.alloc, message) {
-            let _ = eprintln!(self.rt; "event=written {leaf} folder=..data-{number} files={count}");
+    /// Reports the set of this number, of so many files.
+    fn report(&self, number: u64, count: usize, content: &Content<'_>) {
+        if let (true, Content::Svids { message, .. }) = (self.is_kept, content) {
+            let set = set_of_message(self.alloc, number, count as u64, message);
+            self.log.say(set.map(KeepEvent::Written));
         }
     }
 
-    /// The files of a message, and of the answers that belong to it.
-    fn files_of(
-        &self,
-        message: &[u8],
-        answers: &Option<Answers>,
-    ) -> Result<Option<Row<File>>, Memory> {
-        match answers {
-            Some(answers) => set_of(self.alloc, &self.envoy, message, answers),
-            None => files_in(self.alloc, &self.envoy, message),
-        }
-    }
-
-    /// Has them be seen as the set of this number.
-    fn show(&self, number: u64, message: &[u8], answers: &Option<Answers>) -> io::Result<bool> {
+    /// Has the files be seen as the set of this number.
+    fn show(&self, number: u64, content: &Content<'_>) -> io::Result<()> {
         let mut shelf = RealShelf::start(self.rt.clone()?, self.alloc, self.path.clone()?);
-        let shown = match answers {
-            Some(answers) => {
-                publish_set(
-                    self.alloc,
-                    &mut shelf,
-                    number,
-                    &self.envoy,
-                    message,
-                    answers,
-                )
-            }
-            None => publish_message(self.alloc, &mut shelf, number, &self.envoy, message),
-        };
-        Ok(shown.is_ok())
+        match content.show(self.alloc, &mut shelf, number, &self.envoy) {
+            Ok(()) => Ok(()),
+            Err(_) => Err(shelf.take_fault().unwrap_or(io::ErrorKind::Other.into())),
+        }
     }
 
-    /// Writes the files of a message, and of the answers that belong to it.
-    pub fn publish(&mut self, message: &[u8], answers: &Option<Answers>) -> io::Result<()> {
-        let Ok(Some(files)) = self.files_of(message, answers) else {
+    /// Writes the files of these messages.
+    pub fn publish(&mut self, content: &Content<'_>) -> io::Result<()> {
+        let Ok(Some(files)) = content.files(self.alloc, &self.envoy) else {
             return Err(io::ErrorKind::InvalidData.into());
         };
         let folder = Folder {
@@ -140,26 +133,44 @@ impl FolderWriter {
             self.is_refused = true;
             return Err(io::ErrorKind::AlreadyExists.into());
         }
-        if !self.show(number, message, answers)? {
-            self.remove_unseen(number)?;
-            return Err(io::ErrorKind::Other.into());
+        if let Err(error) = self.show(number, content) {
+            // (What can't be removed now goes with the next set but one.)
+            let _ = self.remove_unseen(number);
+            return Err(error);
         }
         folder.link_names(files.as_slice())?;
         folder.remove_old(number)?;
         self.written = self.written.saturating_add(1);
-        self.say_written(number, files.len(), message);
+        self.report(number, files.len(), content);
         Ok(())
     }
 
-    /// Says why the files weren't written.
-    pub fn say(&self, error: &io::Error) {
-        let path = self.path.as_str();
+    /// Why the files weren't written.
+    fn reason(&self, error: &io::Error) -> Result<String, Memory> {
         if self.is_refused {
-            let _ = eprintln!(self.rt;
-                "error: {path} has a file of its own where a link is due; it was left as it is"
-            );
+            return Ok(String::from_str(self.alloc, FOREIGN)?);
+        }
+        Ok(format!(in self.alloc; "{error}")?)
+    }
+
+    fn not_written(&self, reason: &str) -> Result<KeepEvent, Memory> {
+        Ok(KeepEvent::NotWritten {
+            path: shortened(self.alloc, self.path.as_bytes())?,
+            reason: shortened(self.alloc, reason.as_bytes())?,
+        })
+    }
+
+    /// Says why the files weren't written: an event where they are kept, else a sentence.
+    pub fn say(&self, error: &io::Error) {
+        let Ok(reason) = self.reason(error) else {
+            return;
+        };
+        let reason = reason.as_str();
+        if self.is_kept {
+            self.log.say(self.not_written(reason));
         } else {
-            let _ = eprintln!(self.rt; "error: {path} can't be written: {error}");
+            let path = self.path.as_str();
+            let _ = eprintln!(self.rt; "error: the files can't be written into {path}: {reason}");
         }
     }
 }

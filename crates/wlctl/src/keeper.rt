@@ -1,5 +1,6 @@
 //! The files of the last message, with tokens that are asked for again before they end.
 
+use crate::content::Content;
 use crate::folder_writer::FolderWriter;
 use crate::token_asks::{Missing, TokenAsker, earliest_end};
 use std::alloc::Global;
@@ -44,10 +45,9 @@ struct Due {
 
 /// Writes the files of each message, and keeps their tokens fresh.
 #[derive(Drop)]
-pub struct Keeper {
-    rt: HostRuntime,
+pub struct Keeper<'a> {
     alloc: Global,
-    writer: FolderWriter,
+    writer: FolderWriter<'a>,
     asker: TokenAsker,
     clock: RealClock<HostRuntime>,
     is_kept: bool,
@@ -58,15 +58,16 @@ pub struct Keeper {
     status: Option<u8>,
 }
 
-impl Keeper {
+impl<'a> Keeper<'a> {
     /// A keeper with this writer. Without audiences it asks for nothing.
     pub fn start(
         rt: HostRuntime,
-        writer: FolderWriter,
+        writer: FolderWriter<'a>,
         asker: TokenAsker,
         is_kept: bool,
-    ) -> Result<Keeper, Memory> {
-        let clock = RealClock::start(rt.clone()?);
+    ) -> Result<Keeper<'a>, Memory> {
+        let alloc = rt.alloc();
+        let clock = RealClock::start(rt);
         let due = Due {
             tokens: 0,
             next: 0,
@@ -74,8 +75,7 @@ impl Keeper {
             wait: 1,
         };
         Ok(Keeper {
-            alloc: rt.alloc(),
-            rt,
+            alloc,
             writer,
             asker,
             clock,
@@ -88,7 +88,7 @@ impl Keeper {
     }
 
     /// What writes the files.
-    pub fn writer(&self) -> &FolderWriter {
+    pub fn writer(&self) -> &FolderWriter<'a> {
         &self.writer
     }
 
@@ -110,13 +110,8 @@ impl Keeper {
     /// Says what can't be had, and when it is tried again.
     fn miss(&mut self, missing: &Missing, now: u64) {
         let wait = self.due.wait;
-        if let Ok(text) = missing.text(self.alloc) {
-            if self.is_kept {
-                let _ = eprintln!(self.rt; "{text} wait={wait}");
-            } else {
-                let _ = eprintln!(self.rt; "{text}");
-            }
-        }
+        let told = if self.is_kept { Some(wait) } else { None };
+        self.writer.log().say(missing.event(self.alloc, told));
         self.status = Some(missing.status());
         self.due.next = now.saturating_add(wait);
         self.due.wait = next_wait(wait);
@@ -134,7 +129,10 @@ impl Keeper {
         let fresh = Some(answers);
         if self.stood != fresh {
             self.stood = None;
-            self.writer.publish(message, &fresh)?;
+            self.writer.publish(&Content::Svids {
+                message,
+                answers: &fresh,
+            })?;
         }
         self.stood = fresh;
         Ok(())
@@ -209,7 +207,10 @@ impl Keeper {
     /// where a token can't be had and nothing is kept.
     pub fn take(&mut self, message: &[u8]) -> io::Result<bool> {
         if !self.asker.is_wanted() {
-            self.writer.publish(message, &None)?;
+            self.writer.publish(&Content::Svids {
+                message,
+                answers: &None,
+            })?;
             return Ok(true);
         }
         let Ok(own) = Octets::from_slice(self.alloc, message) else {

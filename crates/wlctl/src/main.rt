@@ -9,19 +9,22 @@
 mod ask;
 mod asks;
 mod audiences;
+mod content;
 mod endpoint;
 mod files;
 mod folder_sink;
 mod folder_writer;
 mod keeper;
-mod leaf_text;
+mod saying;
+mod telling;
 mod ticking_link;
 mod token_asks;
+mod written_set;
 
-use asks::{kept_in, written_to};
+use asks::{bundles_to, kept_in, written_to};
 use audiences::{audiences_in, cut};
 use endpoint::{Socket, take_socket};
-use files::{Job, stay, write};
+use files::{Job, stay, write, write_bundles};
 use folder_writer::Wanted;
 use std::alloc::{AllocGlobal, Global};
 use std::process::ExitCode;
@@ -42,15 +45,15 @@ const UNUSABLE: &str =
 
 /// What is said of words that ask for files and don't fit.
 const FILES_FAULT: &str =
-    "error: files are asked for by fetch x509 --write FOLDER or keep FOLDER, and --envoy after that; \
-FOLDER isn't empty and doesn't begin with -, and with --envoy it begins with /\n";
+    "error: files are asked for by keep FOLDER or fetch x509 --write FOLDER, and --envoy after that, or by fetch bundles or \
+fetch jwt-bundles --write FOLDER; FOLDER isn't empty and doesn't begin with -, and with --envoy it begins with /\n";
 
 /// What is said of audiences that can't be asked for.
 const AUDIENCES_FAULT: &str =
     "error: tokens are asked for by --jwt AUDIENCE at the end of fetch x509 --write FOLDER or keep FOLDER, 1 to 8 times; \
 no audience is empty or given twice, and percent-encoded each has at most 234 bytes\n";
 
-/// What the help says of tokens, behind the options of `wl_control`.
+/// What the help says of tokens, after the options of `wl_control`.
 const TOKENS_HELP: &str = "
 Tokens beside these files, at the end of the words, 1 to 8 times:
   --jwt AUDIENCE              jwt.AUDIENCE-1.token, and jwks.json; keep asks again before a token ends
@@ -82,7 +85,9 @@ fn asks_for_files(words: &[String]) -> bool {
 /// Makes the call that the words ask for over this socket.
 fn call(rt: HostRuntime, address: Address, words: &[String]) -> u8 {
     let alloc = rt.alloc();
-    let mut link = DialedLink::start_at(rt, address);
+    let Ok(mut link) = DialedLink::start_at(rt, alloc, address) else {
+        return OUT_OF_MEMORY;
+    };
     let mut sink = RealOutput::start(rt.stdout());
     let status = control(&rt, alloc, words, &mut link, &mut sink);
     if status == USAGE && asks_for_files(words) {
@@ -110,6 +115,10 @@ fn serve(
     words: &[String],
 ) -> Result<u8, Memory> {
     let alloc = rt.alloc();
+    if let Some((kind, folder)) = bundles_to(words) {
+        let wanted = Wanted::start(alloc, folder, false)?;
+        return write_bundles(&rt, address, kind, wanted);
+    }
     let (front, pairs) = cut(words);
     let Some((folder, for_envoy, is_kept)) = folder_in(front) else {
         return Ok(call(rt, address, words));

@@ -2,6 +2,7 @@
 
 use crate::ask::{Ask, AskFault, answer_to};
 use grpc_wire::Method;
+use keep_log::KeepEvent;
 use pb_wire::put_bytes;
 use std::alloc::Global;
 use std::string::String;
@@ -81,18 +82,19 @@ impl Missing {
         }
     }
 
-    /// The event that says so: `event=token_failed audience=A reason=".."`, A as in the name of a file, or
-    /// `event=jwks_failed reason=".."`.
-    pub fn text(&self, alloc: Global) -> Result<String, Memory> {
+    /// The event that says so, with the audience as in the name of a file. It is tried again after so many seconds, if it is.
+    pub fn event(&self, alloc: Global, wait: Option<u64>) -> Result<KeepEvent, Memory> {
         let why = why_text(alloc, self.why)?;
+        let reason = Octets::from_slice(alloc, why.as_bytes())?;
         let Some(audience) = &self.audience else {
-            return Ok(format!(in alloc; "event=jwks_failed reason=\"{why}\"")?);
+            return Ok(KeepEvent::JwksFailed { reason, wait });
         };
-        let name = encoded(alloc, audience.as_slice())?.into_vec();
-        let Ok(name) = String::from_utf8(name) else {
-            return Err(Memory);
-        };
-        Ok(format!(in alloc; "event=token_failed audience={name} reason=\"{why}\"")?)
+        let audience = encoded(alloc, audience.as_slice())?;
+        Ok(KeepEvent::TokenFailed {
+            audience,
+            reason,
+            wait,
+        })
     }
 }
 

@@ -19,7 +19,7 @@ gained_more (Some taken) b c s t p r =
     let got = subst (λ (m : Option (List ℕ)). Gained m c t) p r in
     got ∙ rw (append_assoc taken s t) refl
 
--- a prefix behind what went out before is one of all that is due
+-- a prefix after what went out before is one of all that is due
 prefix_more : (a b c : Option (List ℕ)) (s due whole tail : List ℕ) → whole ≡ s ++ (due ++ tail) → Gained a b s → GainedPrefix b c due → GainedPrefix a c whole
 prefix_more a b c s due whole tail is p r =
     (s ++ r.0, (r.1.0 ++ tail, is ∙ (ap (λ xs. s ++ (xs ++ tail)) r.1.1 ∙ (ap (λ xs. s ++ xs) (append_assoc r.0 r.1.0 tail) ∙ sym (append_assoc s r.0 (r.1.0 ++ tail))))), gained_more a b c s r.0 p r.2)

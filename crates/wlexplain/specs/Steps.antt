@@ -24,7 +24,7 @@ pub record Follows (start now : Moment) (line : List ℕ) (remaining : ℕ) (rea
   pub reads : start.failed_reads ≤ now.failed_reads
   pub writes : start.failed_writes ≤ now.failed_writes
 
--- no byte is left, where that is told
+-- no byte is left, where that is reported
 abbrev pub IsOver : Moment → Moment → Type 0
 IsOver start now = IfSome start.left (λ text. now.left ≡ Some [])
 
@@ -37,7 +37,7 @@ StepEnds start now line remaining (Ok true) = (read : List ℕ) × Follows start
 StepEnds start now line remaining (Ok false) = (read : List ℕ) × Follows start now line remaining read × IsOver start now
 StepEnds start now line remaining (Err status) = EndsAt start now status
 
--- a sink took this text, or a write failed behind a prefix, or memory ran out before
+-- a sink took this text, or a write failed after a prefix, or memory ran out before
 abbrev pub WritesDue : List ℕ → Option (List ℕ) → Option (List ℕ) → ℕ → ℕ → Result (Unit {0}) ℕ → Type 0
 WritesDue due old new before now (Ok done) = Gained old new due × (before ≤ now)
 WritesDue due old new before now (Err status) =

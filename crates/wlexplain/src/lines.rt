@@ -7,7 +7,7 @@ use fault_lines::explain_text;
 use std::alloc::Global;
 use wl_octets::Memory;
 
-/// Takes one byte behind what came of a line, and writes the line where it is whole.
+/// Takes one byte after what came of a line, and writes the line where it is whole.
 fn take_byte(alloc: Global, line: &mut Vec<u8>, out: &mut Vec<u8>, byte: u8) -> Result<(), Memory>
     ensures out { OnOk result (out.new.items ≡ out.old.items ++ whole_lines line.old.items (byte ∷ [])) }
     ensures line { OnOk result (line.new.items ≡ last_line line.old.items (byte ∷ [])) }
@@ -23,7 +23,7 @@ fn take_byte(alloc: Global, line: &mut Vec<u8>, out: &mut Vec<u8>, byte: u8) -> 
     Ok(())
 }
 
-/// Takes a piece behind what came of a line, and gives what is due for the lines that are whole.
+/// Takes a piece after what came of a line, and gives what is due for the lines that are whole.
 pub fn take_piece(alloc: Global, line: &mut Vec<u8>, piece: &[u8]) -> Result<Vec<u8>, Memory>
     ensures out { IfOk result (λ out. out.items ≡ whole_lines line.old.items piece.now) }
     ensures line { OnOk result (line.new.items ≡ last_line line.old.items piece.now) }

@@ -2,13 +2,14 @@
 
 ghost use Rattle.std.specs.Prelude.{◌≤◌, length, None};
 
-use wl_edge::{Link, Received, Sent, TrySent};
+use wl_edge::{Link, Origin, Received, Sent, TrySent};
 use wl_octets::Octets;
 
 /// A link that gives one piece so many times and then always another. It takes all that is sent, never fails,
 /// and tells nothing. Of a piece that is longer than what is lent only the front comes, and an empty one is idle.
 #[derive(Drop)]
 pub struct RepeatingLink {
+    pub origin: Origin,
     pub piece: Octets,
     pub times: u32,
     pub then: Octets,
@@ -24,6 +25,8 @@ fn copy_front(bytes: &[u8], into: &mut [u8]) -> usize
 }
 
 impl Link for RepeatingLink {
+    ghost origin = { λ l. l.origin };
+
     ghost told = { λ l. None };
 
     ghost failed_receives = { λ l. 0 };
@@ -31,6 +34,10 @@ impl Link for RepeatingLink {
     ghost failed_sends = { λ l. 0 };
 
     ghost stalls = { λ l. 0 };
+
+    fn origin(&self) -> &Origin {
+        &self.origin
+    }
 
     fn receive(&mut self, into: &mut [u8]) -> Received {
         let count = if self.times == 0 {

@@ -5,9 +5,9 @@ use Rattle.wl_client.specs.Assembling.{bytes_of}
 use Rattle.wl_client.proofs.Assemblies.{gains_part, ending_part, front_part, part_end}
 use Rattle.wl_client.proofs.assembly.assemble.Goals as goal
 
-pub returns-in-Err-finish-clause-front : goal.returns-in-Err-finish-clause-front
-returns-in-Err-finish-clause-front c =
-    front_part c.args.limit c.in-Ok.used (messages_of c.args.limit (bytes_of c.args.begun.now ++ c.args.piece.now)).messages c.loop-rest.begun c.take_part.new.begun c.loop-rest.rest.now c.args.into.now c.loop-rest.into c.finish.new.into c.in-Ok.ensures.bytes c.finish.ensures.front c.loop-rest.invariant.gains
+pub returns-in-Err-finish-clause-prefix : goal.returns-in-Err-finish-clause-prefix
+returns-in-Err-finish-clause-prefix c =
+    front_part c.args.limit c.in-Ok.used (messages_of c.args.limit (bytes_of c.args.begun.now ++ c.args.piece.now)).messages c.loop-rest.begun c.take_part.new.begun c.loop-rest.rest.now c.args.into.now c.loop-rest.into c.finish.new.into c.in-Ok.ensures.bytes c.finish.ensures.prefix c.loop-rest.invariant.gains
 
 pub loop-rest-preserved : goal.loop-rest-preserved
 loop-rest-preserved c =

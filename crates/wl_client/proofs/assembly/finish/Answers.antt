@@ -22,8 +22,8 @@ pub returns-else-len-length-clause-part : goal.returns-else-len-length-clause-pa
 returns-else-len-length-clause-part c =
     on_both c.tell.result _ _ _ (λ (next : c.tell.new.begun ≡ record { prefix = []; length = None; message = [] }) (same : c.tell.new.begun ≡ record { prefix = []; length = None; message = [] }). rw next (part_new c.args.limit)) c.tell.ensures.next c.tell.ensures.next
 
-pub returns-else-len-length-clause-front : goal.returns-else-len-length-clause-front
-returns-else-len-length-clause-front c =
+pub returns-else-len-length-clause-prefix : goal.returns-else-len-length-clause-prefix
+returns-else-len-length-clause-prefix c =
     let b = c.args.begun.now in
     let long : c.in-Some.length ≤ length b.message = omega arith in
-    rw (came_whole c.args.limit c.in-Some.length b c.in-Some.is long c.requires) c.tell.ensures.front
+    rw (came_whole c.args.limit c.in-Some.length b c.in-Some.is long c.requires) c.tell.ensures.prefix

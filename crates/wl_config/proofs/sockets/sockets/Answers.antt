@@ -17,7 +17,7 @@ loop-value-preserved c =
     let ok = rw (c.value-item.is, c.as_slice.ensures.value) at c.in_ok-added.ensures.value in
     let within = rw c.as_slice.ensures.value at c.in_ok-added.ensures.within in
     let taken = rw c.as_slice.ensures.value at c.in_ok-added.ensures.taken in
-    let few = rw c.as_slice.ensures.value at c.in_ok-added.ensures.few in
+    let few = rw c.as_slice.ensures.value at c.in_ok-added.ensures.at_most in
     rw c.in_ok-append.ensures (record {
       read = record {
         counted = omega (arith, c.loop-value.invariant.read.counted);

@@ -3,7 +3,7 @@ use Rattle.wl_control.specs.Escapes.{hex, escaped}
 use Rattle.wl_control.specs.Lines.{svid_line}
 use Rattle.wl_control.proofs.lines.put_svid.Goals as goal
 
--- seven texts behind each other, of which four are a name and a value
+-- seven texts after each other, of which four are a name and a value
 joined : (o a b c v d w e x f y z o1 o2 o3 o4 o5 o6 o7 : List ℕ) → o1 ≡ o ++ a → o2 ≡ o1 ++ b → o3 ≡ o2 ++ c ++ v → o4 ≡ o3 ++ d ++ w → o5 ≡ o4 ++ e ++ x → o6 ≡ o5 ++ f ++ y → o7 ≡ o6 ++ z
     → o7 ≡ o ++ (a ++ b ++ c ++ v ++ d ++ w ++ e ++ x ++ f ++ y ++ z)
 joined o a b c v d w e x f y z o1 o2 o3 o4 o5 o6 o7 h1 h2 h3 h4 h5 h6 h7 = rw (h7, h6, h5, h4, h3, h2, h1) (simp append_assoc)

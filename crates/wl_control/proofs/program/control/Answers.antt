@@ -1,7 +1,7 @@
 use Rattle.std.proofs.Common.{◌≡◌, refl, sym, ◌∙◌, Option, Some, None}
 use Rattle.wl_control.specs.declared.request.Request.{Request}
 use Rattle.wl_control.specs.Ends.{unfit, unread, called, lacks_memory}
-use Rattle.wl_control.proofs.Fitting.{is_unfit}
+use Rattle.wl_control.proofs.RequestWords.{is_unfit}
 use Rattle.wl_control.proofs.program.control.Goals as goal
 
 fits : (r : Option Request) (q : Request) (P : Type 0) → r ≡ Some q → r ≡ None → P

@@ -5,7 +5,7 @@ use Rattle.wl_control.specs.Ends.{Moment, moment}
 use Rattle.wl_control.specs.Standings.{Standing}
 use Rattle.wl_control.proofs.program.talk.Given as goal
 
--- wherever the call stood at first, it stands behind more answers
+-- wherever the call stood at first, it stands after more answers
 abbrev pub invariant-receives : goal.invariant-receives
 invariant-receives g l = (q : Request) (start : Moment) (answers : List Answer) → Standing q start
     (moment (g.L.Link.told l.fn.link) (g.K.Sink.taken l.fn.sink) (g.L.Link.failed_receives l.fn.link) (g.L.Link.failed_sends l.fn.link) (g.K.Sink.faults l.fn.sink))

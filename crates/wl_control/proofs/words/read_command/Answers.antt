@@ -1,5 +1,5 @@
 use Rattle.std.proofs.Common.{◌∙◌, ap, inl, inr, map, string_bytes, ⊎_elim}
-use Rattle.wl_control.proofs.Fitting.{asked_for, no_request_fits}
+use Rattle.wl_control.proofs.RequestWords.{asked_for, no_request_fits}
 use Rattle.wl_control.proofs.words.read_command.Goals as goal
 
 pub returns-in-Err-clause-unfit : goal.returns-in-Err-clause-unfit

@@ -1,5 +1,5 @@
 use Rattle.std.proofs.Common.{◌∙◌, ap, inl, inr, map, string_bytes, Some, None, ⊎_elim}
-use Rattle.wl_control.proofs.Fitting.{chosen_by, no_command}
+use Rattle.wl_control.proofs.RequestWords.{chosen_by, no_command}
 use Rattle.wl_control.proofs.words.read_request.Goals as goal
 
 pub returns-in-Err-read_command-clause-unfit : goal.returns-in-Err-read_command-clause-unfit

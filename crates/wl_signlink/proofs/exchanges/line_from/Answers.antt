@@ -1,5 +1,5 @@
 use Rattle.std.proofs.Common.{arith, refl, inl, inr}
-use Rattle.wl_edge.proofs.Reading.{begin_reading}
+use Rattle.wl_edge.proofs.Sources.{begin_reading}
 use Rattle.wl_signlink.proofs.Lines.{at_end, too_much, rose_later, line_done, more_came, none_came, too_long_came}
 use Rattle.wl_signlink.proofs.exchanges.line_from.Goals as goal
 

@@ -1,5 +1,5 @@
 use Rattle.std.proofs.Common.{◌≡◌, ◌≤◌, ◌<◌, ◌-◌, length, false}
-use Rattle.wl_edge.proofs.Reading.{Reading}
+use Rattle.wl_edge.proofs.Sources.{Reading}
 use Rattle.wl_signlink.specs.Exchanges.{has_newline}
 use Rattle.wl_signlink.proofs.exchanges.line_from.Given as goal
 

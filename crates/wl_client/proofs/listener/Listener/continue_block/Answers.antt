@@ -10,8 +10,8 @@ returns-in_ok-push_slice-in-Some-clause-said c =
     (sym (continued_at c.args.self.now c.in-Some.block c.args.more.now c.push_slice.new.self c.args.whole (search rules) (search rules) c.in_ok-push_slice-in-Some.ensures.ok))
     (rw c.replace.ensures.after at c.take_block.ensures.said)
 
-pub returns-in_ok-push_slice-in-Some-clause-front : goal.returns-in_ok-push_slice-in-Some-clause-front
-returns-in_ok-push_slice-in-Some-clause-front c =
+pub returns-in_ok-push_slice-in-Some-clause-prefix : goal.returns-in_ok-push_slice-in-Some-clause-prefix
+returns-in_ok-push_slice-in-Some-clause-prefix c =
     subst (λ (h : Hearing). GainsFront h.told c.args.into.now c.take_block.new.into)
     (sym (continued_at c.args.self.now c.in-Some.block c.args.more.now c.push_slice.new.self c.args.whole (search rules) (search rules) c.in_ok-push_slice-in-Some.ensures.ok))
-    (rw c.replace.ensures.after at c.take_block.ensures.front)
+    (rw c.replace.ensures.after at c.take_block.ensures.prefix)

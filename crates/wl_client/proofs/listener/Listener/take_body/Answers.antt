@@ -29,5 +29,5 @@ returns-in_default c =
       said = subst (λ (h : Hearing). Says h c.take_control.result c.args.into.now c.args.into.now c.args.out.now c.take_control.new.out l) same
           (writes_says due c.take_control.result c.args.into.now c.args.out.now c.take_control.new.out l (control_silent f.stream f.body l) c.take_control.ensures.said);
       told_front = front_none (body_heard f.stream f.body l).told c.args.into.now;
-      bytes_front = subst (λ (h : Hearing). GainsFront h.bytes c.args.out.now c.take_control.new.out) same c.take_control.ensures.front;
+      bytes_front = subst (λ (h : Hearing). GainsFront h.bytes c.args.out.now c.take_control.new.out) same c.take_control.ensures.prefix;
     }
