@@ -28,7 +28,7 @@ module _ (vouched : Ask → List (List ℕ) → JwtToken → Type 0) (links tell
   tended first v end h = record { unused = h.unused; is_unused = h.is_unused; told = h.told; pass = h.pass; seen = h.seen; mine = h.mine; sent = λ _. h.sent always }
 
   seat_ran : (first : Publication) (n : ℕ) (fact : SocketFact) (v : SeatView) → SeatRan vouched links tells first n fact v → SeatRan vouched ⊤ tells first n fact v
-  seat_ran first n fact v r = record { end = r.end; ended = r.ended; socket = r.socket; room = r.room; first = r.first; listened = r.listened; tended = tended first v r.end r.tended; listen = r.listen; wait = r.wait }
+  seat_ran first n fact v r = record { end = r.end; ended = r.ended; sockets = r.sockets; room = r.room; first = r.first; listened = r.listened; tended = tended first v r.end r.tended; listen = r.listen; wait = r.wait }
 
   all_ran : (first : Publication) (n : ℕ) (facts : List SocketFact) (vs : List SeatView) → AllRan vouched links tells first n facts vs → AllRan vouched ⊤ tells first n facts vs
   all_ran first n [] [] h = h

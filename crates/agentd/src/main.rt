@@ -7,6 +7,7 @@
 
 mod documents;
 mod ending;
+mod figuring;
 mod host;
 mod lazy_file;
 mod running;
@@ -51,10 +52,14 @@ fn start_log(rt: &HostRuntime, alloc: Global) -> Result<Arc<Log>, Memory> {
 }
 
 /// The real host, which has this log.
-fn start_host(rt: &HostRuntime, log: &Arc<Log>) -> Result<RealHost<HostRuntime>, Memory> {
+fn start_host(
+    rt: &HostRuntime,
+    alloc: Global,
+    log: &Arc<Log>,
+) -> Result<RealHost<HostRuntime>, Memory> {
     let own = rt.clone().map_err(|_| Memory)?;
     let log = Arc::try_clone(log).map_err(|_| Memory)?;
-    Ok(RealHost::start(own, log))
+    RealHost::start(own, alloc, log)
 }
 
 /// Serves by the configuration in this file. The log says why it ended.
@@ -68,7 +73,7 @@ fn serve_file(
     let Ok(log) = start_log(rt, alloc) else {
         return without_memory(rt, alloc);
     };
-    let Ok(binder) = start_host(rt, &log) else {
+    let Ok(binder) = start_host(rt, alloc, &log) else {
         return without_memory(rt, alloc);
     };
     let mut host = Host {
@@ -79,6 +84,9 @@ fn serve_file(
     };
     let status = serve_here(threads, alloc, words, &mut host);
     let is_prepared = host.parts.is_some();
+    if is_prepared {
+        host.binder.remove_files();
+    }
     say_end(&log, alloc, status, host.output.first_line(), is_prepared);
     status
 }
@@ -93,7 +101,7 @@ fn run_on_input(
     let Ok(log) = start_log(rt, alloc) else {
         return without_memory(rt, alloc);
     };
-    let Ok(binder) = start_host(rt, &log) else {
+    let Ok(binder) = start_host(rt, alloc, &log) else {
         return without_memory(rt, alloc);
     };
     let mut host = Host {

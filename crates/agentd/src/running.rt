@@ -2,7 +2,7 @@
 
 ghost use Rattle.std.specs.Prelude.{◌≡◌, ⊤, map, string_bytes, option_map, None, IsSome};
 ghost use Rattle.wl_agent.specs.ServeWords.{config_of};
-ghost use Rattle.wl_agent.specs.ServeEnds.{ServeExplains};
+ghost use Rattle.wl_agent.specs.Headline.{Headline};
 ghost use Rattle.wl_signlink.specs.Vouched.{RepliedToken};
 
 use crate::host::RealHost;
@@ -14,8 +14,8 @@ use wl_agent::{Host, run};
 use wl_edge::{Sink, Source};
 use wl_serve::{Binder, Parts, PartsShown};
 
-/// Serves over the operating system. What [`run`] says of `serve` holds with no premise: all that the real host prepares,
-/// and each of its links, tells its content.
+/// Serves over the operating system. The headline that [`run`] says of `serve` holds with no premise: all that the real host
+/// prepares, and each of its links, tells its content.
 pub(crate) fn serve_here<I: Source, O: Sink, R: Threads + Wait + Sync>(
     rt: &R,
     alloc: Global,
@@ -23,7 +23,7 @@ pub(crate) fn serve_here<I: Source, O: Sink, R: Threads + Wait + Sync>(
     host: &mut Host<I, O, RealHost<HostRuntime>>,
 ) -> u8
     requires { host.old.parts ≡ None }
-    ensures serves { IsSome (config_of (map string_bytes words.now)) → ServeExplains RepliedToken ⊤ ⊤
+    ensures headline { IsSome (config_of (map string_bytes words.now)) → Headline RepliedToken ⊤ ⊤
         (record {
           content = I.left host.old.input;
           before = O.taken host.old.output;

@@ -1,5 +1,5 @@
 pub mod Keeps
 pub mod Statuses
-mod Explained
-mod Fitting
+mod StatusRows
+mod RequestWords
 mod Sole

@@ -45,7 +45,7 @@ reads (Some (Read r)) = true
 reads (Some (Simulate s)) = false
 
 -- What a run did to its two streams: the source's content before it, what the sink took before it and after it, each
--- where it is told, and how often a read and a write failed before it and after it.
+-- where it is recorded, and how often a read and a write failed before it and after it.
 pub record Traffic : Type 0 where
   pub content : Option (List ℕ)
   pub before : Option (List ℕ)

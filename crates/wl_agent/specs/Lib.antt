@@ -5,3 +5,4 @@ pub mod Outcomes
 pub mod Ends
 pub mod ServeWords
 pub mod ServeEnds
+pub mod Headline

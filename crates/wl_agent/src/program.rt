@@ -137,7 +137,7 @@ pub(crate) fn run_command<I: Source, O: Sink>(
           writes_before = O.faults output.old;
           writes_after = O.faults output.new;
         }) result }
-    // the status that is due is given, but for a failed read or write and where memory runs out
+    // the status that is due is given, except a failed read or write and where memory runs out
     ensures complete { StatusGiven (command_of (map string_bytes words.now)) (I.left input.old) result }
     // where the words fit no command, or a simulation, nothing is read
     ensures idle { reads (command_of (map string_bytes words.now)) ≡ false → input.new ≡ input.old }

@@ -7,11 +7,13 @@ ghost use Rattle.wl_agent.specs.Args.{command_of};
 ghost use Rattle.wl_agent.specs.Ends.{reads, StatusExplains, StatusGiven};
 ghost use Rattle.wl_agent.specs.ServeWords.{config_of, sole};
 ghost use Rattle.wl_agent.specs.ServeEnds.{ServeExplains};
+ghost use Rattle.wl_agent.specs.Headline.{Headline};
 
 use crate::program::{READ_LIMIT, run_command};
 use crate::serve_ends::serve_outcome;
 use crate::status::{OUT_OF_MEMORY, READ_FAILED, WRITE_FAILED};
 use ask_mail::TokenAsks;
+use laws_headline::headline_holds;
 use std::alloc::Global;
 use std::string::String;
 use std::sync::Wait;
@@ -176,7 +178,7 @@ pub fn run<I: Source, O: Sink, B: Binder, R: Threads + Wait + Sync>(
           writes_before = O.faults host.old.output;
           writes_after = O.faults host.new.output;
         }) result }
-    // the status that is due is given, but for a failed read or write and where memory runs out
+    // the status that is due is given, except a failed read or write and where memory runs out
     ensures complete { config_of (map string_bytes words.now) ≡ None
         → StatusGiven (command_of (map string_bytes words.now)) (I.left host.old.input) result }
     // where the words fit no command, or a simulation, nothing is read
@@ -185,8 +187,8 @@ pub fn run<I: Source, O: Sink, B: Binder, R: Threads + Wait + Sync>(
     // no other command touches the binder, or prepares anything
     ensures apart { config_of (map string_bytes words.now) ≡ None
         → (host.new.binder ≡ host.old.binder) × (host.new.parts ≡ None) }
-    // `serve`: each status with its cause, what was written, and what stands of the parts
-    ensures serves { IsSome (config_of (map string_bytes words.now)) → ServeExplains B.Sign.V.token ((l : B.Listen.L) → IsSome (B.Listen.L.told l)) B.tells
+    // `serve`: each status with its cause, what was written, what its connections were sent, and the laws of the headline
+    ensures headline { IsSome (config_of (map string_bytes words.now)) → Headline B.Sign.V.token ((l : B.Listen.L) → IsSome (B.Listen.L.told l)) B.tells
         (record {
           content = I.left host.old.input;
           before = O.taken host.old.output;
@@ -203,6 +205,7 @@ pub fn run<I: Source, O: Sink, B: Binder, R: Threads + Wait + Sync>(
         }) result }
 {
     if config_path(words).is_some() {
+        headline_holds();
         return run_serve(rt, alloc, host);
     }
     run_command(alloc, words, &mut host.input, &mut host.output)

@@ -1,4 +1,4 @@
 mod Texts
 mod Steps
-mod Replaying
-mod Simulating
+mod Worlds
+mod Simulations

@@ -20,7 +20,7 @@ faults_first (Conn n) r f h = ap (λ r. r >>= f) h
 faults_first (Hex n) r f h = ap (λ r. r >>= f) h
 faults_first (TooLong n) r f h = ap (λ r. r >>= f) h
 
--- a fault of the second step, behind a first one that went well
+-- a fault of the second step, after a first one that went well
 pub faults_second : {X Y Z : Type 0} (e : ScriptFault) (r : Result X ScriptFault) (x : X) (s : Result Y ScriptFault) (f : X → Y → Result Z ScriptFault) → r ≡ Ok x → Faults e s → Faults e (r >>= λ x. s >>= f x)
 faults_second e r x s f ok h = subst (λ r. Faults e (r >>= λ x. s >>= f x)) (sym ok) (faults_first e s (f x) h)
 

@@ -3,7 +3,7 @@ use Rattle.std.specs.Prelude.{◌≡◌, Result, Ok, Err}
 use Rattle.wl_replay.specs.declared.fault.ScriptFault.{ScriptFault}
 use Rattle.wl_replay.specs.declared.fault.ScriptFault.TheVariants.{Line, Kind, Conn, Hex, TooLong, Memory}
 
--- This fault is the one that is due. Want of memory is free.
+-- This fault is the one that is due. Out of memory is free.
 abbrev pub Faults : {Y : Type 0} → ScriptFault → Result Y ScriptFault → Type 0
 Faults Memory due = Unit {0}
 Faults (Line n) due = due ≡ Err (Line n)

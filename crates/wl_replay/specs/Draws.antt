@@ -2,7 +2,7 @@
 -- All of it is modulo 2^64.
 use Rattle.std.specs.Prelude.{ℕ, ◌+◌, ◌*◌, ◌/◌, ◌%◌, ◌^◌, bit_xor}
 
--- the state behind this one
+-- the state after this one
 unfoldable pub state_after : ℕ → ℕ
 state_after z = (z + 0x9e3779b97f4a7c15) % 2 ^ 64
 

@@ -153,7 +153,7 @@ close_of n (w ∷ []) = do
   Ok (events.Close conn)
 close_of n ws = Err (Line n)
 
--- the words behind the first
+-- the words after the first
 unfoldable pub event_by : EventKind → ℕ → List (List ℕ) → Result Event ScriptFault
 event_by kind.Sync n ws = sync_of n ws
 event_by kind.Strict n ws = Err (Line n)

@@ -11,7 +11,7 @@ use Rattle.wl_core.specs.Lines.{transcript, onto}
 use Rattle.wl_replay.specs.declared.script.Script.{Script}
 use Rattle.wl_replay.specs.Lines.{line_text}
 
--- lines one behind the other
+-- lines one after the other
 unfoldable pub lines_text : List Line → List ℕ
 lines_text lines = flat_map line_text lines
 

@@ -35,7 +35,7 @@ start_in n (w ∷ ws) = do
 abbrev pub start_of : Numbered → Result Start ScriptFault
 start_of l = start_in l.number (words_of l.line)
 
--- the events of the lines behind the first
+-- the events of the lines after the first
 unfoldable pub events_of : List Numbered → Result (List Event) ScriptFault
 events_of [] = Ok []
 events_of (l ∷ ls) = do
@@ -43,7 +43,7 @@ events_of (l ∷ ls) = do
   events ← events_of ls
   Ok (event ∷ events)
 
--- The lines that say something, of a script of so many lines. Where there are none, the line behind the last is missed.
+-- The lines that say something, of a script of so many lines. Where there are none, the line after the last is missed.
 unfoldable pub script_in : ℕ → List Numbered → Result Script ScriptFault
 script_in count [] = Err (Line (count + 1))
 script_in count (l ∷ ls) = do

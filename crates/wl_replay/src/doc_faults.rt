@@ -63,7 +63,7 @@ fn put_placed_id(out: &mut Vec<u8>, place: Place, fault: IdFault) -> Result<(), 
     put_id(out, fault)
 }
 
-/// Appends the numbers of a document's fault, each behind a space.
+/// Appends the numbers of a document's fault, each after a space.
 #[tactic(auto, unfolding(crate::specs::Faults::fault_numbers))]
 pub fn put_fault(out: &mut Vec<u8>, fault: DocFault) -> Result<(), Memory>
     ensures { OnOk result (out.new.items ≡ out.old.items ++ spaced_all (fault_numbers fault)) }

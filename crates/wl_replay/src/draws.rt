@@ -10,7 +10,7 @@ const FIRST_FACTOR: u64 = 0xbf58_476d_1ce4_e5b9;
 
 const SECOND_FACTOR: u64 = 0x94d0_49bb_1331_11eb;
 
-/// The state behind this one.
+/// The state after this one.
 #[tactic(auto, unfolding(crate::specs::Draws::state_after))]
 pub(crate) fn state_after(state: u64) -> u64
     ensures { result ≡ state_after state }

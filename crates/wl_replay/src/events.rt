@@ -1,4 +1,4 @@
-//! The lines of a script as events. Each reader takes the line's number and the words behind its first.
+//! The lines of a script as events. Each reader takes the line's number and the words after its first.
 
 ghost use Rattle.std.specs.Prelude.{◌≡◌, map, IfOk};
 ghost use Rattle.wl_core.specs.Events.{IsWithin};

@@ -130,7 +130,7 @@ pub(crate) fn document(alloc: Global, callers: u32, named: &[bool]) -> Result<Oc
     Ok(Octets::from_vec(text))
 }
 
-/// The selector of a caller. Each such text is one, as tests show; were it none, this would be answered as want of memory.
+/// The selector of a caller. Each such text is one, as tests show; were it none, this would be answered as out of memory.
 fn selector(alloc: Global, conn: u32) -> Result<Selector, Memory>
     ensures { IfOk result (λ s. s ≡ caller_selector conn) }
 {

@@ -48,7 +48,7 @@ fn pair(high: u8, low: u8) -> Option<u8>
     Some(16 * high + low)
 }
 
-/// The first two digits, and what comes behind them.
+/// The first two digits, and what comes after them.
 fn first_pair(word: &[u8]) -> Option<(u8, u8, &[u8])>
     ensures some { IfSome result (λ p. word.now ≡ p.0 ∷ p.1 ∷ p.2.now) }
     ensures none { result ≡ None → length word.now < 2 }

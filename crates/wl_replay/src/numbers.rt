@@ -18,7 +18,7 @@ pub fn put_decimal(out: &mut Vec<u8>, number: u64) -> Result<(), Memory>
     Ok(())
 }
 
-/// Appends a number behind a space.
+/// Appends a number after a space.
 pub fn put_spaced(out: &mut Vec<u8>, number: u64) -> Result<(), Memory>
     ensures { OnOk result (out.new.items ≡ out.old.items ++ spaced number) }
 {
@@ -26,7 +26,7 @@ pub fn put_spaced(out: &mut Vec<u8>, number: u64) -> Result<(), Memory>
     put_decimal(out, number)
 }
 
-/// Appends each number behind a space.
+/// Appends each number after a space.
 #[tactic(auto, unfolding(fault_lines::specs::Lines::spaced_all))]
 pub fn put_all(out: &mut Vec<u8>, numbers: &[u64]) -> Result<(), Memory>
     ensures { OnOk result (out.new.items ≡ out.old.items ++ spaced_all numbers.now) }

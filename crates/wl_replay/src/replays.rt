@@ -17,7 +17,7 @@ use wl_core::{Event, Line, World};
 use wl_document::DocFault;
 use wl_octets::{Memory, Octets, Row};
 
-/// The lines one behind the other.
+/// The lines one after the other.
 #[tactic(auto, unfolding(crate::specs::Replays::lines_text))]
 fn text_of(alloc: Global, lines: &[Line]) -> Result<Octets, Memory>
     ensures { IfOk result (λ o. o ≡ lines_text lines.now) }

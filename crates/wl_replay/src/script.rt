@@ -33,7 +33,7 @@ pub(crate) struct Start {
     pub(crate) strict: bool,
 }
 
-/// A document behind the first word.
+/// A document after the first word.
 #[tactic(auto, unfolding(crate::specs::Scripts::started))]
 fn started(alloc: Global, strict: bool, at: usize, words: &[&[u8]]) -> Result<Start, ScriptFault>
     ensures { Gives result (started strict at (map (λ w. w.now) words.now)) }
@@ -82,7 +82,7 @@ fn first_line(alloc: Global, at: usize, line: &[u8]) -> Result<Start, ScriptFaul
     start_in(alloc, at, words.as_slice())
 }
 
-/// The events of a text that comes behind so many lines.
+/// The events of a text that comes after so many lines.
 fn further_events(alloc: Global, count: usize, text: &[u8]) -> Result<Row<Event>, ScriptFault>
     requires { count + length text.now ≤ SCRIPT_LIMIT }
     ensures value { Gives result (events_of (telling count (lines_of text.now))) }
@@ -119,7 +119,7 @@ fn read_lines(alloc: Global, text: &[u8]) -> Result<Script, ScriptFault>
 }
 
 /// Reads a script. Its first event line, `sync HEX` or `strict HEX`, gives the document and whether the store is strict;
-/// each further one gives an event. Where it is no script the first fault is told, with its line.
+/// each further one gives an event. Where it is no script the first fault is given, with its line.
 #[tactic(auto, unfolding(crate::specs::Scripts::script_of))]
 pub fn read_script(alloc: Global, script: &[u8]) -> Result<Script, ScriptFault>
     // what is read is the script that these bytes are

@@ -183,7 +183,7 @@ fn join_all(alloc: Global, world: &mut World, callers: u32) -> Result<(), Memory
 }
 
 /// The world that the first document begins. The document has no fault, as tests show; had it one, this would be answered
-/// as want of memory.
+/// as out of memory.
 fn begin(alloc: Global, callers: u32, named: &[bool]) -> Result<World, Memory>
     requires callers { 0 < callers }
     requires named { length named.now ≤ MAX_ENTRIES }

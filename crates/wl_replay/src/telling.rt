@@ -31,7 +31,7 @@ fn tail(text: &[u8]) -> &[u8]
     }
 }
 
-/// The first line of a text, and what comes behind its newline.
+/// The first line of a text, and what comes after its newline.
 fn cut_line(text: &[u8]) -> (&[u8], &[u8])
     requires { 0 < length text.now }
     ensures lines { lines_of text.now ≡ result.0.now ∷ lines_of result.1.now }
@@ -51,7 +51,7 @@ fn is_silent(line: &[u8]) -> bool
     }
 }
 
-/// A line that says something, its number, and what comes behind it.
+/// A line that says something, its number, and what comes after it.
 #[derive(Clone, Copy)]
 pub(crate) struct Telling<'a> {
     pub(crate) number: usize,
@@ -59,7 +59,7 @@ pub(crate) struct Telling<'a> {
     pub(crate) rest: &'a [u8],
 }
 
-/// The next line that says something, behind so many lines.
+/// The next line that says something, after so many lines.
 pub(crate) fn next_telling(count: usize, text: &[u8]) -> Option<Telling<'_>>
     requires { count + length text.now ≤ SCRIPT_LIMIT }
     ensures found { IfSome result (λ t. telling count (lines_of text.now)

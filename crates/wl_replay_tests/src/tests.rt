@@ -31,7 +31,7 @@ fn first_lines(rt: HostRuntime) -> Result<(), Fail> {
     Ok(())
 }
 
-/// What this line is read as, behind a first one.
+/// What this line is read as, after a first one.
 fn read_further(alloc: Global, line: &str) -> Result<String, Fail> {
     let mut script = String::from_str(alloc, "#\nsync 00\n")?;
     script.push_str(line)?;

@@ -31,7 +31,7 @@ pub static FIRST_LINES: [(&str, &str); 27] = [
     ("\n#\nstrict 0a\n#\n", "strict 0a"),
 ];
 
-/// Lines behind `#` and `sync 00`.
+/// Lines after `#` and `sync 00`.
 pub static FURTHER_LINES: [(&str, &str); 18] = [
     ("", "sync 00"),
     ("\n\n#x", "sync 00"),

@@ -1,5 +1,5 @@
 use Rattle.std.proofs.Common.{◌∙◌, sym, inl, inr, ⊎_elim}
-use Rattle.wl_agent.proofs.Fitting.{request_fits, no_request_fits}
+use Rattle.wl_agent.proofs.RequestWords.{request_fits, no_request_fits}
 use Rattle.wl_agent.proofs.args.read_command.Goals as goal
 
 pub returns-in-Err-clause-unfit : goal.returns-in-Err-clause-unfit

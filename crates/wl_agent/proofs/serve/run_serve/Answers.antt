@@ -2,7 +2,7 @@ use Rattle.std.proofs.Common.{◌∙◌, ap, refl, subst, Err}
 use Rattle.wl_edge.specs.Edge.{Gained, GainedPrefix}
 use Rattle.wl_edge.specs.declared.drain.ReadFault.{ReadFault}
 use Rattle.wl_agent.specs.ServeEnds.{unread, memory}
-use Rattle.wl_agent.proofs.Explained.{nothing_prepared, nothing_kept, came_to, ends_so, writes_so, no_line}
+use Rattle.wl_agent.proofs.StatusRows.{nothing_prepared, nothing_kept, came_to, ends_so, writes_so, no_line}
 use Rattle.wl_agent.proofs.serve.run_serve.Goals as goal
 
 pub returns-in-Err-Failed : goal.returns-in-Err-Failed

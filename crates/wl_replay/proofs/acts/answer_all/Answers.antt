@@ -3,7 +3,7 @@ use Rattle.std.proofs.lemmas.List.{take_more}
 use Rattle.wl_core.specs.Lines.{onto}
 use Rattle.wl_core.specs.Worlds.{StandsFor}
 use Rattle.wl_replay.specs.Simulations.{identity_events}
-use Rattle.wl_replay.proofs.Simulating.{one_more_answer}
+use Rattle.wl_replay.proofs.Simulations.{one_more_answer}
 use Rattle.wl_replay.proofs.acts.answer_all.Goals as goal
 
 pub loop-line-preserved : goal.loop-line-preserved

@@ -1,5 +1,5 @@
 use Rattle.std.proofs.Common.{false}
-use Rattle.wl_replay.proofs.Simulating.{entry_next, entry_written}
+use Rattle.wl_replay.proofs.Simulations.{entry_next, entry_written}
 use Rattle.wl_replay.proofs.generated.put_entries.Goals as goal
 
 pub loop-at-preserved : goal.loop-at-preserved

@@ -1,6 +1,6 @@
 use Rattle.std.proofs.Common.{◌∙◌, ap, refl}
 use Rattle.wl_replay.specs.Simulations.{flag, piece_of}
-use Rattle.wl_replay.proofs.Simulating.{feed_reached}
+use Rattle.wl_replay.proofs.Simulations.{feed_reached}
 use Rattle.wl_replay.proofs.simulation.feed.Goals as goal
 
 pub returns-clause-reached : goal.returns-clause-reached

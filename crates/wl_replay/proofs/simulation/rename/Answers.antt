@@ -1,7 +1,7 @@
 use Rattle.std.proofs.Common.{◌∙◌, ap, refl}
 use Rattle.wl_replay.specs.Generated.{document_text}
 use Rattle.wl_replay.specs.Simulations.{renamed}
-use Rattle.wl_replay.proofs.Simulating.{rename_reached}
+use Rattle.wl_replay.proofs.Simulations.{rename_reached}
 use Rattle.wl_replay.proofs.simulation.rename.Goals as goal
 
 pub returns-clause-reached : goal.returns-clause-reached

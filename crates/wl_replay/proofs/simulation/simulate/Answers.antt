@@ -3,7 +3,7 @@ use Rattle.wl_document.specs.Documents.{document_state}
 use Rattle.wl_core.specs.Worlds.{StandsFor}
 use Rattle.wl_replay.specs.declared.simulation.Generator.{Generator}
 use Rattle.wl_replay.specs.Generated.{document_text}
-use Rattle.wl_replay.proofs.Simulating.{simulated_by}
+use Rattle.wl_replay.proofs.Simulations.{simulated_by}
 use Rattle.wl_replay.proofs.simulation.simulate.Goals as goal
 
 pub returns : goal.returns

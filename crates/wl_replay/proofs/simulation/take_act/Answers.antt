@@ -2,7 +2,7 @@ use Rattle.std.proofs.Common.{◌+◌, sym, subst, refl}
 use Rattle.wl_replay.specs.declared.simulation.Generator.{Generator}
 use Rattle.wl_replay.specs.Simulations.{after_act}
 use Rattle.wl_replay.specs.Stands.{Reached}
-use Rattle.wl_replay.proofs.Simulating.{claim_reached, wait_reached, turn_reached}
+use Rattle.wl_replay.proofs.Simulations.{claim_reached, wait_reached, turn_reached}
 use Rattle.wl_replay.proofs.simulation.take_act.Goals as goal
 
 pub returns-in_ok-claim-in-Claim-clause-reached : goal.returns-in_ok-claim-in-Claim-clause-reached

@@ -1,7 +1,7 @@
 use Rattle.std.proofs.Common.{◌∙◌, refl}
 use Rattle.wl_replay.specs.declared.simulation.Generator.{Generator}
 use Rattle.wl_replay.specs.Simulations.{act_of}
-use Rattle.wl_replay.proofs.Simulating.{step_reached}
+use Rattle.wl_replay.proofs.Simulations.{step_reached}
 use Rattle.wl_replay.proofs.simulation.take_step.Goals as goal
 
 pub returns-clause-reached : goal.returns-clause-reached
