@@ -15,8 +15,9 @@ FUNCTION_LINES = 40
 # functions that are one table or one match, and one that starts all threads
 LONG_FUNCTIONS = {"h2_frame body", "hpack static_name", "wl_core step", "wl_serve serve_all"}
 PROGRAMS = ["agentd", "wlctl", "wlexplain"]
-# words of pages that an English reader stumbles over; "behind" may be said of sockets alone
-STRUCK = r"\b(?:is told|are told|want of memory|lives through|as fit|but for|of which it is known|behind(?! (?:a|three) (?:Unix )?sockets?| a signer))\b"
+# words of pages and comments that an English reader stumbles over; "behind" may be said of sockets alone
+STRUCK = r"\b(?:is told|are told|want of memory|lives through|as fit|but for|of which it is known|behind(?! (?:a|the|three) (?:Unix )?sockets?| a signer))\b"
+COMMENT = r"^\s*(?://[/!]?|--)(.*)$"
 # pages that list what was said in their time
 OLD_PAGES = {"CHANGELOG.md"}
 faults = []
@@ -41,7 +42,10 @@ def check_layout(files):
     if (TOP / "HANDLES").read_text().strip() != HANDLES:
         fault("HANDLES: not the one line that it has to be")
     listed = list(uses())
+    design = (TOP / "docs" / "DESIGN.md").read_text()
     for name in listed:
+        if f"`{name}`" not in design:
+            fault(f"docs/DESIGN.md: it doesn't name {name}")
         if not (TOP / "crates" / name / "src").is_dir():
             fault(f"crates.txt: there is no crates/{name}/src")
         if not (TOP / "crates" / name / "README.md").is_file():
@@ -60,6 +64,9 @@ def check_layout(files):
             fault(f"{name}: more than {FILE_LINES} lines")
         if re.search(r"\bhole\b|\bTODO\b|\bFIXME\b", text):
             fault(f"{name}: something is left open")
+        for comment in re.findall(COMMENT, text, flags=re.M):
+            for word in re.findall(STRUCK, comment, flags=re.I):
+                fault(f"{name}: plain English has no {word!r}")
 
 
 def below(name, used):
@@ -99,21 +106,27 @@ def check_functions(files):
                 fault(f"{path.relative_to(TOP)}: {found[1]} has {lines} lines, above {FUNCTION_LINES}")
 
 
+def check_edit(path, lines):
+    """Each old text of an edit stands once in its file."""
+    target = None
+    for line in lines:
+        if line.startswith("file: "):
+            target = path.parent.parent / line[len("file: "):]
+            if not target.is_file():
+                fault(f"{path.relative_to(TOP)}: there is no {line[6:]}")
+                break
+        elif line.startswith("old: ") and target.read_text().count(line[len("old: "):]) != 1:
+            fault(f"{path.relative_to(TOP)}: an old text does not stand there once: {line[5:]}")
+            break
+
+
 def check_edits(files):
     for path in files:
-        if path.suffix != ".edit":
-            continue
-        crate = path.parent.parent
-        target = None
-        for line in path.read_text().splitlines():
-            if line.startswith("file: "):
-                target = crate / line[len("file: "):]
-                if not target.is_file():
-                    fault(f"{path.relative_to(TOP)}: there is no {line[6:]}")
-                    break
-            elif line.startswith("old: ") and target.read_text().count(line[len("old: "):]) != 1:
-                fault(f"{path.relative_to(TOP)}: its old text does not stand there once")
-                break
+        if path.suffix == ".edit":
+            check_edit(path, path.read_text().splitlines())
+        elif path.parts[-2:] == ("must-fail", "more.md"):
+            for body in re.split(r"^## .*$", path.read_text(), flags=re.M)[1:]:
+                check_edit(path, [line[4:] for line in body.splitlines() if line.startswith("    ")])
 
 
 def check_pages(files):
@@ -130,6 +143,17 @@ def check_pages(files):
         if str(path.relative_to(TOP)) not in OLD_PAGES:
             for word in re.findall(STRUCK, text, flags=re.I):
                 fault(f"{path.relative_to(TOP)}: plain English has no {word!r}")
+
+
+def check_proof_names(files):
+    """The section on proofs of a crate's README names files of that crate."""
+    for path in files:
+        if path.name != "README.md" or path.parent.parent != TOP / "crates":
+            continue
+        modules = {it.stem for it in path.parent.glob("*/**/*.antt")}
+        for section in re.findall(r"^## Proofs$(.*?)(?=^## |\Z)", path.read_text(), flags=re.M | re.S):
+            for name in sorted(set(re.findall(r"`([A-Z]\w+)`", section)) - modules):
+                fault(f"{path.relative_to(TOP)}: there is no file {name} in its proofs")
 
 
 def contract(text, name):
@@ -245,6 +269,7 @@ def main():
     check_functions(files)
     check_edits(files)
     check_pages(files)
+    check_proof_names(files)
     check_promises()
     check_trust()
     check_version()

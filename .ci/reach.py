@@ -81,7 +81,7 @@ def owners(text):
     """Where each impl, trait and type stands: its places, and its type's name."""
     for found in re.finditer(KINDS, text, flags=re.M):
         head = re.sub(r"<[^<>]*>", "", re.sub(r"<[^<>]*>", "", re.sub(r"<[^<>]*>", "", found["head"])))
-        head = head.split(" for ")[-1].split(" where ")[0].split(":")[0]
+        head = re.split(r"\swhere\s", head.split(" for ")[-1])[0].split(":")[0]
         names = re.findall(NAME, head)
         brace = re.search(r"[{;]", text[found.end("head"):])
         if names and brace:
