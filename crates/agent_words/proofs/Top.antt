@@ -79,7 +79,7 @@ pub leads_serve : Leads (codes "serve") (sub serve)
 unfolding walked defaults_fault
 leads_serve = record { turn = refl; stops = refl; faults = λ ws. refl; finds = λ ws. refl }
 
--- ---- a first word that is no command's name
+-- ---- a first word that isn't a command's name
 
 record IsOther (w : Text) : Type 0 where
   preview : bytes_eq (codes "preview") w ≡ false
@@ -142,7 +142,7 @@ module _ (w : Text) (o : IsOther w) where
 
 -- ---- all words
 
--- The words are refused where they are no request; else what is found is the request.
+-- The words are refused where they aren't a request; else what is found is the request.
 abbrev pub Parses : List Text → Option (Text × List Text) → Type 0
 Parses words None = Faulty (fault_of agentd words)
 Parses words (Some p) = (fault_of agentd words ≡ []) × ((rows : List Row) × (subcommand_of agentd words ≡ Some (p.0, rows)) × (operands_in p.0 rows ≡ p.1))

@@ -75,7 +75,7 @@ pub leads_health_watch : Leads (codes "health-watch") (sub health_watch)
 unfolding walked defaults_fault
 leads_health_watch = record { turn = refl; stops = refl; faults = λ ws. refl; finds = λ ws. refl }
 
--- ---- a first word that is no command's name
+-- ---- a first word that isn't a command's name
 
 record IsOther (w : Text) : Type 0 where
   fetch : bytes_eq (codes "fetch") w ≡ false
@@ -137,7 +137,7 @@ module _ (w : Text) (o : IsOther w) where
 
 -- ---- all words
 
--- The words are refused where they are no request; else what is found is the request.
+-- The words are refused where they aren't a request; else what is found is the request.
 abbrev pub Parses : List Text → Option (Text × List Text) → Type 0
 Parses words None = Faulty (fault_of wlctl words)
 Parses words (Some p) = (fault_of wlctl words ≡ []) × ((rows : List Row) × (subcommand_of wlctl words ≡ Some (p.0, rows)) × (operands_in p.0 rows ≡ p.1))

@@ -8,7 +8,7 @@ abbrev pub ending_of : Option MessageFault → List ℕ → End
 ending_of None pending = Rest pending
 ending_of (Some fault) pending = Fault fault
 
--- what is kept is no whole message
+-- what is kept isn't a whole message
 abbrev pub IsPart : ℕ → Option MessageFault → List ℕ → Type 0
 IsPart limit None pending = first_message limit pending ≡ partial
 IsPart limit (Some fault) pending = Unit {0}

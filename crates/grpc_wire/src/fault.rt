@@ -5,7 +5,7 @@ use wl_octets::Memory;
 /// Why no more messages are cut. The first such cause in a body is its last.
 #[derive(Clone, Copy, Debug, PartialEq, Eq)]
 pub enum MessageFault {
-    /// A message's first byte, which isn't 0: the message is compressed, or this is no gRPC.
+    /// A message's first byte, which isn't 0: the message is compressed, or this isn't gRPC.
     Flag(u8),
     /// A message of this many bytes, above the limit.
     TooLong(u32),

@@ -24,11 +24,11 @@ pub enum Refusal {
     LongRequest,
     /// The request has no message, or more than one.
     Count,
-    /// The request's message is no Protocol Buffers message of its kind.
+    /// The request's message isn't a Protocol Buffers message of its kind.
     Undecodable,
     /// A FetchJWTSVID without an audience.
     NoAudience,
-    /// A FetchJWTSVID of something that is no SPIFFE ID.
+    /// A FetchJWTSVID of something that isn't a valid SPIFFE ID.
     BadId,
     /// The caller is entitled to nothing that was asked for.
     NoIdentity,

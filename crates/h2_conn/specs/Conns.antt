@@ -75,7 +75,7 @@ goaway f = frame_encoding (record { stream = 0; body = GoAway f.last_stream f.co
 abbrev pub failed_phase : ConnFault → State → Phase
 failed_phase f q = Failed f (q.outbox.control ++ goaway f) (totals_of q)
 
--- where bytes that are no frames leave a connection, and the fault that it then has: the first one
+-- where bytes that aren't frames leave a connection, and the fault that it then has: the first one
 abbrev pub after_frame_fault : FrameFault → Phase → Phase
 after_frame_fault why (Open q) = failed_phase (failure q (cause_of why)) q
 after_frame_fault why (Failed fault left totals) = Failed fault left totals

@@ -41,7 +41,7 @@ code_of (cause.Flood kind count) = ENHANCE_YOUR_CALM
 abbrev pub failure : State → ConnCause → ConnFault
 failure q why = record { code = code_of why; last_stream = q.last_stream_id; cause = why }
 
--- RFC 9113, sections 3.4, 4.2 and 6.1: the cause of bytes that are no frames. Nobody asks it of running out of memory, which is no fault of the peer.
+-- RFC 9113, sections 3.4, 4.2 and 6.1: the cause of bytes that aren't frames. Nobody asks it of running out of memory, which isn't a fault of the peer.
 abbrev pub cause_of : FrameFault → ConnCause
 cause_of (frames.BadPreface at) = cause.Preface at
 cause_of (frames.TooLarge length) = cause.TooLarge length

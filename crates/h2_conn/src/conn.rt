@@ -108,7 +108,7 @@ fn failed_phase(
     })
 }
 
-/// The cause of bytes that are no frames.
+/// The cause of bytes that aren't frames.
 fn cause_of(why: FrameFault) -> ConnCause
     requires { why ≡ frames.Memory → ⊥ }
     ensures { result ≡ cause_of why }
@@ -203,7 +203,7 @@ impl Conn {
         }
     }
 
-    /// Fails the connection for bytes that are no frames, and answers the fault. Where it has
+    /// Fails the connection for bytes that aren't frames, and answers the fault. Where it has
     /// failed before, it answers that fault.
     pub fn fail(&mut self, why: FrameFault) -> Result<ConnFault, Memory>
         requires { why ≡ frames.Memory → ⊥ }

@@ -17,7 +17,7 @@ is_request_name name = bytes_eq name (codes ":method") || bytes_eq name (codes "
 abbrev pub is_unknown : Header → Bool
 is_unknown h = is_pseudo_field h && not (is_request_name h.name)
 
--- the fields from the first one on that is no pseudo-header
+-- the fields from the first one on that isn't a pseudo-header
 abbrev pub regular_part : List Header → List Header
 regular_part hs = drop (prefix_len is_pseudo_field hs) hs
 

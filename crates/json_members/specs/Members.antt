@@ -1,5 +1,5 @@
 -- A member of an object: whether it is there, and what kind its value is (own rules); F are the faults of the caller.
--- null is no value of any kind. Unknown members are ignored.
+-- null isn't a value of any kind. Unknown members are ignored.
 use Rattle.std.specs.Prelude.{◌≡◌, ℕ, List, [], ◌∷◌, Option, Some, None, option_and_then, Result, Ok, Err, ⊤}
 use Rattle.serde_json.specs.Data.{Data, Items, no_items, item}
 use Rattle.serde_json.specs.Find.{get, as_object, as_str, as_number, as_u64, as_array}

@@ -1,4 +1,4 @@
--- The first fault of a text that is no SPIFFE ID, in the order of the rules, with its place.
+-- The first fault of a text that isn't a valid SPIFFE ID, in the order of the rules, with its place.
 use Rattle.std.specs.Prelude.{ℕ, ◌+◌, ◌≡◌, ◌==◌, ◌&&◌, Bool, false, not, nat_lt, if◌then◌else◌, List, [], ◌∷◌, length, codes, take, drop, position, Option, Some, None, Result, Ok, Err}
 use Rattle.std.specs.Str.{bytes_eq}
 use Rattle.std.specs.List.{slice_split}

@@ -60,7 +60,7 @@ fn are_domain_bytes(name: &[u8]) -> bool
     name.iter().all(|byte| is_domain_byte(*byte))
 }
 
-/// Whether these bytes may name a trust domain, and a file: 1 to 200 small letters, digits, `-`, `.`, `_`. Then they are no path.
+/// Whether these bytes may name a trust domain, and a file: 1 to 200 small letters, digits, `-`, `.`, `_`. Then they aren't a path.
 #[tactic(auto, unfolding(crate::specs::Names::is_domain))]
 pub fn is_domain(name: &[u8]) -> bool
     ensures { result ≡ is_domain name.now }

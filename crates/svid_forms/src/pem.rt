@@ -12,7 +12,7 @@ use std::alloc::Global;
 use wl_client::{MapItem, X509Item};
 use wl_octets::Memory;
 
-/// The values of DER that these bytes are; nothing where they are no such values.
+/// The values of DER that these bytes are; nothing where they aren't such values.
 #[tactic(auto, unfolding(crate::specs::Elements::pieces_of))]
 fn pieces<'a>(alloc: Global, bytes: &'a [u8]) -> Result<Vec<&'a [u8]>, Memory>
     ensures { IfOk result (λ v. map (λ s. s.now) v.items ≡ pieces_of bytes.now) }
@@ -39,7 +39,7 @@ fn put_pieces(alloc: Global, out: &mut Vec<u8>, pieces: &[&[u8]]) -> Result<(), 
     Ok(())
 }
 
-/// A block `CERTIFICATE` for each value of DER that these bytes are; nothing where they are no such values.
+/// A block `CERTIFICATE` for each value of DER that these bytes are; nothing where they aren't such values.
 #[tactic(auto, using(crate::proofs::Values::blocks_of_slices), unfolding(crate::specs::Blocks::certificates))]
 pub fn put_certificates(alloc: Global, out: &mut Vec<u8>, der: &[u8]) -> Result<(), Memory>
     ensures { OnOk result (out.new.items ≡ out.old.items ++ certificates der.now) }

@@ -83,7 +83,7 @@ abbrev pub Arrives : Reply → Result (Unit {0}) ClientFault → List Heard → 
 Arrives due (Ok done) old new was now ending l = (new ≡ old ++ due.told) × (now ≡ was ++ due.bytes) × (due.after ≡ Listening ending l)
 Arrives due (Err fault) old new was now ending l = Refuses fault ((new ≡ old ++ due.told) × (now ≡ was ++ due.bytes) × (due.after ≡ Failed fault))
 
--- the fault of bytes that are no frames
+-- the fault of bytes that aren't frames
 abbrev pub frame_fault_in : End → Option FrameFault
 frame_fault_in (Opening left) = None
 frame_fault_in (Rest rest) = None

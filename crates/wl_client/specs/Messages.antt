@@ -1,5 +1,5 @@
 -- The messages that a client reads (SPIFFE Workload API, `workload.proto`; grpc.health.v1, `health.proto`; proto3). Own
--- rules: groups and a known field of another wire type are refused, and so is a string that is no UTF-8; the number of a
+-- rules: groups and a known field of another wire type are refused, and so is a string that isn't UTF-8; the number of a
 -- hint. A field that is not known is skipped.
 use Rattle.std.specs.Prelude.{◌≡◌, ℕ, ◌==◌, ◌||◌, if◌then◌else◌, List, [], ◌∷◌, ◌++◌, Option, Some, None, Result, Ok, Err}
 use Rattle.std.specs.List.{AllByRecursion}

@@ -13,7 +13,7 @@ use wl_octets::Memory;
 /// Why a client hears nothing more. The first such cause in the bytes of a server is the last.
 #[derive(Clone, Copy, Debug, PartialEq, Eq)]
 pub enum ClientFault {
-    /// Bytes that are no frames.
+    /// Bytes that aren't frames.
     Frame(FrameFault),
     /// A header block that can't be decoded, or has more than 1,048,576 bytes: then `ListTooLong`.
     Header(HpackFault),
@@ -23,9 +23,9 @@ pub enum ClientFault {
     Order(u32),
     /// The head's `:status` is this number and not 200, or there is not exactly one that is a number below 2^32: then 0.
     HttpStatus(u32),
-    /// The stream ends without exactly one `grpc-status`, or with one that is no decimal number below 2^32.
+    /// The stream ends without exactly one `grpc-status`, or with one that isn't a decimal number below 2^32.
     NoStatus,
-    /// Bytes that are no messages.
+    /// Bytes that aren't messages.
     Message(MessageFault),
     /// A message that says nothing. It comes from a `decode_` call, and never from a client.
     Undecodable(FieldFault),

@@ -19,7 +19,7 @@ fn number_in(value: &[u8]) -> Option<u32>
     }
 }
 
-/// The number of a `:status` that is not 200, or 0 where it is no number.
+/// The number of a `:status` that is not 200, or 0 where it isn't a number.
 #[tactic(auto, unfolding(crate::specs::Statuses::http_fault_of))]
 fn fault_of(status: Option<&[u8]>) -> Option<u32>
     ensures { result ≡ http_fault_of (option_copied status.entry) }

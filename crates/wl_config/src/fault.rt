@@ -9,7 +9,7 @@ use wl_document::Place;
 /// The first check that a configuration fails. A place has part 0 for the top and part 4 for a socket.
 #[derive(Clone, Copy, Debug, PartialEq, Eq)]
 pub enum ConfigFault {
-    /// It is no JSON.
+    /// It isn't JSON.
     NotJson,
     /// Its version is a whole number other than 1.
     Version,
@@ -19,7 +19,7 @@ pub enum ConfigFault {
     Kind(Place),
     /// A path is empty.
     EmptyText(Place),
-    /// A text is no selector.
+    /// A text isn't a valid selector.
     Selector(Place),
     /// An array has so many items, or the sockets up to here have so many workers, more than the limit.
     TooMany(Place, usize),

@@ -25,7 +25,7 @@ fn is_octal(byte: u8) -> bool
     b'0' <= byte && byte <= b'7'
 }
 
-/// Whether some byte is no octal digit.
+/// Whether some byte isn't an octal digit.
 fn some_other(digits: &[u8]) -> bool
     ensures { result ≡ list_any (λ b. not (is_octal b)) digits.now }
 {

@@ -70,7 +70,7 @@ request_fits (w ∷ ws) n ops is = fits_by w n ops (operands ws) is
 pub asked_for : (ws : Texts) (name n : List ℕ) (given ops : Texts) (o : Option Request) → words.request_of ws ≡ Some (name, given) → n ≡ name → ops ≡ given → o ≡ request_by n ops → command_of ws ≡ o
 asked_for ws name n given ops o is same these by = request_fits ws name given is ∙ (ap (λ l. request_by l given) (sym same) ∙ (ap (λ l. request_by n l) (sym these) ∙ sym by))
 
--- ---- words that are no request fit no command
+-- ---- words that aren't a request fit no command
 
 abbrev ask_for : Texts → TokenAsk
 ask_for xs = record { audiences = xs; id = None; form = token.Lines; is_decoded = false }

@@ -105,7 +105,7 @@ pub fn sync(alloc: Global, manager: &mut Keeper, document: &[u8]) -> Result<Step
     }
 }
 
-/// That a document was refused; out of memory is no fault of its own.
+/// That a document was refused; out of memory isn't a fault of its own.
 fn refused_lines(alloc: Global, fault: DocFault) -> Result<Row<Line>, Memory>
     ensures named { IfOk result (λ l. fault ≢ DocFault.Memory) }
     ensures lines { IfOk result (λ l. l ≡ Line.Refused fault ∷ []) }

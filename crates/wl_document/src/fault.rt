@@ -19,7 +19,7 @@ pub struct Place {
 /// The first check that a document fails.
 #[derive(Clone, Copy, Debug, PartialEq, Eq)]
 pub enum DocFault {
-    /// It is no JSON.
+    /// It isn't JSON.
     NotJson,
     /// Its version is a whole number other than 1 and 2.
     Version,
@@ -27,9 +27,9 @@ pub enum DocFault {
     Missing(Place),
     /// A member is of another kind, or its text or number is out of its range.
     Kind(Place),
-    /// A text is no SPIFFE ID or no trust domain name.
+    /// A text isn't a valid SPIFFE ID or trust domain name.
     Id(Place, IdFault),
-    /// A text is no selector.
+    /// A text isn't a valid selector.
     Selector(Place),
     /// An entry has no selector.
     NoSelectors(Place),
@@ -37,7 +37,7 @@ pub enum DocFault {
     Duplicate(Place),
     /// The document is of another trust domain than the own one, or an entry's id is.
     ForeignDomain(Place),
-    /// A text is no standard padded base64.
+    /// A text isn't standard padded base64.
     Base64(Place),
     /// The own trust domain has no X.509 bundle, or an empty one.
     NoOwnBundle,

@@ -12,7 +12,7 @@ use wl_edge::{EdgeFault, MAX_PULLED, ReadFault, RealSource, Upstream, read_all};
 use wl_octets::Octets;
 
 /// An upstream that reads the file of a path at each pull. It tells no content. Put a new document there by a rename, so that no
-/// pull reads half of it. What is no plain file (a folder, a pipe) fails the pull.
+/// pull reads half of it. What isn't a plain file (a folder, a pipe) fails the pull.
 #[derive(Drop)]
 pub struct FileUpstream<R> {
     rt: R,

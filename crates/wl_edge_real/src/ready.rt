@@ -19,10 +19,10 @@ use std::time::Duration;
 use wl_edge::{EdgeFault, Listener, Ready};
 use wl_octets::Row;
 
-/// The listener's token, which is no number of a link.
+/// The listener's token, which isn't a number of a link.
 const LISTENER: Token = Token(usize::MAX);
 
-/// The bell's token, which is no number of a link.
+/// The bell's token, which isn't a number of a link.
 const BELL: Token = Token(usize::MAX - 1);
 
 /// How many seconds a wait takes at most.

@@ -70,7 +70,7 @@ pub(crate) fn bound<R: AllocGlobal + Files + Net>(rt: &R, path: &str) -> Result<
     }
 }
 
-/// Whether a file that is no socket stays.
+/// Whether a file that isn't a socket stays.
 fn leaves_a_file<R: AllocGlobal + Files + Net>(rt: &R, path: &str) -> Result<bool, Fail> {
     fs::write(rt, path, "abc")?;
     let refused = bind(rt, rt.alloc(), path, OWN, Origin::nowhere(rt.alloc())?).err();

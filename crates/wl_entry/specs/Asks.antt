@@ -4,7 +4,7 @@ use Rattle.wl_entry.specs.declared.asks.Ask.{Ask}
 use Rattle.wl_entry.specs.declared.entries.Entry.{Entry}
 use Rattle.wl_entry.specs.Same.{same_ask}
 
--- what is to be signed for an entry; its hint is no part of that
+-- what is to be signed for an entry; its hint isn't part of that
 abbrev pub ask_of : Entry → Ask
 ask_of e = record { entry_id = e.id; spiffe_id = e.spiffe_id; dns_names = e.dns_names; ttl = e.ttl }
 

@@ -25,7 +25,7 @@ pub struct Entry {
 }
 
 impl Entry {
-    /// What is to be signed for it. The hint is no part of that.
+    /// What is to be signed for it. The hint isn't part of that.
     pub fn ask(&self, alloc: Global) -> Result<Ask, Memory>
         ensures { IfOk result (λ a. a ≡ ask_of self.now) }
     {

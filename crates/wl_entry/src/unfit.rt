@@ -15,7 +15,7 @@ pub enum CertFault {
     Tag(usize),
     /// The length here is not in its definite and shortest form.
     Length(usize),
-    /// The time here is no real date and time from 1970 on.
+    /// The time here isn't a real date and time from 1970 on.
     Time(usize),
     /// Content stands here, after the last part.
     Extra(usize),

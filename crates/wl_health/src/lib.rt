@@ -1,7 +1,7 @@
 //! The messages of `grpc.health.v1.Health`, and the state that a caller sees.
 //!
 //! A request names a service; the empty name is the server as a whole, which serves. The Workload API serves a caller
-//! whose view has an entry and no entry without its SVID. Bytes that are no request have the first fault in them.
+//! whose view has an entry and no entry without its SVID. Bytes that aren't a request have the first fault in them.
 #![tactic(auto)]
 
 mod decode;

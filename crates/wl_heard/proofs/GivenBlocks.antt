@@ -214,7 +214,7 @@ phase_after n P free fresh f (Open q) sound h = go (peer q f) refl
 phase_after n P free fresh f (Failed fault left totals) sound h = tt
 phase_after n P free fresh f (OutOfMemory totals) sound h = tt
 
--- an event of another stream, or one that is no refusal
+-- an event of another stream, or one that isn't a refusal
 event_leaves : (n k : ℕ) (P : flow.Stream → Type 0) (e : CallEvent) (t : Talking) → ((r : Refusal) → e ≡ events.Refuse r → k ≡ n → ⊥) → OnPhase n P t.phase → OnPhase n P (after_event k e t).phase
 unfolding after_event
 event_leaves n k P events.Nothing t none h = h

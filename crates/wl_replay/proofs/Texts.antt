@@ -70,7 +70,7 @@ none_more : (p q : Bool) → q ≡ false → (p && q) ≡ false
 none_more true q is = is
 none_more false q is = refl
 
--- where one text is no selector, not all are
+-- where one text isn't a valid selector, not all are
 pub not_all : {X : Type 0} (p : List ℕ → Bool) (f : X → List ℕ) (vs : List X) (i : ℕ) (d : X) → i < length vs → p (f (get_or vs i d)) ≡ false → list_all p (map f vs) ≡ false
 not_all p f [] i d within fails = absurd (omega (arith, within))
 not_all p f (v ∷ vs) zero d within fails = ap (λ b. b && list_all p (map f vs)) fails

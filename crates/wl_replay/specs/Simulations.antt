@@ -100,7 +100,7 @@ abbrev pub course : Beginning → Course → ℕ → Course
 course d first zero = first
 course d first (suc n) = after_step d (course d first n)
 
--- the counts of the world that the first document begins; that this document has no fault is no part of this
+-- the counts of the world that the first document begins; that this document has no fault isn't part of this
 unfoldable pub simulated : ℕ → ℕ → ℕ → ℕ → Result Counts DocFault
 simulated seed entries callers steps = do
   state ← document_state None (document_text callers (replicate entries false))

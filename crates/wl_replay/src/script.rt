@@ -119,7 +119,7 @@ fn read_lines(alloc: Global, text: &[u8]) -> Result<Script, ScriptFault>
 }
 
 /// Reads a script. Its first event line, `sync HEX` or `strict HEX`, gives the document and whether the store is strict;
-/// each further one gives an event. Where it is no script the first fault is given, with its line.
+/// each further one gives an event. Where it isn't a script the first fault is given, with its line.
 #[tactic(auto, unfolding(crate::specs::Scripts::script_of))]
 pub fn read_script(alloc: Global, script: &[u8]) -> Result<Script, ScriptFault>
     // what is read is the script that these bytes are

@@ -266,7 +266,7 @@ pub after_speaks : (n : ℕ) (f : Frame) (turn : Option AnsweringTurn) (r : Repl
 unfolding after_frame
 after_speaks n f turn r t low h = frame_speaks n f turn r t t.phase low refl h
 
--- ---- bytes that are no frame
+-- ---- bytes that aren't a frame
 
 broken_speaks : (n : ℕ) (why : FrameFault) (turn : Option AnsweringTurn) (r : Replies) (t : Talking) (p : Phase) → t.phase ≡ p → Speaks n turn r t → Speaks n turn r (record t { phase = after_frame_fault why p })
 broken_speaks n why turn r t (Open q) is h = fails_speaks n turn r t _ _ _ h

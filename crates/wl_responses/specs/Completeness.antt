@@ -72,7 +72,7 @@ abbrev pub waits_for : ℕ → List (List ℕ) → List Wanted → List JwtItem 
 waits_for n audience [] got = None
 waits_for n audience (w ∷ ws) got = Some (Asking (ask_on n audience w) ws got)
 
--- how far it is from the outcome of its first ask: where that is no token it has ended
+-- how far it is from the outcome of its first ask: where that isn't a token it has ended
 abbrev pub waits_after : JwtOutcome → ℕ → JwtAsk → List Wanted → List JwtItem → Option Stage
 waits_after (Token t) n first rest got = waits_for n first.audience rest (got ++ item_for first t ∷ [])
 waits_after Failed n first rest got = None

@@ -45,7 +45,7 @@ abbrev pub onto_frames : List Frame → List Step → List Step
 onto_frames [] before = before
 onto_frames (f ∷ fs) before = onto_frames fs (FrameCame f ∷ before)
 
--- and the fault of bytes that are no frame
+-- and the fault of bytes that aren't a frame
 abbrev pub onto_ending : End → List Step → List Step
 onto_ending (Opening left) before = before
 onto_ending (Rest rest) before = before

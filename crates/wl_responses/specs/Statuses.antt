@@ -134,7 +134,7 @@ is_headed (Asking first rest got) = false
 abbrev pub HasTurnEnding : Publication → Talking → Type 0
 HasTurnEnding x t = (n : ℕ) (s : Stage) → stage_on n t.served ≡ Some s → OnPhase n (HasEnding (is_headed s) (ending_at x s)) (unwritten (TurnTaken x) t)
 
--- a call that is no health call, of a caller that sees no entry, or asks for no token
+-- a call that isn't a health call, of a caller that sees no entry, or asks for no token
 abbrev pub SeesNothingAt : Publication → Stage → Type 0
 SeesNothingAt x (Unnamed kind) = ⊥
 SeesNothingAt x (Ready kind sel seen headed) = SeesNothing kind (view_in x sel)

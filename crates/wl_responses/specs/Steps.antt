@@ -16,7 +16,7 @@ use Rattle.wl_session.specs.Tokens.{name_first, give_first}
 use Rattle.wl_session.specs.Talks.{Talking, Said, fresh_talk, after_frame, greeting, frame_said, break_said}
 use Rattle.wl_session.specs.Sessions.{turn_said, name_said, given_said}
 
--- A frame of the peer came; bytes came that are no frame; the first call that was not attested got its selectors, or could
+-- A frame of the peer came; bytes came that aren't a frame; the first call that was not attested got its selectors, or could
 -- not be attested; a turn read this publication; and the first waiting ask got this.
 pub data Step : Type 0 where
   FrameCame : Frame → Step

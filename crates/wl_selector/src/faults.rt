@@ -12,7 +12,7 @@ pub enum SelectorFault {
     EmptyKind,
     /// Nothing is after the first colon.
     EmptyValue,
-    /// The text is no UTF-8.
+    /// The text isn't UTF-8.
     NotUtf8,
     /// Memory ran out.
     Memory,

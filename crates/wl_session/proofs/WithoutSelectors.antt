@@ -1,4 +1,4 @@
--- What callers are attested as is no part of a talk: a talk without it goes on alike.
+-- What callers are attested as isn't part of a talk: a talk without it goes on alike.
 use Rattle.std.proofs.Common.{◌≡◌, ℕ, ◌==◌, Bool, true, false, not, nat_lt, if◌then◌else◌, List, [], ◌∷◌, ◌++◌, map, length, Option, Some, None, refl, sym, ap, ◌∙◌}
 use Rattle.std.proofs.lemmas.List.{append-nil, map-append}
 use Rattle.h2_frame.specs.declared.fault.FrameFault.{FrameFault}

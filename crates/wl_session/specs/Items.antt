@@ -50,7 +50,7 @@ calls_on (v ∷ views) (c ∷ cs) p = turn_before (answered_where v c p) (calls_
 unfoldable pub views_said : List (Option ViewModel) → Talking → Said
 views_said views t = written None (with_turned t (calls_on views t.served t.phase))
 
--- what a caller is attested as is no part of its talk: its views are
+-- what a caller is attested as isn't part of its talk: its views are
 abbrev pub item_said : Item → Talking → Said
 item_said (FrameItem f) t = frame_said f t
 item_said (BrokenItem why) t = break_said why t
@@ -69,7 +69,7 @@ talk items = (items_said items fresh_talk).bytes
 
 -- ---- the items of an event
 
--- bytes that are no frames
+-- bytes that aren't frames
 abbrev pub broken_items : End → List Item
 broken_items (Opening left) = []
 broken_items (Rest rest) = []

@@ -36,7 +36,7 @@ refusal_on (Watch service) v = None
 abbrev pub RefusedCallEnds : Type 0
 RefusedCallEnds = (n : ℕ) (kind : CallKind) (sel : List (List ℕ)) (headed : Bool) (v : ViewModel) (p : Phase) (r : Refusal) → refusal_on kind v ≡ Some r → call_answer n kind sel headed v p ≡ has_ended (with_refusal n headed r p)
 
--- a call that is no health call, of a caller that sees no entry, or asks for no token
+-- a call that isn't a health call, of a caller that sees no entry, or asks for no token
 abbrev pub SeesNothing : CallKind → ViewModel → Type 0
 SeesNothing (Stream method) v = v.held ≡ []
 SeesNothing (Tokens audience id) v = asks_of id v ≡ []

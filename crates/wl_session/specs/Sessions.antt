@@ -31,7 +31,7 @@ state_by (Some faults.Memory) e t x = OutOfMemory
 
 -- ---- bytes
 
--- the fault of bytes that are no frames
+-- the fault of bytes that aren't frames
 abbrev pub fault_in : End → Option FrameFault
 fault_in (Opening left) = None
 fault_in (Rest rest) = None

@@ -116,6 +116,6 @@ unfoldable pub frames_said : List Frame → Talking → Said
 frames_said [] t = silent t
 frames_said (f ∷ fs) t = then_ (frame_said f t) (frames_said fs)
 
--- bytes that are no frames, and what is written after them
+-- bytes that aren't frames, and what is written after them
 unfoldable pub break_said : FrameFault → Talking → Said
 break_said why t = written (frame_fault_on why t.phase) (record t { phase = after_frame_fault why t.phase })

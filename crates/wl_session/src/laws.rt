@@ -53,7 +53,7 @@ pub fn turns_commute()
         ≡ (calls_turn publication (one ∷ other ∷ more) phase).phase }
 {}
 
-/// A ready call that is refused on a view ends so: with status 7 exactly where it is no health call and its
+/// A ready call that is refused on a view ends so: with status 7 exactly where it isn't a health call and its
 /// caller sees no entry, or none that it asks a token for; with status 5 exactly where it is a Check of a
 /// service that is not known. Else a streaming call is offered its method's message on that view, in its
 /// encoding, and a health call the state of its service there.

@@ -289,7 +289,7 @@ impl Talk {
         Ok(first)
     }
 
-    /// The connection fails by bytes that are no frames.
+    /// The connection fails by bytes that aren't frames.
     fn take_fault(&mut self, why: FrameFault) -> Result<ConnFault, Memory>
         requires { why ≡ frame_faults.Memory → ⊥ }
         ensures after { OnOk result
@@ -299,7 +299,7 @@ impl Talk {
         self.conn.fail(why)
     }
 
-    /// Bytes that are no frames, and what is written after them.
+    /// Bytes that aren't frames, and what is written after them.
     #[tactic(auto, unfolding(crate::specs::Talks::break_said), using(crate::proofs::ItemSequences::written_fault))]
     pub fn fail(&mut self, why: FrameFault, out: &mut Octets) -> Result<Option<ConnFault>, Memory>
         requires { why ≡ frame_faults.Memory → ⊥ }

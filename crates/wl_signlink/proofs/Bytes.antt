@@ -24,7 +24,7 @@ text_at list i d all within = by (is_utf8 (get_or list i d)) refl
     by true h = h
     by false h = absurd (true≢false (sym all ∙ list_all_at is_utf8 list i d within h))
 
--- texts are no floats
+-- texts aren't floats
 pub no_floats : (list : List (List ℕ)) → items_have_float (items_of (map string list)) ≡ false
 no_floats [] = refl
 no_floats (t ∷ ts) = no_floats ts

@@ -6,7 +6,7 @@ ghost use Rattle.wl_signlink.specs.declared.fault.LineFault.TheVariants.{Memory}
 /// Why a line gave no value.
 #[derive(Clone, Copy, Debug, PartialEq, Eq)]
 pub enum LineFault {
-    /// It is no such reply.
+    /// It isn't such a reply.
     Wrong,
     /// Memory ran out.
     Memory,

@@ -181,7 +181,7 @@ impl<R: Net + Clock + Clone + Drop> SignLink<R> {
     }
 
     /// Keeps the stream for the next ask where this one was answered and nothing came after the answer. After anything
-    /// else it is dropped: what may still come on it is no answer to another ask.
+    /// else it is dropped: what may still come on it isn't an answer to another ask.
     fn settle<T: Drop>(
         &mut self,
         asked: OpenStream,

@@ -140,7 +140,7 @@ fn reply_in(alloc: Global, number: u64, line: &[u8]) -> Result<Value, LineFault>
     Ok(reply)
 }
 
-/// Reads the reply with a signed identity to the ask with this number, without its newline. A line that is no such
+/// Reads the reply with a signed identity to the ask with this number, without its newline. A line that isn't such a
 /// reply is Wrong.
 #[tactic(auto, unfolding(crate::specs::Replies::signed_of))]
 pub fn read_signed(alloc: Global, number: u64, line: &[u8]) -> Result<Signed, LineFault>
@@ -150,7 +150,7 @@ pub fn read_signed(alloc: Global, number: u64, line: &[u8]) -> Result<Signed, Li
     signed_in(alloc, &reply)
 }
 
-/// Reads the reply with a token to the ask with this number, without its newline. A line that is no such reply is
+/// Reads the reply with a token to the ask with this number, without its newline. A line that isn't such a reply is
 /// Wrong.
 #[tactic(auto, unfolding(crate::specs::Replies::token_of))]
 pub fn read_token(alloc: Global, number: u64, line: &[u8]) -> Result<JwtToken, LineFault>

@@ -30,7 +30,7 @@ one_piece heard.Idle piece is = ap (λ (p : List ℕ). p ∷ []) (sym is)
 one_piece heard.End piece is = absurd is
 one_piece heard.Failed piece is = absurd is
 
--- what is heard and is no piece
+-- what is heard and isn't a piece
 pub no_piece : (log : LinkLog) (heards : List Heard) (took : List ℕ) (past : List Round) → pieces_given heards ≡ [] → pieces_given log.gave ≡ pieces past → pieces_given (log_on log heards took).gave ≡ pieces past
 no_piece log heards took past none is = pieces_append log.gave heards ∙ (ap (λ (ps : List (List ℕ)). pieces_given log.gave ++ ps) none ∙ (append-nil (pieces_given log.gave) ∙ is))
 

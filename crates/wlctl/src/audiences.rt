@@ -39,7 +39,7 @@ fn put_word(alloc: Global, audiences: &mut Row<Octets>, word: &str) -> Result<()
     Ok(())
 }
 
-/// The audiences that these words give, which begin with a `--jwt`; none where they are no pairs.
+/// The audiences that these words give, which begin with a `--jwt`; none where they aren't pairs.
 fn given_in(alloc: Global, words: &[String]) -> Result<Option<Row<Octets>>, Memory>
     ensures { IfOk result (λ audiences. audiences ≡ audiences_from [] true (map string_bytes words.now)) }
 {
@@ -81,7 +81,7 @@ fn are_fit(alloc: Global, audiences: &[Octets]) -> Result<bool, Memory> {
     Ok(true)
 }
 
-/// The audiences that these words give, at most eight; none where they are no pairs of `--jwt` and an audience that may be asked
+/// The audiences that these words give, at most eight; none where they aren't pairs of `--jwt` and an audience that may be asked
 /// for, or one is there twice.
 pub fn audiences_in(alloc: Global, words: &[String]) -> Result<Option<Row<Octets>>, Memory> {
     let Some(audiences) = given_in(alloc, words)? else {

@@ -20,7 +20,7 @@ fn each_call_fails_in_turn(rt: HostRuntime) -> Result<(), Fail> {
     ];
     let one = [file(alloc, b"svid.pem", false)?];
     // By the call that fails: the link and the count of files after the first set, and after the second.
-    // The first set takes the calls 0 to 4 (make, put, put, sync, point), the second one 5 to 8; 9 is no call.
+    // The first set takes the calls 0 to 4 (make, put, put, sync, point), the second one 5 to 8; 9 isn't a call.
     for failing in 0..=9 {
         let mut shelf = MemoryShelf::start(alloc, failing);
         let first = publish(&mut shelf, 1, &two).is_ok();

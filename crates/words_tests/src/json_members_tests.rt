@@ -42,7 +42,7 @@ fn kinds(rt: HostRuntime) -> Result<(), Fail> {
     Ok(())
 }
 
-/// Members by their names: the last of equal ones, and none of a value that is no object.
+/// Members by their names: the last of equal ones, and none of a value that isn't an object.
 #[test]
 fn members(rt: HostRuntime) -> Result<(), Fail> {
     let alloc: Global = rt.alloc();
@@ -65,7 +65,7 @@ fn members(rt: HostRuntime) -> Result<(), Fail> {
     Ok(())
 }
 
-/// Bytes that are no JSON: broken, and not in UTF-8.
+/// Bytes that aren't JSON: broken, and not in UTF-8.
 #[test]
 fn no_json(rt: HostRuntime) -> Result<(), Fail> {
     let alloc: Global = rt.alloc();

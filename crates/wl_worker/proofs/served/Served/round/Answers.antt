@@ -41,7 +41,7 @@ returns-clause-tells g c =
     (ends_done g.T.V.Voucher.signed (asker c.args.connection g.T.V.Voucher.token) (g.L.Link.origin c.args.link.now) {mid = mid} {s = c.hear_and_step.new.session} {out = c.hear_and_step.new.out} c.settle-2.result first
     (rw c.in_default.ensures.origin at (rw c.take_output-out.ensures.empty at c.in_default-hear_and_step.ensures.tells)) c.settle-2.ensures.settles)
 
--- a sending is no round
+-- a sending isn't a round
 not_on : {A : Type 0} (s : SessionState) (left : List ℕ) (e : Option RoundEnd) → SentTo s left e → e ≡ Some ends.On → A
 not_on {A} s left e sent is = absurd (subst (λ (x : Option RoundEnd). SentTo s left x) is sent)
 
