@@ -1,7 +1,7 @@
 #!/usr/bin/env python3
 """Writes the table of a stream's states and the frames that a client may send there, after RFC 9113.
 
-    python3 tests/vectors/h2_states.py >crates/h2_conn_tests/src/state_rows.rt && (cd crates/h2_conn_tests && rt fmt)
+    python3 tests/vectors/h2_states.py >crates/h2_conn_tests/src/state_rows.rt
     python3 tests/vectors/h2_states.py --choices       what the standard leaves open, and what is taken, cell by cell
 
 RULES are the standard's own: a section, where it applies, and the outcomes that it allows. They were written from
@@ -380,32 +380,50 @@ def state_after(state, name, taken):
     return {"idle": "i", "open": "o", "remote": "r", "local": "l"}[state]
 
 
-# ---- the table
-def text(octets):
-    return 'b"' + "".join("\\0" if each == 0 else f"\\x{each:02x}" for each in octets) + '"'
+# ---- the tables
+def words(octets):
+    """The frames in hexadecimal, as the tests read them."""
+    return octets.hex() or "."
+
+
+# what the server does, as the tests read it
+ACTS = {"Nothing": "nothing", "Finish": "finish 1", "Reset": "reset 1 8"}
+
+HEAD = """\
+//! The states of a stream and the frames of a client there, after RFC 9113. `tests/vectors/h2_states.py` writes this file: it
+//! has the standard's rules with their sections, and what is taken where they leave a choice.
+
+/// How each state is reached, a line for each in the order of the letters of `ROWS`: the stream, the client's frames,
+/// what the server does, and the client's frames after it. The states are:
+///"""
+
+ROWS = """
+/// What comes of a client's frames in each state, a line for each row: its name, the frames (those of stream 1 are for
+/// the stream of the state), and a letter for each state of what is seen, and of the stream's state after it.
+///
+/// Seen is the code of GOAWAY (`P` PROTOCOL_ERROR, `F` FLOW_CONTROL_ERROR, `S` STREAM_CLOSED, `L` FRAME_SIZE_ERROR,
+/// `C` COMPRESSION_ERROR) or of RST_STREAM, in small letters; else `a` for an acknowledgement, `h`, `b`, `e` and `g` for
+/// what is reported (a head, a body, the end, the stream is gone), and `.` for nothing. After it the stream is idle or a
+/// block is unfinished (`i`), open (`o`), half-closed (`r` remote, `l` local) or closed (`x`), or the connection has
+/// failed (`-`)."""
 
 
 def table():
-    print("//! The states of a stream and the frames of a client there, after RFC 9113. `tests/vectors/h2_states.py` writes this file: it")
-    print("//! has the standard's rules with their sections, and what is taken where they leave a choice.")
-    print()
-    print("use crate::state_tests::{Act, Start, StateRow};")
-    print()
-    print("/// How each state is reached, in the order of the letters of `ROWS`.")
-    print(f"pub const STARTS: [Start; {len(STATES)}] = [")
-    for name, stream, before, act, after in STATES.values():
-        print(f"// {name}")
-        print(f'Start {{ stream: {stream}, before: {text(before)}, act: Act::{act}, after: {text(after)} }},')
-    print("];")
-    print()
-    print("/// What comes of each frame in each state, and the state after it.")
-    print(f"pub const ROWS: [StateRow; {len(FRAMES)}] = [")
+    print(HEAD)
+    for name, *_ in STATES.values():
+        print(f"/// - {name}")
+    print('pub const STARTS: &str = "\\')
+    for _, stream, before, act, after in STATES.values():
+        print(f"{stream} | {words(before)} | {ACTS[act]} | {words(after)}")
+    print('";')
+    print(ROWS)
+    print('pub const ROWS: &str = "\\')
     for name, octets in FRAMES.items():
         taken = {state: outcome(state, name)[0] for state in STATES}
         letters = "".join(seen(state, name, taken[state]) for state in STATES)
         after = "".join(state_after(state, name, taken[state]) for state in STATES)
-        print(f'StateRow {{ name: "{name}", frames: {text(octets)}, seen: "{letters}", after: "{after}" }},')
-    print("];")
+        print(f"{name} | {words(octets)} | {letters} | {after}")
+    print('";')
 
 
 def choices():

@@ -6,14 +6,16 @@ mod answer_tests;
 #[cfg(test)]
 mod flood_tests;
 #[cfg(test)]
+mod player;
+#[cfg(test)]
 mod request_tests;
 #[cfg(test)]
 mod row_tests;
 #[cfg(test)]
 mod samples;
 #[cfg(test)]
+mod scenes;
+#[cfg(test)]
 mod state_rows;
 #[cfg(test)]
 mod state_tests;
-#[cfg(test)]
-mod testing;

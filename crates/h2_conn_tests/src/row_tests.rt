@@ -1,439 +1,357 @@
-//! The connection table, a case for each row and each of its branches. The bytes are worked out
+//! The connection table, a scene for each row and each of its branches. The bytes are worked out
 //! from RFC 9113 and RFC 7541, and the answers from the table.
 
-use crate::samples::*;
-use crate::testing::{Case, shows};
-use h2_conn::ConnCause;
-use std::test::Fail;
+use crate::scenes::play_all;
+
+const FIRST_FRAMES: &str = "\
+scene a first PING
+client 000008.06.00.00000000.0102030405060708
+told nothing
+fault 1 0 FirstFrame
+wrote G0_1
+
+scene a first acknowledgement
+client A
+told nothing
+fault 1 0 FirstFrame
+wrote G0_1
+
+scene a first head
+client H1
+told nothing
+fault 1 0 FirstFrame
+wrote G0_1
+
+scene a first SETTINGS
+client S
+told nothing
+wrote A
+";
+
+const HEADER_BLOCKS_ARE_WHOLE: &str = "\
+scene PING in a block
+client S H1_OPEN 000008.06.00.00000000.0102030405060708
+told nothing
+fault 1 0 BlockOpen
+wrote A G0_1
+
+scene a head in a block
+client S H1_OPEN H3
+told nothing
+fault 1 0 BlockOpen
+wrote A G0_1
+
+scene an unknown frame in a block
+client S H1_OPEN 000000.0a.00.00000001
+told nothing
+fault 1 0 BlockOpen
+wrote A G0_1
+
+scene SETTINGS in a block
+client S H1_OPEN S
+told nothing
+fault 1 0 BlockOpen
+wrote A G0_1
+
+scene CONTINUATION elsewhere in a block
+client S H1_OPEN 000001.09.04.00000003.84
+told nothing
+fault 1 0 BlockOpen
+wrote A G0_1
+
+scene CONTINUATION without a block
+client S 000001.09.04.00000001.84
+told nothing
+fault 1 0 NoBlock
+wrote A G0_1
+
+scene CONTINUATION after a whole block
+client S H1 000001.09.04.00000001.84
+told H1 :method=GET
+fault 1 1 NoBlock
+wrote A G1_1
+";
+
+const FRAMES_ARE_IN_THEIR_PLACE: &str = "\
+scene DATA on the connection
+client S 000001.00.00.00000000.'x'
+told nothing
+fault 1 0 StreamZero
+wrote A G0_1
+
+scene HEADERS on the connection
+client S 000001.01.04.00000000.82
+told nothing
+fault 1 0 StreamZero
+wrote A G0_1
+
+scene PRIORITY on the connection
+client S 000005.02.00.00000000.0000000000
+told nothing
+fault 1 0 StreamZero
+wrote A G0_1
+
+scene RST_STREAM on the connection
+client S 000004.03.00.00000000.00000008
+told nothing
+fault 1 0 StreamZero
+wrote A G0_1
+
+scene SETTINGS on a stream
+client 000000.04.00.00000001
+told nothing
+fault 1 0 StreamZero
+wrote G0_1
+
+scene an acknowledgement on a stream
+client S 000000.04.01.00000001
+told nothing
+fault 1 0 StreamZero
+wrote A G0_1
+
+scene PING on a stream
+client S 000008.06.00.00000001.0000000000000000
+told nothing
+fault 1 0 StreamZero
+wrote A G0_1
+
+scene GOAWAY on a stream
+client S 000008.07.00.00000001.0000000000000000
+told nothing
+fault 1 0 StreamZero
+wrote A G0_1
+
+scene PUSH_PROMISE on the connection
+client S 000005.05.04.00000000.0000000282
+told nothing
+fault 1 0 Push
+wrote A G0_1
+
+scene PUSH_PROMISE
+client S 000005.05.04.00000001.0000000282
+told nothing
+fault 1 0 Push
+wrote A G0_1
+";
+
+const FRAMES_OF_THE_CONNECTION: &str = "\
+scene frames without effect
+client S 000005.02.00.00000005.0000000000 000003.0a.00.00000007.'abc' A 000008.06.01.00000000.0000000000000000
+told nothing
+wrote A
+
+scene PING
+client S 000008.06.00.00000000.0102030405060708
+told nothing
+wrote A 000008.06.01.00000000.0102030405060708
+
+scene GOAWAY, and a head after it
+client S 000008.07.00.00000000.0000000000000000 H1
+told H1 :method=GET
+wrote A
+
+scene a step of the connection
+client S W0
+told nothing
+wrote A
+
+scene the largest step of the connection
+client S 000004.08.00.00000000.7fff0000
+told nothing
+wrote A
+
+scene a step of 0 on the connection
+client S 000004.08.00.00000000.00000000
+told nothing
+fault 1 0 ZeroStep
+wrote A G0_1
+
+scene a step too much on the connection
+client S 000004.08.00.00000000.7fff0001
+told nothing
+fault 3 0 Overflow
+wrote A G0_3
+";
+
+const SETTINGS_ONE_BY_ONE: &str = "\
+scene settings without meaning here
+client 00001e.04.00.00000000.0002000000000002000000010003000000050006000000070063ffffffff
+told nothing
+wrote A
+
+scene a table of 4,096, and one of 4,095 twice
+client 000012.04.00.00000000.000100001000000100000fff000100000000
+told nothing
+wrote A
+
+scene the largest window
+client 000006.04.00.00000000.00047fffffff
+told nothing
+wrote A
+
+scene the sizes of frames
+client 00000c.04.00.00000000.000500004000000500ffffff
+told nothing
+wrote A
+
+scene pushing by 2
+client S 000006.04.00.00000000.000200000002
+told nothing
+fault 1 0 Setting(2)
+wrote A G0_1
+
+scene a window too large
+client S 000006.04.00.00000000.000480000000
+told nothing
+fault 3 0 Setting(4)
+wrote A G0_3
+
+scene a frame too small
+client S 000006.04.00.00000000.000500003fff
+told nothing
+fault 1 0 Setting(5)
+wrote A G0_1
+
+scene a frame too large
+client S 000006.04.00.00000000.000501000000
+told nothing
+fault 1 0 Setting(5)
+wrote A G0_1
+
+scene a later pair
+client 00000c.04.00.00000000.000100000000000200000002
+told nothing
+fault 1 0 Setting(2)
+wrote G0_1
+
+scene a window that passes the largest with its steps
+client S H1 W1 000006.04.00.00000000.00047fffffff
+told H1 :method=GET
+fault 3 1 Overflow
+wrote A G1_3
+";
+
+const IDLE_AND_CLOSED_STREAMS: &str = "\
+scene DATA on an idle stream
+client S D1
+told nothing
+fault 1 0 Idle
+wrote A G0_1
+
+scene RST_STREAM on an idle stream
+client S R1
+told nothing
+fault 1 0 Idle
+wrote A G0_1
+
+scene WINDOW_UPDATE on an idle stream
+client S W1
+told nothing
+fault 1 0 Idle
+wrote A G0_1
+
+scene RST_STREAM on an even stream
+client S H3 000004.03.00.00000002.00000008
+told H3 :method=GET
+fault 1 3 Idle
+wrote A G3_1
+
+scene HEADERS on an even stream below the last
+client S H3 000001.01.04.00000002.82
+told H3 :method=GET
+fault 1 3 EvenStream
+wrote A G3_1
+
+scene DATA on an even stream
+client S H3 000001.00.00.00000002.'x'
+told H3 :method=GET
+fault 1 3 Idle
+wrote A G3_1
+
+scene RST_STREAM on a live stream
+client S H1 R1
+told H1 :method=GET G1
+wrote A
+
+scene RST_STREAM on a closed stream
+client S H1 R1 R1
+told H1 :method=GET G1
+wrote A
+
+scene WINDOW_UPDATE on a closed stream
+client S H1 R1 000004.08.00.00000001.00000000
+told H1 :method=GET G1
+wrote A
+
+scene DATA on a closed stream
+client S H1 R1 D1
+told H1 :method=GET G1
+wrote A W0
+
+scene DATA without bytes on a closed stream
+client S H1 R1 000000.00.00.00000001
+told H1 :method=GET G1
+wrote A
+
+scene DATA on a skipped stream
+client S H3 D1
+told H3 :method=GET
+wrote A W0
+";
+
+const WINDOWS_OF_STREAMS: &str = "\
+scene a step of a stream
+client S H1 W1
+told H1 :method=GET
+wrote A
+
+scene a step of 0 on a stream
+client S H1 000004.08.00.00000001.00000000
+told H1 :method=GET G1
+wrote A RST1_1
+
+scene a step too much on a stream
+client S H1 000004.08.00.00000001.7fff0001
+told H1 :method=GET G1
+wrote A RST1_3
+
+scene the largest step on a stream
+client S H1 000004.08.00.00000001.7fff0000
+told H1 :method=GET
+wrote A
+";
 
 #[test]
-fn first_frames(rt: HostRuntime) -> Result<(), Fail> {
-    let cases = [
-        wrong(
-            "a first PING",
-            &[b"\0\0\x08\x06\0\0\0\0\0\x01\x02\x03\x04\x05\x06\x07\x08"],
-            1,
-            ConnCause::FirstFrame,
-            &[G0_1],
-        ),
-        wrong(
-            "a first acknowledgement",
-            &[A],
-            1,
-            ConnCause::FirstFrame,
-            &[G0_1],
-        ),
-        wrong("a first head", &[H1], 1, ConnCause::FirstFrame, &[G0_1]),
-        well("a first SETTINGS", &[S], b"", &[A]),
-    ];
-    for case in &cases {
-        shows(&rt, rt.alloc(), case)?;
-    }
-    Ok(())
+fn first_frames(rt: HostRuntime) {
+    play_all(&rt, rt.alloc(), FIRST_FRAMES);
 }
 
 #[test]
-fn header_blocks_are_whole(rt: HostRuntime) -> Result<(), Fail> {
-    let cases = [
-        wrong(
-            "PING in a block",
-            &[
-                S,
-                H1_OPEN,
-                b"\0\0\x08\x06\0\0\0\0\0\x01\x02\x03\x04\x05\x06\x07\x08",
-            ],
-            1,
-            ConnCause::BlockOpen,
-            &[A, G0_1],
-        ),
-        wrong(
-            "a head in a block",
-            &[S, H1_OPEN, H3],
-            1,
-            ConnCause::BlockOpen,
-            &[A, G0_1],
-        ),
-        wrong(
-            "an unknown frame in a block",
-            &[S, H1_OPEN, b"\0\0\0\x0a\0\0\0\0\x01"],
-            1,
-            ConnCause::BlockOpen,
-            &[A, G0_1],
-        ),
-        wrong(
-            "SETTINGS in a block",
-            &[S, H1_OPEN, S],
-            1,
-            ConnCause::BlockOpen,
-            &[A, G0_1],
-        ),
-        wrong(
-            "CONTINUATION elsewhere in a block",
-            &[S, H1_OPEN, b"\0\0\x01\x09\x04\0\0\0\x03\x84"],
-            1,
-            ConnCause::BlockOpen,
-            &[A, G0_1],
-        ),
-        wrong(
-            "CONTINUATION without a block",
-            &[S, b"\0\0\x01\x09\x04\0\0\0\x01\x84"],
-            1,
-            ConnCause::NoBlock,
-            &[A, G0_1],
-        ),
-        Case {
-            fault: Some((1, ConnCause::NoBlock)),
-            ..well(
-                "CONTINUATION behind a whole block",
-                &[S, H1, b"\0\0\x01\x09\x04\0\0\0\x01\x84"],
-                b"H\x01\x01",
-                &[A, G1_1],
-            )
-        },
-    ];
-    for case in &cases {
-        shows(&rt, rt.alloc(), case)?;
-    }
-    Ok(())
+fn header_blocks_are_whole(rt: HostRuntime) {
+    play_all(&rt, rt.alloc(), HEADER_BLOCKS_ARE_WHOLE);
 }
 
 #[test]
-fn frames_are_in_their_place(rt: HostRuntime) -> Result<(), Fail> {
-    let cases = [
-        wrong(
-            "DATA on the connection",
-            &[S, b"\0\0\x01\0\0\0\0\0\0x"],
-            1,
-            ConnCause::StreamZero,
-            &[A, G0_1],
-        ),
-        wrong(
-            "HEADERS on the connection",
-            &[S, b"\0\0\x01\x01\x04\0\0\0\0\x82"],
-            1,
-            ConnCause::StreamZero,
-            &[A, G0_1],
-        ),
-        wrong(
-            "PRIORITY on the connection",
-            &[S, b"\0\0\x05\x02\0\0\0\0\0\0\0\0\0\0"],
-            1,
-            ConnCause::StreamZero,
-            &[A, G0_1],
-        ),
-        wrong(
-            "RST_STREAM on the connection",
-            &[S, b"\0\0\x04\x03\0\0\0\0\0\0\0\0\x08"],
-            1,
-            ConnCause::StreamZero,
-            &[A, G0_1],
-        ),
-        wrong(
-            "SETTINGS on a stream",
-            &[b"\0\0\0\x04\0\0\0\0\x01"],
-            1,
-            ConnCause::StreamZero,
-            &[G0_1],
-        ),
-        wrong(
-            "an acknowledgement on a stream",
-            &[S, b"\0\0\0\x04\x01\0\0\0\x01"],
-            1,
-            ConnCause::StreamZero,
-            &[A, G0_1],
-        ),
-        wrong(
-            "PING on a stream",
-            &[S, b"\0\0\x08\x06\0\0\0\0\x01\0\0\0\0\0\0\0\0"],
-            1,
-            ConnCause::StreamZero,
-            &[A, G0_1],
-        ),
-        wrong(
-            "GOAWAY on a stream",
-            &[S, b"\0\0\x08\x07\0\0\0\0\x01\0\0\0\0\0\0\0\0"],
-            1,
-            ConnCause::StreamZero,
-            &[A, G0_1],
-        ),
-        wrong(
-            "PUSH_PROMISE on the connection",
-            &[S, b"\0\0\x05\x05\x04\0\0\0\0\0\0\0\x02\x82"],
-            1,
-            ConnCause::Push,
-            &[A, G0_1],
-        ),
-        wrong(
-            "PUSH_PROMISE",
-            &[S, b"\0\0\x05\x05\x04\0\0\0\x01\0\0\0\x02\x82"],
-            1,
-            ConnCause::Push,
-            &[A, G0_1],
-        ),
-    ];
-    for case in &cases {
-        shows(&rt, rt.alloc(), case)?;
-    }
-    Ok(())
+fn frames_are_in_their_place(rt: HostRuntime) {
+    play_all(&rt, rt.alloc(), FRAMES_ARE_IN_THEIR_PLACE);
 }
 
 #[test]
-fn frames_of_the_connection(rt: HostRuntime) -> Result<(), Fail> {
-    let cases = [
-        well(
-            "frames without effect",
-            &[
-                S,
-                b"\0\0\x05\x02\0\0\0\0\x05\0\0\0\0\0",
-                b"\0\0\x03\x0a\0\0\0\0\x07abc",
-                A,
-                b"\0\0\x08\x06\x01\0\0\0\0\0\0\0\0\0\0\0\0",
-            ],
-            b"",
-            &[A],
-        ),
-        well(
-            "PING",
-            &[S, b"\0\0\x08\x06\0\0\0\0\0\x01\x02\x03\x04\x05\x06\x07\x08"],
-            b"",
-            &[
-                A,
-                b"\0\0\x08\x06\x01\0\0\0\0\x01\x02\x03\x04\x05\x06\x07\x08",
-            ],
-        ),
-        well(
-            "GOAWAY, and a head behind it",
-            &[S, b"\0\0\x08\x07\0\0\0\0\0\0\0\0\0\0\0\0\0", H1],
-            b"H\x01\x01",
-            &[A],
-        ),
-        well("a step of the connection", &[S, W0], b"", &[A]),
-        well(
-            "the largest step of the connection",
-            &[S, b"\0\0\x04\x08\0\0\0\0\0\x7f\xff\0\0"],
-            b"",
-            &[A],
-        ),
-        wrong(
-            "a step of 0 on the connection",
-            &[S, b"\0\0\x04\x08\0\0\0\0\0\0\0\0\0"],
-            1,
-            ConnCause::ZeroStep,
-            &[A, G0_1],
-        ),
-        wrong(
-            "a step too much on the connection",
-            &[S, b"\0\0\x04\x08\0\0\0\0\0\x7f\xff\0\x01"],
-            3,
-            ConnCause::Overflow,
-            &[A, G0_3],
-        ),
-    ];
-    for case in &cases {
-        shows(&rt, rt.alloc(), case)?;
-    }
-    Ok(())
+fn frames_of_the_connection(rt: HostRuntime) {
+    play_all(&rt, rt.alloc(), FRAMES_OF_THE_CONNECTION);
 }
 
 #[test]
-fn settings_one_by_one(rt: HostRuntime) -> Result<(), Fail> {
-    let cases = [
-        well(
-            "settings without meaning here",
-            &[
-                b"\0\0\x1e\x04\0\0\0\0\0\0\x02\0\0\0\0\0\x02\0\0\0\x01\0\x03\0\0\0\x05\0\x06\0\0\0\x07\0c\xff\xff\xff\xff",
-            ],
-            b"",
-            &[A],
-        ),
-        well(
-            "a table of 4,096, and one of 4,095 twice",
-            &[b"\0\0\x12\x04\0\0\0\0\0\0\x01\0\0\x10\0\0\x01\0\0\x0f\xff\0\x01\0\0\0\0"],
-            b"",
-            &[A],
-        ),
-        well(
-            "the largest window",
-            &[b"\0\0\x06\x04\0\0\0\0\0\0\x04\x7f\xff\xff\xff"],
-            b"",
-            &[A],
-        ),
-        well(
-            "the sizes of frames",
-            &[b"\0\0\x0c\x04\0\0\0\0\0\0\x05\0\0@\0\0\x05\0\xff\xff\xff"],
-            b"",
-            &[A],
-        ),
-        wrong(
-            "pushing by 2",
-            &[S, b"\0\0\x06\x04\0\0\0\0\0\0\x02\0\0\0\x02"],
-            1,
-            ConnCause::Setting(2),
-            &[A, G0_1],
-        ),
-        wrong(
-            "a window too large",
-            &[S, b"\0\0\x06\x04\0\0\0\0\0\0\x04\x80\0\0\0"],
-            3,
-            ConnCause::Setting(4),
-            &[A, G0_3],
-        ),
-        wrong(
-            "a frame too small",
-            &[S, b"\0\0\x06\x04\0\0\0\0\0\0\x05\0\0?\xff"],
-            1,
-            ConnCause::Setting(5),
-            &[A, G0_1],
-        ),
-        wrong(
-            "a frame too large",
-            &[S, b"\0\0\x06\x04\0\0\0\0\0\0\x05\x01\0\0\0"],
-            1,
-            ConnCause::Setting(5),
-            &[A, G0_1],
-        ),
-        wrong(
-            "a later pair",
-            &[b"\0\0\x0c\x04\0\0\0\0\0\0\x01\0\0\0\0\0\x02\0\0\0\x02"],
-            1,
-            ConnCause::Setting(2),
-            &[G0_1],
-        ),
-        Case {
-            fault: Some((3, ConnCause::Overflow)),
-            ..well(
-                "a window that passes the largest with its steps",
-                &[S, H1, W1, b"\0\0\x06\x04\0\0\0\0\0\0\x04\x7f\xff\xff\xff"],
-                b"H\x01\x01",
-                &[A, G1_3],
-            )
-        },
-    ];
-    for case in &cases {
-        shows(&rt, rt.alloc(), case)?;
-    }
-    Ok(())
+fn settings_one_by_one(rt: HostRuntime) {
+    play_all(&rt, rt.alloc(), SETTINGS_ONE_BY_ONE);
 }
 
 #[test]
-fn idle_and_closed_streams(rt: HostRuntime) -> Result<(), Fail> {
-    let cases = [
-        wrong(
-            "DATA on an idle stream",
-            &[S, D1],
-            1,
-            ConnCause::Idle,
-            &[A, G0_1],
-        ),
-        wrong(
-            "RST_STREAM on an idle stream",
-            &[S, R1],
-            1,
-            ConnCause::Idle,
-            &[A, G0_1],
-        ),
-        wrong(
-            "WINDOW_UPDATE on an idle stream",
-            &[S, W1],
-            1,
-            ConnCause::Idle,
-            &[A, G0_1],
-        ),
-        Case {
-            fault: Some((1, ConnCause::Idle)),
-            ..well(
-                "RST_STREAM on an even stream",
-                &[S, H3, b"\0\0\x04\x03\0\0\0\0\x02\0\0\0\x08"],
-                b"H\x03\x01",
-                &[A, G3_1],
-            )
-        },
-        Case {
-            fault: Some((1, ConnCause::EvenStream)),
-            ..well(
-                "HEADERS on an even stream below the last",
-                &[S, H3, b"\0\0\x01\x01\x04\0\0\0\x02\x82"],
-                b"H\x03\x01",
-                &[A, G3_1],
-            )
-        },
-        Case {
-            fault: Some((1, ConnCause::Idle)),
-            ..well(
-                "DATA on an even stream",
-                &[S, H3, b"\0\0\x01\0\0\0\0\0\x02x"],
-                b"H\x03\x01",
-                &[A, G3_1],
-            )
-        },
-        well(
-            "RST_STREAM on a live stream",
-            &[S, H1, R1],
-            b"H\x01\x01G\x01",
-            &[A],
-        ),
-        well(
-            "RST_STREAM on a closed stream",
-            &[S, H1, R1, R1],
-            b"H\x01\x01G\x01",
-            &[A],
-        ),
-        well(
-            "WINDOW_UPDATE on a closed stream",
-            &[S, H1, R1, b"\0\0\x04\x08\0\0\0\0\x01\0\0\0\0"],
-            b"H\x01\x01G\x01",
-            &[A],
-        ),
-        well(
-            "DATA on a closed stream",
-            &[S, H1, R1, D1],
-            b"H\x01\x01G\x01",
-            &[A, W0],
-        ),
-        well(
-            "DATA without bytes on a closed stream",
-            &[S, H1, R1, b"\0\0\0\0\0\0\0\0\x01"],
-            b"H\x01\x01G\x01",
-            &[A],
-        ),
-        well(
-            "DATA on a skipped stream",
-            &[S, H3, D1],
-            b"H\x03\x01",
-            &[A, W0],
-        ),
-    ];
-    for case in &cases {
-        shows(&rt, rt.alloc(), case)?;
-    }
-    Ok(())
+fn idle_and_closed_streams(rt: HostRuntime) {
+    play_all(&rt, rt.alloc(), IDLE_AND_CLOSED_STREAMS);
 }
 
 #[test]
-fn windows_of_streams(rt: HostRuntime) -> Result<(), Fail> {
-    let cases = [
-        well("a step of a stream", &[S, H1, W1], b"H\x01\x01", &[A]),
-        well(
-            "a step of 0 on a stream",
-            &[S, H1, b"\0\0\x04\x08\0\0\0\0\x01\0\0\0\0"],
-            b"H\x01\x01G\x01",
-            &[A, RST1_1],
-        ),
-        well(
-            "a step too much on a stream",
-            &[S, H1, b"\0\0\x04\x08\0\0\0\0\x01\x7f\xff\0\x01"],
-            b"H\x01\x01G\x01",
-            &[A, RST1_3],
-        ),
-        well(
-            "the largest step on a stream",
-            &[S, H1, b"\0\0\x04\x08\0\0\0\0\x01\x7f\xff\0\0"],
-            b"H\x01\x01",
-            &[A],
-        ),
-    ];
-    for case in &cases {
-        shows(&rt, rt.alloc(), case)?;
-    }
-    Ok(())
+fn windows_of_streams(rt: HostRuntime) {
+    play_all(&rt, rt.alloc(), WINDOWS_OF_STREAMS);
 }

@@ -1,100 +1,43 @@
-//! Each state of a stream with each kind of frame, after RFC 9113. The table is written from the
+//! Each state of a stream with each kind of frame, after RFC 9113. The tables are written from the
 //! standard's own rules (`tests/vectors/h2_states.py`), and not from the connection table.
 
+use crate::player::{Player, flush, hear_bytes, start};
+use crate::samples::{bytes_of, number};
+use crate::scenes::act;
 use crate::state_rows::{ROWS, STARTS};
-use crate::testing::{frames, goes_on, take};
-use h2_conn::{Conn, Happening};
-use h2_frame::{Body, Frame, FrameFault, Parser};
+use h2_conn::Happening;
+use h2_frame::{Body, Frame, Parser};
 use std::alloc::Global;
 use std::process::Abort;
-use std::test::Fail;
-use wl_octets::{Octets, Row};
-
-/// What the server does on a stream.
-#[derive(Clone, Copy)]
-pub enum Act {
-    Nothing,
-    /// It ends its response.
-    Finish,
-    Reset,
-}
-
-/// How a state of a stream is reached: frames of the client before and after what the server does.
-#[derive(Clone, Copy)]
-pub struct Start {
-    pub stream: u32,
-    pub before: &'static [u8],
-    pub act: Act,
-    pub after: &'static [u8],
-}
-
-/// What comes of the frames of a client in each of the states, a letter for each.
-///
-/// Seen is the code of GOAWAY (`P` PROTOCOL_ERROR, `F` FLOW_CONTROL_ERROR, `S` STREAM_CLOSED, `L`
-/// FRAME_SIZE_ERROR, `C` COMPRESSION_ERROR) or of RST_STREAM, in small letters; else `a` for an
-/// acknowledgement, `h`, `b`, `e` and `g` for what is reported (a head, a body, the end, the stream is
-/// gone), and `.` for nothing. After it the stream is idle or a block is unfinished (`i`), open
-/// (`o`), half-closed (`r` remote, `l` local) or closed (`x`), or the connection has failed (`-`).
-#[derive(Clone, Copy)]
-pub struct StateRow {
-    pub name: &'static str,
-    /// Those of stream 1 are for the stream of the state.
-    pub frames: &'static [u8],
-    pub seen: &'static str,
-    pub after: &'static str,
-}
+use wl_octets::Row;
 
 /// DATA without bytes that ends its request: what comes of it tells the states apart.
 const PROBE: &[u8] = b"\0\0\0\0\x01\0\0\0\x01";
 
-#[tactic(auto, unfolding(hpack::specs::Tables::list_size))]
-fn play(conn: &mut Conn, stream: u32, act: Act) -> Result<(), Fail> {
-    match act {
-        Act::Nothing => {}
-        Act::Finish => conn.finish(stream, &[])?,
-        Act::Reset => conn.reset(stream, 8)?,
-    }
-    Ok(())
+/// What stands before and after the next bar of a line.
+fn halves<'a>(rt: &impl Abort, line: &'a str) -> (&'a str, &'a str) {
+    line.split_once(" | ").expect(rt, "a bar")
+}
+
+/// Gives a connection frames that are no fault, and lets it write.
+fn go_on(rt: &impl Abort, alloc: Global, player: &mut Player, words: &str) {
+    let bytes = bytes_of(rt, alloc, words);
+    hear_bytes(rt, alloc, player, bytes.as_slice(), 1);
+    assert!(rt; player.faults == 0, "{words}");
 }
 
 /// A connection on which a stream is in a state, and all was written.
-fn reach(rt: &impl Abort, alloc: Global, start: &Start) -> Result<Conn, Fail> {
-    let mut conn = Conn::start(alloc)?;
-    let mut out = Octets::empty(alloc);
-    goes_on(rt, alloc, &mut conn, start.before)?;
-    play(&mut conn, start.stream, start.act)?;
-    conn.flush(&mut out)?;
-    goes_on(rt, alloc, &mut conn, start.after)?;
-    conn.flush(&mut out)?;
-    Ok(conn)
-}
-
-/// Gives a connection the frames of some bytes; bytes that are no frames fail it.
-fn give(
-    rt: &impl Abort,
-    alloc: Global,
-    conn: &mut Conn,
-    stream: u32,
-    bytes: &[u8],
-    into: &mut Row<Happening>,
-) -> Result<(), Fail> {
-    let mut parser = Parser::start_bare(alloc);
-    let mut given = Row::empty(alloc);
-    let end = parser.feed(alloc, bytes, &mut given);
-    for mut frame in given.into_vec() {
-        if frame.stream == 1 {
-            frame.stream = stream;
-        }
-        take(rt, conn, frame, into)?;
+fn reach(rt: &impl Abort, alloc: Global, before: &str, what: &str, after: &str) -> Player {
+    let mut player = start(rt, alloc);
+    go_on(rt, alloc, &mut player, before);
+    if what != "nothing" {
+        act(rt, alloc, &mut player.conn, what);
     }
-    match end {
-        Ok(()) => Ok(()),
-        Err(FrameFault::Memory) => Err(Fail::from("no memory")),
-        Err(why) => {
-            conn.fail(why)?;
-            Ok(())
-        }
-    }
+    drop(flush(rt, alloc, &mut player));
+    go_on(rt, alloc, &mut player, after);
+    drop(flush(rt, alloc, &mut player));
+    player.told = Row::empty(alloc);
+    player
 }
 
 /// The letter of an error code.
@@ -122,13 +65,26 @@ fn answer_letter(frame: &Frame, stream: u32) -> Option<char> {
     }
 }
 
-/// The letter of a happening.
-fn happening_letter(happening: &Happening) -> char {
-    match happening {
-        Happening::Head { .. } => 'h',
-        Happening::Body { .. } => 'b',
-        Happening::End { .. } => 'e',
-        Happening::Gone { .. } => 'g',
+/// The letter of the last of the frames of a server that has one, and otherwise this letter.
+fn answers_letter(rt: &impl Abort, alloc: Global, bytes: &[u8], stream: u32, other: char) -> char {
+    let mut frames = Row::empty(alloc);
+    let end = Parser::start_bare(alloc).feed(alloc, bytes, &mut frames);
+    assert!(rt; end == Ok(()));
+    let mut letter = other;
+    for frame in frames.as_slice() {
+        letter = answer_letter(frame, stream).unwrap_or(letter);
+    }
+    letter
+}
+
+/// The letter of the last happening.
+fn happening_letter(happenings: &[Happening]) -> char {
+    match happenings.last() {
+        None => '.',
+        Some(Happening::Head { .. }) => 'h',
+        Some(Happening::Body { .. }) => 'b',
+        Some(Happening::End { .. }) => 'e',
+        Some(Happening::Gone { .. }) => 'g',
     }
 }
 
@@ -136,66 +92,79 @@ fn happening_letter(happening: &Happening) -> char {
 fn outcome_letter(
     rt: &impl Abort,
     alloc: Global,
-    conn: &mut Conn,
+    player: &mut Player,
     stream: u32,
     bytes: &[u8],
-) -> Result<char, Fail> {
-    let mut letter = '.';
-    let mut into = Row::empty(alloc);
-    give(rt, alloc, conn, stream, bytes, &mut into)?;
-    for happening in into.as_slice() {
-        letter = happening_letter(happening);
-    }
-    let mut out = Octets::empty(alloc);
-    conn.flush(&mut out)?;
-    for frame in frames(alloc, out.as_slice())?.as_slice() {
-        letter = answer_letter(frame, stream).unwrap_or(letter);
-    }
-    Ok(letter)
+) -> char {
+    player.told = Row::empty(alloc);
+    hear_bytes(rt, alloc, player, bytes, stream);
+    let told = happening_letter(player.told.as_slice());
+    let out = flush(rt, alloc, player);
+    answers_letter(rt, alloc, out.as_slice(), stream, told)
 }
 
 /// The letter of a stream's state on a connection that has not failed.
-fn state_letter(
-    rt: &impl Abort,
-    alloc: Global,
-    conn: &mut Conn,
-    stream: u32,
-) -> Result<char, Fail> {
-    let letter = outcome_letter(rt, alloc, conn, stream, PROBE)?;
-    Ok(match letter {
+fn state_letter(rt: &impl Abort, alloc: Global, player: &mut Player, stream: u32) -> char {
+    match outcome_letter(rt, alloc, player, stream, PROBE) {
         'P' => 'i',
-        'b' if conn.is_live(stream) => 'o',
+        'b' if player.conn.is_live(stream) => 'o',
         'b' => 'l',
         's' => 'r',
         '.' => 'x',
         _ => '?',
-    })
+    }
 }
 
-/// Asserts what comes of a row's frames in each state.
-fn meets(rt: &impl Abort, alloc: Global, row: &StateRow) -> Result<(), Fail> {
+/// The letter of a stream's state after an outcome of this letter.
+fn letter_after(
+    rt: &impl Abort,
+    alloc: Global,
+    player: &mut Player,
+    stream: u32,
+    seen: char,
+) -> char {
+    if seen.is_ascii_uppercase() {
+        assert_eq!(rt; player.conn.live(), 0);
+        '-'
+    } else {
+        state_letter(rt, alloc, player, stream)
+    }
+}
+
+/// The letters of what comes of these frames in a state, and of the stream's state after it.
+fn letters_at(rt: &impl Abort, alloc: Global, frames: &[u8], state: &str) -> (char, char) {
+    let (stream, rest) = halves(rt, state);
+    let (before, rest) = halves(rt, rest);
+    let (what, after) = halves(rt, rest);
+    let stream = number(rt, stream);
+    let mut player = reach(rt, alloc, before, what, after);
+    let seen = outcome_letter(rt, alloc, &mut player, stream, frames);
+    let after = letter_after(rt, alloc, &mut player, stream, seen);
+    (seen, after)
+}
+
+/// Asserts what comes of a row's frames in each state, a letter for each state, and the letters of the states after it.
+fn meets(rt: &impl Abort, alloc: Global, row: &str) {
+    let (_, rest) = halves(rt, row);
+    let (frames, rest) = halves(rt, rest);
+    let frames = bytes_of(rt, alloc, frames);
     let mut all_seen = String::new(alloc);
     let mut all_after = String::new(alloc);
-    for start in &STARTS {
-        let mut conn = reach(rt, alloc, start)?;
-        let letter = outcome_letter(rt, alloc, &mut conn, start.stream, row.frames)?;
-        all_seen.push(letter)?;
-        if letter.is_ascii_uppercase() {
-            assert_eq!(rt; conn.live(), 0, "{}", row.name);
-            all_after.push('-')?;
-        } else {
-            all_after.push(state_letter(rt, alloc, &mut conn, start.stream)?)?;
-        }
+    for state in STARTS.lines() {
+        let (seen, after) = letters_at(rt, alloc, frames.as_slice(), state);
+        all_seen.push(seen).expect(rt, "memory");
+        all_after.push(after).expect(rt, "memory");
     }
-    assert_eq!(rt; all_seen.as_str(), row.seen, "{}", row.name);
-    assert_eq!(rt; all_after.as_str(), row.after, "{}", row.name);
-    Ok(())
+    assert_eq!(rt;
+        (all_seen.as_str(), all_after.as_str()),
+        halves(rt, rest),
+        "{row}"
+    );
 }
 
 #[test]
-fn states_and_frames(rt: HostRuntime) -> Result<(), Fail> {
-    for row in &ROWS {
-        meets(&rt, rt.alloc(), row)?;
+fn states_and_frames(rt: HostRuntime) {
+    for row in ROWS.lines() {
+        meets(&rt, rt.alloc(), row);
     }
-    Ok(())
 }
