@@ -1,8 +1,9 @@
 //! What happens to a manager.
 
 use std::alloc::Global;
+use std::process::Abort;
 use wl_entry::Signed;
-use wl_octets::{Memory, Octets};
+use wl_octets::Octets;
 
 /// What a signer gives. Times are Unix seconds.
 #[derive(Clone, Copy)]
@@ -14,15 +15,13 @@ pub struct Identity {
 }
 
 impl Identity {
-    pub fn signed(self, alloc: Global) -> Result<Signed, Memory> {
-        let chain = Octets::from_slice(alloc, self.chain)?;
-        let key = Octets::from_slice(alloc, self.key)?;
-        Ok(Signed {
-            chain,
-            key,
+    pub fn signed(self, rt: &impl Abort, alloc: Global) -> Signed {
+        Signed {
+            chain: Octets::from_slice(alloc, self.chain).expect(rt, "memory"),
+            key: Octets::from_slice(alloc, self.key).expect(rt, "memory"),
             not_before: self.not_before,
             not_after: self.not_after,
-        })
+        }
     }
 }
 

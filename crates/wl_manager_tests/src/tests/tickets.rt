@@ -1,9 +1,10 @@
 //! Tickets are noted down and let go, which leaves them in flight, and are made again when they come back.
 
 use std::alloc::Global;
+use std::process::Abort;
 use wl_entry::Ask;
 use wl_manager::{Ticket, abandon_all};
-use wl_octets::{Memory, Row};
+use wl_octets::Row;
 
 /// The number of a ticket and its ask.
 #[derive(Drop)]
@@ -12,31 +13,23 @@ pub struct Slip {
     pub ask: Ask,
 }
 
-fn copies(alloc: Global, tickets: &[Ticket]) -> Result<Vec<Slip>, Memory> {
-    let mut slips = Vec::new(alloc);
-    for ticket in tickets {
-        let ask = ticket.ask.copy(alloc)?;
-        slips.push(Slip {
+/// Notes the tickets down.
+pub fn note(rt: &impl Abort, alloc: Global, slips: &mut Vec<Slip>, tickets: Row<Ticket>) {
+    for ticket in tickets.as_slice() {
+        let slip = Slip {
             number: ticket.number,
-            ask,
-        })?;
+            ask: ticket.ask.copy(alloc).expect(rt, "memory"),
+        };
+        slips.push(slip).expect(rt, "memory");
     }
-    Ok(slips)
-}
-
-/// The tickets, noted down.
-pub fn noted(alloc: Global, tickets: Row<Ticket>) -> Result<Vec<Slip>, Memory> {
-    let slips = copies(alloc, tickets.as_slice());
     abandon_all(tickets);
-    slips
 }
 
-/// The ask of the ticket of this number, if it is noted.
-pub fn ask_of(alloc: Global, slips: &[Slip], number: u64) -> Result<Option<Ask>, Memory> {
-    for slip in slips {
-        if slip.number == number {
-            return Ok(Some(slip.ask.copy(alloc)?));
-        }
-    }
-    Ok(None)
+/// The ask of the ticket of this number, which is noted.
+pub fn ask_of(rt: &impl Abort, alloc: Global, slips: &[Slip], number: u64) -> Ask {
+    let slip = slips
+        .iter()
+        .find(|slip| slip.number == number)
+        .expect(rt, "such a ticket");
+    slip.ask.copy(alloc).expect(rt, "memory")
 }

@@ -3,113 +3,123 @@
 use super::documents::{DOC, HINTED, OTHER_ID};
 use spiffe_id::SpiffeId;
 use std::alloc::{AllocGlobal, Global};
-use std::test::Fail;
+use std::process::Abort;
 use wl_entry::{Ask, Free, JwtToken, JwtUnfit};
 use wl_manager::{Keeping, Manager};
 use wl_octets::{Octets, Row};
 
 /// The ask of the worked document's entry.
-fn worked_ask(alloc: Global) -> Result<Ask, Fail> {
-    Ok(Ask {
-        entry_id: Octets::from_slice(alloc, b"e1")?,
-        spiffe_id: SpiffeId::parse(alloc, b"spiffe://a.b/w")?,
+fn worked_ask(rt: &impl Abort, alloc: Global) -> Ask {
+    Ask {
+        entry_id: Octets::from_slice(alloc, b"e1").expect(rt, "memory"),
+        spiffe_id: SpiffeId::parse(alloc, b"spiffe://a.b/w").expect(rt, "an id"),
         dns_names: Row::empty(alloc),
         ttl: 3600,
-    })
+    }
 }
 
-fn texts(alloc: Global, names: &[&[u8]]) -> Result<Vec<Octets>, Fail> {
+fn texts(rt: &impl Abort, alloc: Global, names: &[&[u8]]) -> Vec<Octets> {
     let mut list = Vec::new(alloc);
     for name in names {
-        list.push(Octets::from_slice(alloc, name)?)?;
+        let text = Octets::from_slice(alloc, name).expect(rt, "memory");
+        list.push(text).expect(rt, "memory");
     }
-    Ok(list)
+    list
 }
 
-/// Hands in a token of these bytes, from 100 to 200.
+fn start(rt: &impl Abort, alloc: Global, document: &[u8]) -> Manager<Free> {
+    Manager::start(alloc, document).expect(rt, "a document")
+}
+
+/// Hands in a token of these bytes, from 100 to 200, and asserts what becomes of it.
 fn keep(
+    rt: &impl Abort,
     alloc: Global,
     manager: &mut Manager<Free>,
     names: &[&[u8]],
-    token: &[u8],
     now: u64,
-) -> Result<Keeping, Fail> {
-    let ask = worked_ask(alloc)?;
-    let audience = texts(alloc, names)?;
+    due: Keeping,
+) {
+    let ask = worked_ask(rt, alloc);
+    let audience = texts(rt, alloc, names);
     let token = JwtToken {
-        token: Octets::from_slice(alloc, token)?,
+        token: Octets::from_slice(alloc, b"t").expect(rt, "memory"),
         issued_at: 100,
         expires_at: 200,
     };
-    Ok(manager.keep_token(alloc, &ask, audience.as_slice(), token, now)?)
+    let kept = manager.keep_token(alloc, &ask, audience.as_slice(), token, now);
+    assert!(rt; kept.expect(rt, "memory") == due);
 }
 
-/// Whether a token of these bytes is found, or none where they are none.
-fn finds(
+/// Asserts whether the token is found.
+fn find(
+    rt: &impl Abort,
     alloc: Global,
     manager: &Manager<Free>,
     names: &[&[u8]],
     now: u64,
-    token: &[u8],
-) -> Result<bool, Fail> {
-    let ask = worked_ask(alloc)?;
-    let audience = texts(alloc, names)?;
-    match manager.token(alloc, &ask, audience.as_slice(), now)? {
-        Some(found) => Ok(found.token.as_slice() == token),
-        None => Ok(token.is_empty()),
+    is_there: bool,
+) {
+    let ask = worked_ask(rt, alloc);
+    let audience = texts(rt, alloc, names);
+    let found = manager
+        .token(alloc, &ask, audience.as_slice(), now)
+        .expect(rt, "memory");
+    match found {
+        Some(found) => assert!(rt; is_there && found.token.as_slice() == b"t".as_slice()),
+        None => assert!(rt; !is_there),
     }
 }
 
-/// Whether a token that is kept for one audience is found after a document was read.
-fn stays_after(alloc: Global, document: &[u8]) -> Result<bool, Fail> {
-    let mut manager = Manager::<Free>::start(alloc, DOC)?;
-    keep(alloc, &mut manager, &[b"x"], b"t", 100)?;
-    manager.sync(alloc, document)?;
-    finds(alloc, &manager, &[b"x"], 149, b"t")
+#[test]
+fn manager_tokens(rt: HostRuntime) {
+    let alloc = rt.alloc();
+    let mut manager = start(&rt, alloc, DOC);
+    find(&rt, alloc, &manager, &[b"x"], 149, false);
+    keep(&rt, alloc, &mut manager, &[b"x", b"y"], 100, Keeping::Kept);
+    find(&rt, alloc, &manager, &[b"y", b"x", b"x"], 149, true);
+    find(&rt, alloc, &manager, &[b"y", b"x", b"x"], 150, false);
 }
 
-/// What becomes of a token that is handed in first.
-fn kept_first(
+/// Asserts whether a token that is kept for one audience is found after a document was read.
+fn stays_after(rt: &impl Abort, alloc: Global, document: &[u8], is_there: bool) {
+    let mut manager = start(rt, alloc, DOC);
+    keep(rt, alloc, &mut manager, &[b"x"], 100, Keeping::Kept);
+    let _ = manager.sync(alloc, document).expect(rt, "a document");
+    find(rt, alloc, &manager, &[b"x"], 149, is_there);
+}
+
+#[test]
+fn documents_drop_tokens(rt: HostRuntime) {
+    for (document, is_there) in [(DOC, true), (HINTED, true), (OTHER_ID, false)] {
+        stays_after(&rt, rt.alloc(), document, is_there);
+    }
+}
+
+/// Asserts what becomes of a token that is handed in first.
+fn keep_first(
+    rt: &impl Abort,
     alloc: Global,
     document: &[u8],
     names: &[&[u8]],
-    token: &[u8],
     now: u64,
-) -> Result<Keeping, Fail> {
-    let mut manager = Manager::<Free>::start(alloc, document)?;
-    keep(alloc, &mut manager, names, token, now)
+    due: Keeping,
+) {
+    let mut manager = start(rt, alloc, document);
+    keep(rt, alloc, &mut manager, names, now, due);
 }
 
 #[test]
-fn manager_tokens(rt: HostRuntime) -> Result<(), Fail> {
-    let alloc = rt.alloc();
-    let mut manager = Manager::<Free>::start(alloc, DOC)?;
-    assert!(rt; finds(alloc, &manager, &[b"x"], 149, b"")?);
-    assert!(rt; keep(alloc, &mut manager, &[b"x", b"y"], b"t", 100)? == Keeping::Kept);
-    assert!(rt; finds(alloc, &manager, &[b"y", b"x", b"x"], 149, b"t")?);
-    assert!(rt; finds(alloc, &manager, &[b"y", b"x", b"x"], 150, b"")?);
-    Ok(())
-}
-
-#[test]
-fn documents_drop_tokens(rt: HostRuntime) -> Result<(), Fail> {
-    assert!(rt; stays_after(rt.alloc(), DOC)?);
-    assert!(rt; stays_after(rt.alloc(), HINTED)?);
-    assert!(rt; !stays_after(rt.alloc(), OTHER_ID)?);
-    Ok(())
-}
-
-#[test]
-fn tokens_are_refused(rt: HostRuntime) -> Result<(), Fail> {
-    let alloc = rt.alloc();
-    let expired = Keeping::Unfit(JwtUnfit::Expired);
-    assert!(rt; kept_first(alloc, DOC, &[b"x"], b"t", 200)? == expired);
-    assert!(rt; kept_first(alloc, OTHER_ID, &[b"x"], b"t", 100)? == Keeping::NoSuchAsk);
+fn tokens_are_refused(rt: HostRuntime) {
     let long: &[u8] = &[b'x'; 2048];
     let longer: &[u8] = &[b'y'; 2049];
-    assert!(rt; kept_first(alloc, DOC, &[long, longer], b"t", 100)? == Keeping::AudienceLong(4097));
-    assert!(rt;
-        kept_first(alloc, DOC, &[long, long, longer], b"t", 199)? == Keeping::AudienceLong(4097)
-    );
-    Ok(())
+    let cases: [(&[u8], &[&[u8]], u64, Keeping); 4] = [
+        (DOC, &[b"x"], 200, Keeping::Unfit(JwtUnfit::Expired)),
+        (OTHER_ID, &[b"x"], 100, Keeping::NoSuchAsk),
+        (DOC, &[long, longer], 100, Keeping::AudienceLong(4097)),
+        (DOC, &[long, long, longer], 199, Keeping::AudienceLong(4097)),
+    ];
+    for (document, names, now, due) in cases {
+        keep_first(&rt, rt.alloc(), document, names, now, due);
+    }
 }

@@ -1,47 +1,38 @@
 //! What the calls of a manager answer, in words.
 
 use super::documents::{HINTED_MESSAGE, MESSAGE};
-use super::tickets::Slip;
 use std::alloc::Global;
+use std::process::Abort;
 use svid_cache::Installed;
 use wl_entry::Unfit;
-use wl_octets::{Memory, Octets};
+use wl_octets::Octets;
 
 /// The text of these bytes, which is empty where they are none.
-fn text(bytes: &Octets) -> &str {
-    match str::from_utf8(bytes.as_slice()) {
-        Ok(text) => text,
-        Err(_) => "",
-    }
+pub fn text(bytes: &Octets) -> &str {
+    str::from_utf8(bytes.as_slice()).unwrap_or("")
 }
 
-pub fn ticket_words(alloc: Global, slip: &Slip) -> Result<String, Memory> {
-    let entry = text(&slip.ask.entry_id);
-    Ok(format!(in alloc; "ticket {} {entry}", slip.number)?)
-}
-
-fn unfit_words(alloc: Global, unfit: &Unfit) -> Result<String, Memory> {
-    match unfit {
-        Unfit::Cert(fault) => Ok(format!(in alloc; "unfit 6 {fault:?}")?),
+fn unfit_words(rt: &impl Abort, alloc: Global, unfit: &Unfit) -> String {
+    let words = match unfit {
+        Unfit::Cert(fault) => format!(in alloc; "unfit 6 {fault:?}"),
         Unfit::OtherId { asked, named } => {
-            let (asked, named) = (text(asked), text(named));
-            Ok(format!(in alloc; "unfit 7 {asked} {named}")?)
+            format!(in alloc; "unfit 7 {} {}", text(asked), text(named))
         }
-        Unfit::OtherTimes { before, after } => {
-            Ok(format!(in alloc; "unfit 8 {before} {after}")?)
-        }
-        _ => Ok(format!(in alloc; "unfit")?),
-    }
+        Unfit::OtherTimes { before, after } => format!(in alloc; "unfit 8 {before} {after}"),
+        _ => format!(in alloc; "unfit"),
+    };
+    words.expect(rt, "memory")
 }
 
-pub fn installed_words(alloc: Global, installed: &Installed) -> Result<String, Memory> {
-    match installed {
-        Installed::Kept => Ok(format!(in alloc; "kept")?),
-        Installed::NoSuchAsk => Ok(format!(in alloc; "unknown-ask")?),
-        Installed::Spent => Ok(format!(in alloc; "spent")?),
-        Installed::Older(end) => Ok(format!(in alloc; "older {end}")?),
-        Installed::Unfit(unfit) => unfit_words(alloc, unfit),
-    }
+pub fn installed_words(rt: &impl Abort, alloc: Global, installed: &Installed) -> String {
+    let words = match installed {
+        Installed::Kept => String::from_str(alloc, "kept"),
+        Installed::NoSuchAsk => String::from_str(alloc, "unknown-ask"),
+        Installed::Spent => String::from_str(alloc, "spent"),
+        Installed::Older(end) => format!(in alloc; "older {end}"),
+        Installed::Unfit(unfit) => return unfit_words(rt, alloc, unfit),
+    };
+    words.expect(rt, "memory")
 }
 
 /// Which of the worked messages this is.

@@ -1,9 +1,9 @@
 //! The calls that take a step at once, and the answers to a caller.
 
 use super::Replay;
-use crate::tests::tickets::noted;
 use crate::tests::words::message_words;
 use std::alloc::Global;
+use std::process::Abort;
 use wl_document::DocFault;
 use wl_entry::Signed;
 use wl_manager::{Change, Claim, Ticket};
@@ -19,76 +19,79 @@ fn change_from(before: u64, after: u64) -> Change {
 }
 
 impl Replay {
-    /// out of memory in a step, after which the last publication has to have this number still.
-    fn want_memory(&mut self, number: u64) -> Result<(), Memory> {
-        if self.number() == number {
-            return Err(Memory);
-        }
-        self.say("published out of memory")
+    /// Out of memory in a step, at which the last publication has this number still.
+    fn stop(&self, rt: &impl Abort, number: u64) {
+        assert_eq!(rt; self.number(), number, "published out of memory");
+        panic!(rt; "memory")
     }
 
-    pub(super) fn sync(&mut self, alloc: Global, document: &[u8]) -> Result<(), Memory> {
+    pub(super) fn sync(&mut self, rt: &impl Abort, alloc: Global, document: &[u8]) {
         let before = self.number();
         match self.manager.sync(alloc, document) {
-            Ok(change) => self.say_change(alloc, change),
-            Err(DocFault::Memory) => self.want_memory(before),
-            Err(fault) => self.say_fault(alloc, fault),
+            Ok(change) => self.say_change(rt, alloc, change),
+            Err(DocFault::Memory) => self.stop(rt, before),
+            Err(fault) => self.say_fault(rt, alloc, fault),
         }
     }
 
-    pub(super) fn claim(&mut self, alloc: Global, now: u64) -> Result<(), Memory> {
+    pub(super) fn claim(&mut self, rt: &impl Abort, alloc: Global, now: u64) {
         let before = self.number();
         match self.manager.claim(alloc, now) {
             Ok(Claim { swept, tickets }) => {
-                let slips = noted(alloc, tickets)?;
-                self.say_change(alloc, swept)?;
-                self.say_tickets(alloc, slips)
+                self.say_change(rt, alloc, swept);
+                self.say_tickets(rt, alloc, tickets);
             }
-            Err(Memory) => self.want_memory(before),
+            Err(Memory) => self.stop(rt, before),
         }
     }
 
     /// Hands a ticket in with an identity. It is spent in each case.
     pub(super) fn signed(
         &mut self,
+        rt: &impl Abort,
         alloc: Global,
         ticket: Ticket,
         signed: Signed,
         now: u64,
-    ) -> Result<(), Memory> {
+    ) {
         let before = self.number();
         let number = ticket.number;
         match self.manager.signed(alloc, ticket, signed, now) {
             Ok(installed) => {
-                self.say_installed(alloc, &installed)?;
-                self.say_change(alloc, change_from(before, self.number()))
+                self.say_installed(rt, alloc, &installed);
+                self.say_change(rt, alloc, change_from(before, self.number()));
             }
-            Err(Memory) if self.manager.in_flight(number) => self.say("still in flight"),
-            Err(Memory) => self.want_memory(before),
+            Err(Memory) if self.manager.in_flight(number) => self.say(rt, "still in flight"),
+            Err(Memory) => self.stop(rt, before),
         }
     }
 
     /// Hands a ticket back without an identity.
-    pub(super) fn failed(&mut self, ticket: Ticket) -> Result<(), Memory> {
+    pub(super) fn failed(&mut self, rt: &impl Abort, ticket: Ticket) {
         let number = ticket.number;
         let was_in_flight = self.manager.in_flight(number);
         self.manager.failed(ticket);
-        match (was_in_flight, self.manager.in_flight(number)) {
-            (true, false) => self.say("failed"),
-            (false, false) => self.say("spent"),
-            (_, true) => self.say("still in flight"),
-        }
+        let words = match (was_in_flight, self.manager.in_flight(number)) {
+            (true, false) => "failed",
+            (false, false) => "spent",
+            (_, true) => "still in flight",
+        };
+        self.say(rt, words);
     }
 
     /// What FetchX509SVID gives the caller.
-    pub(super) fn answer(&mut self, alloc: Global) -> Result<(), Memory> {
-        let places = self.manager.entitled(alloc, &self.caller)?;
+    pub(super) fn answer(&mut self, rt: &impl Abort, alloc: Global) {
+        let places = self
+            .manager
+            .entitled(alloc, &self.caller)
+            .expect(rt, "memory");
         let snapshot = self.manager.snapshot().part();
-        let view = view_of(alloc, snapshot, places.as_slice())?;
-        match answer(alloc, Method3::X509Svid, &view)? {
-            Answer::Message(message) => self.say(message_words(&message)),
-            Answer::Wait => self.say("wait"),
-            _ => self.say("another answer"),
-        }
+        let view = view_of(alloc, snapshot, places.as_slice()).expect(rt, "memory");
+        let words = match answer(alloc, Method3::X509Svid, &view).expect(rt, "memory") {
+            Answer::Message(message) => message_words(&message),
+            Answer::Wait => "wait",
+            _ => "another answer",
+        };
+        self.say(rt, words);
     }
 }

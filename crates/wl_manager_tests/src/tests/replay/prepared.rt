@@ -1,11 +1,11 @@
 //! Steps that are prepared, and then adopted.
 
 use super::Replay;
-use crate::tests::tickets::noted;
 use std::alloc::Global;
+use std::process::Abort;
+use wl_document::DocFault;
 use wl_entry::{Free, Signed};
 use wl_manager::{Adopted, Change, Prepared, Ticket};
-use wl_octets::Memory;
 
 /// The number of the publication that a step makes, if it makes one.
 fn number_in(prepared: &Prepared<Free>) -> Option<u64> {
@@ -24,7 +24,7 @@ impl Replay {
         }
     }
 
-    fn adopt(&mut self, alloc: Global, prepared: Prepared<Free>) -> Result<(), Memory> {
+    fn adopt(&mut self, rt: &impl Abort, alloc: Global, prepared: Prepared<Free>) {
         let number = number_in(&prepared);
         let Adopted {
             change,
@@ -32,43 +32,38 @@ impl Replay {
             installed,
             touched: _,
         } = self.manager.adopt(prepared);
-        let slips = noted(alloc, tickets)?;
-        if self.number_of(change) != number {
-            self.say("another snapshot")?;
-        }
+        assert_eq!(rt; self.number_of(change), number, "another snapshot");
         if let Some(installed) = installed {
-            self.say_installed(alloc, &installed)?;
+            self.say_installed(rt, alloc, &installed);
         }
-        self.say_change(alloc, change)?;
-        self.say_tickets(alloc, slips)
+        self.say_change(rt, alloc, change);
+        self.say_tickets(rt, alloc, tickets);
     }
 
-    pub(super) fn prepare_sync(&mut self, alloc: Global, document: &[u8]) -> Result<(), Memory> {
+    pub(super) fn prepare_sync(&mut self, rt: &impl Abort, alloc: Global, document: &[u8]) {
         match self.manager.prepare_sync(alloc, document) {
-            Ok(prepared) => self.adopt(alloc, prepared),
-            Err(fault) => self.say_fault(alloc, fault),
+            Ok(prepared) => self.adopt(rt, alloc, prepared),
+            Err(DocFault::Memory) => panic!(rt; "memory"),
+            Err(fault) => self.say_fault(rt, alloc, fault),
         }
     }
 
-    pub(super) fn prepare_claim(&mut self, alloc: Global, now: u64) -> Result<(), Memory> {
-        match self.manager.prepare_claim(alloc, now) {
-            Ok(prepared) => self.adopt(alloc, prepared),
-            Err(Memory) => Err(Memory),
-        }
+    pub(super) fn prepare_claim(&mut self, rt: &impl Abort, alloc: Global, now: u64) {
+        let prepared = self.manager.prepare_claim(alloc, now).expect(rt, "memory");
+        self.adopt(rt, alloc, prepared);
     }
 
     pub(super) fn prepare_signed(
         &mut self,
+        rt: &impl Abort,
         alloc: Global,
         ticket: Ticket,
-        signed: &Signed,
+        signed: Signed,
         now: u64,
-    ) -> Result<(), Memory> {
-        let prepared = self.manager.prepare_signed(alloc, &ticket, signed, now);
+    ) {
+        let prepared = self.manager.prepare_signed(alloc, &ticket, &signed, now);
         ticket.abandon();
-        match prepared {
-            Ok(prepared) => self.adopt(alloc, prepared),
-            Err(Memory) => Err(Memory),
-        }
+        let prepared = prepared.expect(rt, "memory");
+        self.adopt(rt, alloc, prepared);
     }
 }
