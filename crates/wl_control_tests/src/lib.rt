@@ -2,4 +2,16 @@
 #![tactic(auto)]
 
 #[cfg(test)]
+mod forms;
+#[cfg(test)]
+mod large;
+#[cfg(test)]
+mod repeating;
+#[cfg(test)]
+mod samples;
+#[cfg(test)]
+mod scenes;
+#[cfg(test)]
 mod tests;
+#[cfg(test)]
+mod tokens;
