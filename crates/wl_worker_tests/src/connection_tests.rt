@@ -11,36 +11,29 @@ pub mod outside;
 mod rotation;
 
 use desks::open;
-use outside::{Outside, Stop, memory_outside};
+use outside::{Outside, memory_outside};
 use std::alloc::Global;
+use std::process::Abort;
 use std::sync::Wait;
 use wl_edge::{Gate, LinkPlan, MemoryLink, OpenGate};
-use wl_octets::Octets;
 use wl_worker::{Ended, serve_connection};
 
-/// How a connection ended, what its link took, and how often the signer was asked.
-#[derive(Drop)]
-struct Came {
-    end: Ended,
-    took: Octets,
-    asked: usize,
-}
-
-/// Serves a link on a desk of its own.
-fn serve_link<G: Gate, R: Wait>(
+/// Serves a link that follows this plan, on a desk of its own: its end, and the link.
+fn serve<G: Gate, R: Wait + Abort>(
     rt: &R,
     alloc: Global,
-    link: &mut MemoryLink,
+    plan: LinkPlan,
     outside: &mut Outside,
     gate: &G,
-) -> Result<Ended, Stop> {
-    let (desk, mut pass) = open(rt, alloc, 1)?;
+) -> (Ended, MemoryLink) {
+    let mut link = MemoryLink::start(alloc, plan).expect(rt, "memory");
+    let (desk, mut pass) = open(rt, alloc, 1).expect(rt, "a desk");
     let end = serve_connection(
         rt,
         alloc,
         &desk,
         &mut pass,
-        link,
+        &mut link,
         &mut outside.attestor,
         0,
         &mut outside.asks,
@@ -48,27 +41,13 @@ fn serve_link<G: Gate, R: Wait>(
         gate,
     );
     desk.into_inner().end(rt);
-    Ok(end)
-}
-
-/// Serves a link that follows this plan.
-fn serve<R: Wait>(
-    rt: &R,
-    alloc: Global,
-    plan: LinkPlan,
-    outside: &mut Outside,
-) -> Result<Came, Stop> {
-    let mut link = MemoryLink::start(alloc, plan)?;
-    let end = serve_link(rt, alloc, &mut link, outside, &OpenGate)?;
-    Ok(Came {
-        end,
-        took: Octets::from_slice(alloc, link.took())?,
-        asked: outside.asks.signer.calls().len(),
-    })
+    (end, link)
 }
 
 /// The same at 100, with an attestor and a signer that never fail.
-fn serve_well<R: Wait>(rt: &R, alloc: Global, plan: LinkPlan) -> Result<Came, Stop> {
-    let mut outside = memory_outside(alloc, 100, &[], &[])?;
-    serve(rt, alloc, plan, &mut outside)
+fn serve_well<R: Wait + Abort>(rt: &R, alloc: Global, plan: LinkPlan) -> (Ended, MemoryLink) {
+    let mut outside = memory_outside(alloc, 100, &[], &[]).expect(rt, "an outside");
+    let served = serve(rt, alloc, plan, &mut outside, &OpenGate);
+    drop(outside);
+    served
 }

@@ -7,14 +7,15 @@ mod starving;
 ghost use Rattle.std.specs.Prelude.{IsSome};
 
 use crate::connection_tests::desks::open;
-use crate::connection_tests::outside::{Stop, numbers};
-use outside::{MemorySeat, SeatWith, seat};
-use std::alloc::Global;
+use crate::connection_tests::outside::numbers;
+use outside::{SeatWith, seat};
+use std::alloc::{AllocGlobal, Global};
+use std::process::Abort;
 use std::sync::{Mutex, Wait};
-use std::test::Fail;
 use wl_desk::Desk;
 use wl_edge::{Attestor, MemoryLink, MemoryReady, OpenGate, Ready};
 use wl_entry::Free;
+use wl_publish::Pass;
 use wl_worker::{SeatEnd, serve_seat};
 
 /// A seat and what becomes of it. Each link gives the opening and a call for identities, and then its end.
@@ -128,75 +129,77 @@ fn are_due(links: &[MemoryLink], due: &[(bool, u64)]) -> bool {
 }
 
 /// Serves a seat of which no link was finished yet.
-fn serve_first<A: Attestor, P: Ready<MemoryLink>, R: Wait>(
+fn serve_first<A: Attestor, P: Ready<MemoryLink>, R: Wait + Abort>(
     rt: &R,
     alloc: Global,
     desk: &Mutex<Desk<Free>>,
     seat: &mut SeatWith<A, P>,
-) -> Result<SeatEnd, Stop>
+) -> SeatEnd
     requires { IsSome seat.old.pass }
 {
-    if seat.listener.finished().is_empty() {
-        Ok(serve_seat(rt, alloc, desk, seat, &OpenGate))
-    } else {
-        Err(Stop::Served)
-    }
+    assert!(rt; seat.listener.finished().is_empty());
+    serve_seat(rt, alloc, desk, seat, &OpenGate)
 }
 
-/// Serves a seat on a desk of its own of three seats: its end, and how many seats the desk has then.
-fn serve<A: Attestor, P: Ready<MemoryLink>, R: Wait>(
+/// Serves a seat with this pass on a desk of its own: its end, and how many seats the desk has then.
+fn serve_on<A: Attestor, P: Ready<MemoryLink>, R: Wait + Abort>(
     rt: &R,
     alloc: Global,
     seat: &mut SeatWith<A, P>,
-) -> Result<(SeatEnd, u32), Stop> {
-    let (desk, pass) = open(rt, alloc, 3)?;
+    desk: Mutex<Desk<Free>>,
+    pass: Pass<Free>,
+) -> (SeatEnd, u32) {
     seat.pass = Some(pass);
     let end = serve_first(rt, alloc, &desk, seat);
     let left = desk.lock(rt).seats();
     desk.into_inner().end(rt);
-    Ok((end?, left))
+    (end, left)
 }
 
-/// The seat of a case.
-fn seat_of(alloc: Global, case: &Case) -> Result<MemorySeat<MemoryReady>, Stop> {
-    let ready = MemoryReady::start(alloc, numbers(alloc, case.unwatched)?);
-    seat(alloc, case.room, case.links, case.idle, case.failing, ready)
+/// The same on a desk of three seats.
+fn serve<A: Attestor, P: Ready<MemoryLink>, R: Wait + Abort>(
+    rt: &R,
+    alloc: Global,
+    seat: &mut SeatWith<A, P>,
+) -> (SeatEnd, u32) {
+    let (desk, pass) = open(rt, alloc, 3).expect(rt, "a desk");
+    serve_on(rt, alloc, seat, desk, pass)
 }
 
-/// Whether a seat ends as is due, and the desk has one seat fewer then.
-fn is_due<R: Wait>(rt: &R, alloc: Global, case: &Case) -> Result<bool, Stop> {
-    let mut seat = seat_of(alloc, case)?;
-    let (end, left) = serve(rt, alloc, &mut seat)?;
-    Ok(end == case.end && left == 2 && are_due(seat.listener.finished(), case.finished))
-}
-
-/// The name of the first case that comes to something else than what is due.
-fn wrong_case<R: Wait>(rt: &R, alloc: Global) -> Result<Option<&'static str>, Stop> {
-    for case in &CASES {
-        if !is_due(rt, alloc, case)? {
-            return Ok(Some(case.name));
-        }
-    }
-    Ok(None)
+/// Asserts that a seat ends as is due, and that the desk has one seat fewer then.
+fn serve_case<R: Wait + Abort>(rt: &R, alloc: Global, case: &Case) {
+    let unwatched = numbers(alloc, case.unwatched).expect(rt, "memory");
+    let ready = MemoryReady::start(alloc, unwatched);
+    let seat = seat(alloc, case.room, case.links, case.idle, case.failing, ready);
+    let mut seat = seat.expect(rt, "a seat");
+    let came = serve(rt, alloc, &mut seat);
+    assert!(rt; came == (case.end, 2), "{}", case.name);
+    assert!(rt;
+        are_due(seat.listener.finished(), case.finished),
+        "{}",
+        case.name
+    );
+    drop(seat);
 }
 
 #[test]
-fn seats_end_as_is_due(rt: HostRuntime) -> Result<(), Fail> {
-    assert_eq!(rt; wrong_case(&rt, rt.alloc())?, None);
-    Ok(())
+fn seats_end_as_is_due(rt: HostRuntime) {
+    for case in &CASES {
+        serve_case(&rt, rt.alloc(), case);
+    }
 }
 
 /// Three links, each from a socket of its own, on two places.
 #[test]
-fn each_link_is_attested_by_its_own_origin(rt: HostRuntime) -> Result<(), Fail> {
+fn each_link_is_attested_by_its_own_origin(rt: HostRuntime) {
     let alloc = rt.alloc();
-    let ready = MemoryReady::start(alloc, numbers(alloc, &[])?);
-    let mut seat = seat(alloc, 2, &[0, 0, 0], &[], &[], ready)?;
-    assert_eq!(rt; serve(&rt, alloc, &mut seat)?, (SeatEnd::End, 2));
+    let ready = MemoryReady::start(alloc, numbers(alloc, &[]).expect(&rt, "memory"));
+    let mut seat = seat(alloc, 2, &[0, 0, 0], &[], &[], ready).expect(&rt, "a seat");
+    assert!(rt; serve(&rt, alloc, &mut seat) == (SeatEnd::End, 2));
     let calls = seat.attestor.calls();
     assert_eq!(rt; calls.len(), 3);
     for (place, call) in calls.iter().enumerate() {
         assert_eq!(rt; call.origin.socket as usize, place);
     }
-    Ok(())
+    drop(seat);
 }

@@ -6,140 +6,124 @@ use crate::connection_tests::frames::{
     ACK, CREDIT_8, EMPTY, GREETING, HEAD, OPENING, RESPONSE, RESPONSE_HEAD, SERVER_SETTINGS, TOKEN,
     TOKEN_CALL, UNSIGNED_ONLY,
 };
-use crate::connection_tests::outside::{Stop, joined};
 use outside::{Callers, PING, PONG, TOKEN_CALL_Y, TOKEN_U};
 use std::alloc::Global;
-use std::test::Fail;
+use std::process::Abort;
+use std::sync::Wait;
 use wl_worker::{Ended, RoundEnd};
 
-/// What a caller was sent whose ask waits.
-const ASKED: [&[u8]; 3] = [SERVER_SETTINGS, ACK, CREDIT_8];
+/// What happens to connections of one seat, or has to be so.
+#[derive(Clone, Copy)]
+pub enum Step {
+    /// A round of the connection of this number, which ends so.
+    Round(u64, RoundEnd),
+    /// The link of this connection took these, one after the other, and nothing else.
+    Took(usize, &'static [&'static [u8]]),
+    /// The signer does so many asks.
+    Sign(u64),
+    /// The signer does one ask, while this connection ends.
+    SignWhileLeaving(u64),
+    /// A signer fails at one ask, from 100 to 110.
+    SignSlowly,
+    /// The signer was called so often.
+    Signed(usize),
+    /// The keeper tells the time.
+    TellTime(u64),
+    /// The seat's bell rang so often.
+    Rang(u64),
+}
 
-/// Whether a link took these, one after the other, and nothing else.
-fn took(alloc: Global, callers: &Callers, caller: usize, parts: &[&[u8]]) -> Result<bool, Stop> {
-    let due = joined(alloc, parts)?;
-    Ok(callers.took(caller) == due.as_slice())
+/// A round after which the connection goes on.
+const fn on(connection: u64) -> Step {
+    Step::Round(connection, RoundEnd::On)
+}
+
+/// What a caller was sent whose ask waits, whose ask failed, and who was given the token t.
+const ASKED: &[&[u8]] = &[SERVER_SETTINGS, ACK, CREDIT_8];
+
+const UNSIGNED: &[&[u8]] = &[SERVER_SETTINGS, ACK, CREDIT_8, UNSIGNED_ONLY];
+
+const GIVEN: &[&[u8]] = &[SERVER_SETTINGS, ACK, CREDIT_8, RESPONSE_HEAD, TOKEN];
+
+/// Takes these steps with connections whose links give these pieces.
+fn play<R: Wait + Abort>(rt: &R, alloc: Global, links: &[&[&[&[u8]]]], steps: &[Step]) {
+    let mut callers = Callers::start(rt, alloc, links);
+    for step in steps {
+        callers.take(rt, step);
+    }
+    callers.end(rt);
 }
 
 /// An ask is never answered. A neighbour's PING and its call for identities are answered at once.
 #[test]
-fn held_signer(rt: HostRuntime) -> Result<(), Fail> {
-    let alloc = rt.alloc();
-    let mut callers = Callers::start(
-        &rt,
-        alloc,
-        &[
-            &[&[OPENING, TOKEN_CALL], &[], &[]],
-            &[&[OPENING, HEAD, EMPTY], &[PING]],
-        ],
-    )?;
-    let rounds = [
-        callers.round(&rt, 0),
-        callers.round(&rt, 1),
-        callers.round(&rt, 0),
-        callers.round(&rt, 1),
-        callers.round(&rt, 0),
+fn held_signer(rt: HostRuntime) {
+    let links: [&[&[&[u8]]]; 2] = [
+        &[&[OPENING, TOKEN_CALL], &[], &[]],
+        &[&[OPENING, HEAD, EMPTY], &[PING]],
     ];
-    let waits = took(alloc, &callers, 0, &ASKED);
-    let served = took(alloc, &callers, 1, &[GREETING, RESPONSE, PONG]);
-    callers.end(&rt);
-    assert_eq!(rt; rounds, [RoundEnd::On; 5]);
-    assert!(rt; waits? && served?);
-    Ok(())
+    let steps = [
+        on(0),
+        on(1),
+        on(0),
+        on(1),
+        on(0),
+        Step::Took(0, ASKED),
+        Step::Took(1, &[GREETING, RESPONSE, PONG]),
+    ];
+    play(&rt, rt.alloc(), &links, &steps);
 }
 
 /// Two connections ask, for different audiences; their answers are taken in the other order. Each gets its own.
 #[test]
-fn two_tokens(rt: HostRuntime) -> Result<(), Fail> {
-    let alloc = rt.alloc();
-    let mut callers = Callers::start(
-        &rt,
-        alloc,
-        &[
-            &[&[OPENING, TOKEN_CALL], &[]],
-            &[&[OPENING, TOKEN_CALL_Y], &[]],
-        ],
-    )?;
-    let asked = [callers.round(&rt, 0), callers.round(&rt, 1)];
-    let calls = callers.sign(&rt, 2);
-    let answered = [callers.round(&rt, 1), callers.round(&rt, 0)];
-    let first = took(
-        alloc,
-        &callers,
-        0,
-        &[SERVER_SETTINGS, ACK, CREDIT_8, RESPONSE_HEAD, TOKEN],
-    );
-    let second = took(
-        alloc,
-        &callers,
-        1,
-        &[SERVER_SETTINGS, ACK, CREDIT_8, RESPONSE_HEAD, TOKEN_U],
-    );
-    let rings = callers.rings();
-    callers.end(&rt);
-    assert_eq!(rt; asked, [RoundEnd::On; 2]);
-    assert_eq!(rt; answered, [RoundEnd::On; 2]);
-    assert_eq!(rt; (calls, rings), (2, 2));
-    assert!(rt; first? && second?);
-    Ok(())
+fn two_tokens(rt: HostRuntime) {
+    let links: [&[&[&[u8]]]; 2] = [
+        &[&[OPENING, TOKEN_CALL], &[]],
+        &[&[OPENING, TOKEN_CALL_Y], &[]],
+    ];
+    let steps = [
+        on(0),
+        on(1),
+        Step::Sign(2),
+        Step::Signed(2),
+        on(1),
+        on(0),
+        Step::Took(0, GIVEN),
+        Step::Took(1, &[SERVER_SETTINGS, ACK, CREDIT_8, RESPONSE_HEAD, TOKEN_U]),
+        Step::Rang(2),
+    ];
+    play(&rt, rt.alloc(), &links, &steps);
 }
 
 /// A token comes after its connection has ended. It is kept, and told to nobody; a later call gets it.
 #[test]
-fn late_token(rt: HostRuntime) -> Result<(), Fail> {
-    let alloc = rt.alloc();
-    let mut callers = Callers::start(
-        &rt,
-        alloc,
-        &[&[&[OPENING, TOKEN_CALL]], &[&[OPENING, TOKEN_CALL], &[]]],
-    )?;
-    let asked = callers.round(&rt, 0);
-    let calls = callers.sign_while_leaving(&rt, 0);
-    let ended = callers.round(&rt, 0);
-    let nothing = took(alloc, &callers, 0, &ASKED);
-    let later = callers.round(&rt, 1);
-    let kept = took(
-        alloc,
-        &callers,
-        1,
-        &[SERVER_SETTINGS, ACK, CREDIT_8, RESPONSE_HEAD, TOKEN],
-    );
-    callers.end(&rt);
-    assert_eq!(rt;
-        (asked, ended),
-        (RoundEnd::On, RoundEnd::Ended(Ended::Closed))
-    );
-    assert_eq!(rt; (calls, later), (1, RoundEnd::On));
-    assert!(rt; nothing? && kept?);
-    Ok(())
+fn late_token(rt: HostRuntime) {
+    let links: [&[&[&[u8]]]; 2] = [&[&[OPENING, TOKEN_CALL]], &[&[OPENING, TOKEN_CALL], &[]]];
+    let steps = [
+        on(0),
+        Step::SignWhileLeaving(0),
+        Step::Signed(1),
+        Step::Round(0, RoundEnd::Ended(Ended::Closed)),
+        Step::Took(0, ASKED),
+        on(1),
+        Step::Took(1, GIVEN),
+    ];
+    play(&rt, rt.alloc(), &links, &steps);
 }
 
 /// After an exchange has ended by time asks fail at once for a while, and then wait again.
 #[test]
-fn silent_signer(rt: HostRuntime) -> Result<(), Fail> {
-    let alloc = rt.alloc();
-    let mut callers = Callers::start(
-        &rt,
-        alloc,
-        &[
-            &[&[OPENING, TOKEN_CALL], &[]],
-            &[&[OPENING, TOKEN_CALL], &[]],
-            &[&[OPENING, TOKEN_CALL], &[]],
-        ],
-    )?;
-    let asked = callers.round(&rt, 0);
-    let calls = callers.sign_slowly(&rt);
-    let failed = callers.round(&rt, 0);
-    let at_once = callers.round(&rt, 1);
-    callers.tell_time(&rt, 115);
-    let waits = callers.round(&rt, 2);
-    let due = [SERVER_SETTINGS, ACK, CREDIT_8, UNSIGNED_ONLY];
-    let first = took(alloc, &callers, 0, &due);
-    let second = took(alloc, &callers, 1, &due);
-    let third = took(alloc, &callers, 2, &ASKED);
-    callers.end(&rt);
-    assert_eq!(rt; [asked, failed, at_once, waits], [RoundEnd::On; 4]);
-    assert_eq!(rt; calls?, 1);
-    assert!(rt; first? && second? && third?);
-    Ok(())
+fn silent_signer(rt: HostRuntime) {
+    let links: [&[&[&[u8]]]; 3] = [&[&[OPENING, TOKEN_CALL], &[]]; 3];
+    let steps = [
+        on(0),
+        Step::SignSlowly,
+        on(0),
+        on(1),
+        Step::TellTime(115),
+        on(2),
+        Step::Took(0, UNSIGNED),
+        Step::Took(1, UNSIGNED),
+        Step::Took(2, ASKED),
+    ];
+    play(&rt, rt.alloc(), &links, &steps);
 }

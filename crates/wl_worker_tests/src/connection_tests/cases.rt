@@ -4,12 +4,12 @@ use super::frames::{
     ACK, CREDIT_8, EMPTY, GREETING, HEAD, OPENING, RESPONSE, RESPONSE_HEAD, RESPONSE_HEAD_3,
     SERVER_SETTINGS, TOKEN, TOKEN_3, TOKEN_CALL, TOKEN_CALL_3, UNATTESTED_ONLY, UNSIGNED_ONLY,
 };
-use super::outside::{Stop, joined, memory_outside, numbers, plan};
-use super::{Came, serve};
-use std::alloc::Global;
+use super::outside::{are_parts, memory_outside, numbers, plan};
+use super::serve;
+use std::alloc::{AllocGlobal, Global};
+use std::process::Abort;
 use std::sync::Wait;
-use std::test::Fail;
-use wl_edge::LinkPlan;
+use wl_edge::{LinkPlan, OpenGate};
 use wl_worker::Ended;
 
 /// What a link gives, what fails, and what is due. Each connection closes.
@@ -75,45 +75,38 @@ const CASES: [Case; 4] = [
     },
 ];
 
-fn link(alloc: Global, case: &Case) -> Result<LinkPlan, Stop> {
-    let stalling = numbers(alloc, case.stalling)?;
-    let mut plan = plan(alloc, case.pieces)?;
-    if stalling.len() > 0 {
+fn link(rt: &impl Abort, alloc: Global, case: &Case) -> LinkPlan {
+    let mut plan = plan(alloc, case.pieces).expect(rt, "memory");
+    if !case.stalling.is_empty() {
         plan.piece = 20;
     }
-    plan.stalling = stalling;
-    Ok(plan)
+    plan.stalling = numbers(alloc, case.stalling).expect(rt, "memory");
+    plan
 }
 
-fn came<R: Wait>(rt: &R, alloc: Global, case: &Case) -> Result<Came, Stop> {
-    let link = link(alloc, case)?;
-    let mut outside = memory_outside(alloc, 100, case.unattested, case.unsigned)?;
-    serve(rt, alloc, link, &mut outside)
-}
-
-/// Whether a connection closes, and its link took what is due.
-fn is_due<R: Wait>(rt: &R, alloc: Global, case: &Case) -> Result<bool, Stop> {
-    let due = joined(alloc, case.took)?;
-    let came = came(rt, alloc, case)?;
-    Ok(came.end == Ended::Closed && came.took == due && came.asked == case.asked)
-}
-
-/// The name of the first case that comes to something else than what is due.
-fn wrong_case<R: Wait>(
-    rt: &R,
-    alloc: Global,
-    cases: &[Case],
-) -> Result<Option<&'static str>, Stop> {
-    for case in cases {
-        if !is_due(rt, alloc, case)? {
-            return Ok(Some(case.name));
-        }
-    }
-    Ok(None)
+/// Asserts that a connection closes, what its link took, and how often the signer was asked.
+fn close<R: Wait + Abort>(rt: &R, alloc: Global, case: &Case) {
+    let plan = link(rt, alloc, case);
+    let outside = memory_outside(alloc, 100, case.unattested, case.unsigned);
+    let mut outside = outside.expect(rt, "an outside");
+    let (end, link) = serve(rt, alloc, plan, &mut outside, &OpenGate);
+    assert!(rt;
+        end == Ended::Closed && are_parts(link.took(), case.took),
+        "{}",
+        case.name
+    );
+    assert_eq!(rt;
+        outside.asks.signer.calls().len(),
+        case.asked,
+        "{}",
+        case.name
+    );
+    drop(outside);
 }
 
 #[test]
-fn whole_connections(rt: HostRuntime) -> Result<(), Fail> {
-    assert_eq!(rt; wrong_case(&rt, rt.alloc(), &CASES)?, None);
-    Ok(())
+fn whole_connections(rt: HostRuntime) {
+    for case in &CASES {
+        close(&rt, rt.alloc(), case);
+    }
 }

@@ -1,14 +1,14 @@
 //! What the client program says of the bytes that a connection wrote which was served what the program sends.
 
-use super::outside::{Stop, plan};
+use super::outside::plan;
 use super::serve_well;
-use std::alloc::Global;
+use std::alloc::{AllocGlobal, Global};
+use std::process::Abort;
 use std::string::String;
 use std::sync::Wait;
-use std::test::Fail;
 use wl_control::control;
 use wl_edge::{MemoryLink, MemorySink};
-use wl_octets::{Octets, Row};
+use wl_octets::Row;
 
 /// The words, and what the program writes.
 const CALLS: [(&[&str], &[u8]); 4] = [
@@ -21,51 +21,44 @@ const CALLS: [(&[&str], &[u8]); 4] = [
     (&["health-watch", "1"], b"serving\n"),
 ];
 
-fn words_of(alloc: Global, texts: &[&str]) -> Result<Vec<String>, Stop> {
+fn words_of(rt: &impl Abort, alloc: Global, texts: &[&str]) -> Vec<String> {
     let mut words = Vec::new(alloc);
     for text in texts {
-        if words.push(String::from_str(alloc, text)?).is_err() {
-            return Err(Stop::Memory);
-        }
+        let word = String::from_str(alloc, text).expect(rt, "memory");
+        words.push(word).expect(rt, "memory");
     }
-    Ok(words)
+    words
 }
 
-/// What the program came to: its status, what its link took, and what it wrote.
-#[derive(Drop)]
-struct Called {
-    status: u8,
-    sent: Octets,
-    wrote: Octets,
-}
-
-/// Makes a call over a link that gives these bytes and then its end.
-fn call<R: Wait>(rt: &R, alloc: Global, words: &[String], gives: &[u8]) -> Result<Called, Stop> {
-    let mut link = MemoryLink::start(alloc, plan(alloc, &[&[gives]])?)?;
-    let mut sink = MemorySink::start(alloc, 8, 4_096, usize::MAX, Row::empty(alloc))?;
+/// Makes a call over a link that gives these bytes and then its end: the program's status, the link, and what it wrote.
+fn call<R: Wait + Abort>(
+    rt: &R,
+    alloc: Global,
+    words: &[String],
+    gives: &[u8],
+) -> (u8, MemoryLink, MemorySink) {
+    let plan = plan(alloc, &[&[gives]]).expect(rt, "memory");
+    let mut link = MemoryLink::start(alloc, plan).expect(rt, "memory");
+    let sink = MemorySink::start(alloc, 8, 4_096, usize::MAX, Row::empty(alloc));
+    let mut sink = sink.expect(rt, "memory");
     let status = control(rt, alloc, words, &mut link, &mut sink);
-    Ok(Called {
-        status,
-        sent: Octets::from_slice(alloc, link.took())?,
-        wrote: Octets::from_slice(alloc, sink.bytes())?,
-    })
+    (status, link, sink)
 }
 
-/// What the program comes to over the bytes of a connection that was served what the program sends before any answer.
-fn call_served<R: Wait>(rt: &R, alloc: Global, texts: &[&str]) -> Result<Called, Stop> {
-    let words = words_of(alloc, texts)?;
-    let unanswered = call(rt, alloc, words.as_slice(), b"")?;
-    let pieces = plan(alloc, &[&[unanswered.sent.as_slice()]])?;
-    let came = serve_well(rt, alloc, pieces)?;
-    call(rt, alloc, words.as_slice(), came.took.as_slice())
+/// Asserts what the program writes over the bytes of a connection that was served what the program sends before any answer.
+fn call_served<R: Wait + Abort>(rt: &R, alloc: Global, texts: &[&str], text: &[u8]) {
+    let words = words_of(rt, alloc, texts);
+    let (_, unanswered, _) = call(rt, alloc, words.as_slice(), b"");
+    let plan = plan(alloc, &[&[unanswered.took()]]).expect(rt, "memory");
+    let (_, served) = serve_well(rt, alloc, plan);
+    let (status, _, sink) = call(rt, alloc, words.as_slice(), served.took());
+    assert_eq!(rt; status, 0);
+    assert_eq!(rt; sink.bytes(), text);
 }
 
 #[test]
-fn the_client_program_is_answered(rt: HostRuntime) -> Result<(), Fail> {
+fn the_client_program_is_answered(rt: HostRuntime) {
     for (words, text) in CALLS {
-        let called = call_served(&rt, rt.alloc(), words)?;
-        assert_eq!(rt; called.status, 0);
-        assert_eq!(rt; called.wrote.as_slice(), text);
+        call_served(&rt, rt.alloc(), words, text);
     }
-    Ok(())
 }

@@ -1,13 +1,13 @@
 //! The point before a turn.
 
 use super::frames::{EMPTY, HEAD, OPENING};
-use super::outside::{Stop, memory_outside, plan};
-use super::serve_link;
-use std::alloc::Global;
+use super::outside::{memory_outside, plan};
+use super::serve;
+use std::alloc::{AllocGlobal, Global};
+use std::process::Abort;
 use std::sync::Wait;
 use std::sync::atomic::{AtomicU64, Ordering};
-use std::test::Fail;
-use wl_edge::{BEFORE_TURN, Gate, MemoryLink};
+use wl_edge::{BEFORE_TURN, Gate};
 
 /// Counts how often the point before a turn was passed, and how often another.
 #[derive(Drop)]
@@ -34,26 +34,23 @@ const TURNS: [(&[&[&[u8]]], u64); 4] = [
     (&[&[OPENING], &[b"\0\0\0\x09\0\0\0\0\0"]], 1),
 ];
 
-/// How often the points were passed: that before a turn, and others.
-fn passes<R: Wait>(rt: &R, alloc: Global, pieces: &[&[&[u8]]]) -> Result<(u64, u64), Stop> {
+/// Asserts how often the point before a turn was passed, and that no other was.
+fn pass_turns<R: Wait + Abort>(rt: &R, alloc: Global, pieces: &[&[&[u8]]], turns: u64) {
     let gate = Counting {
         turns: AtomicU64::new(0),
         others: AtomicU64::new(0),
     };
-    let plan = plan(alloc, pieces)?;
-    let mut link = MemoryLink::start(alloc, plan)?;
-    let mut outside = memory_outside(alloc, 100, &[], &[])?;
-    let _ = serve_link(rt, alloc, &mut link, &mut outside, &gate)?;
-    Ok((
-        gate.turns.load(Ordering::SeqCst),
-        gate.others.load(Ordering::SeqCst),
-    ))
+    let plan = plan(alloc, pieces).expect(rt, "memory");
+    let mut outside = memory_outside(alloc, 100, &[], &[]).expect(rt, "an outside");
+    serve(rt, alloc, plan, &mut outside, &gate);
+    drop(outside);
+    assert_eq!(rt; gate.turns.load(Ordering::SeqCst), turns);
+    assert_eq!(rt; gate.others.load(Ordering::SeqCst), 0);
 }
 
 #[test]
-fn the_point_before_a_turn_is_passed(rt: HostRuntime) -> Result<(), Fail> {
+fn the_point_before_a_turn_is_passed(rt: HostRuntime) {
     for (pieces, turns) in TURNS {
-        assert_eq!(rt; passes(&rt, rt.alloc(), pieces)?, (turns, 0));
+        pass_turns(&rt, rt.alloc(), pieces, turns);
     }
-    Ok(())
 }

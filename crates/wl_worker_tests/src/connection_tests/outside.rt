@@ -40,6 +40,18 @@ pub fn joined(alloc: Global, parts: &[&[u8]]) -> Result<Octets, Memory> {
     Ok(all)
 }
 
+/// Whether these bytes are the parts, one after the other.
+pub fn are_parts(bytes: &[u8], parts: &[&[u8]]) -> bool {
+    let mut rest = bytes;
+    for part in parts {
+        match rest.strip_prefix(*part) {
+            Some(next) => rest = next,
+            None => return false,
+        }
+    }
+    rest.is_empty()
+}
+
 /// The list of these numbers.
 pub fn numbers(alloc: Global, numbers: &[u64]) -> Result<Row<u64>, Memory> {
     Ok(Row::from_vec(Vec::from_slice(alloc, numbers)?))

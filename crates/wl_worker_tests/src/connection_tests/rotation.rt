@@ -2,16 +2,15 @@
 
 use super::desks::{open, sign};
 use super::frames::{EMPTY, GREETING, HEAD, OPENING, RESPONSE, ROTATED};
-use super::outside::{Outside, Stop, joined, memory_outside, plan};
-use std::alloc::Global;
+use super::outside::{Outside, are_parts, memory_outside, plan};
+use std::alloc::{AllocGlobal, Global};
+use std::process::Abort;
 use std::sync::atomic::{AtomicU64, Ordering};
 use std::sync::{Barrier, Mutex, Wait};
-use std::test::Fail;
 use std::thread::{Threads, join};
 use wl_desk::Desk;
 use wl_edge::{BEFORE_TURN, Gate, MemoryLink};
 use wl_entry::Free;
-use wl_octets::Memory;
 use wl_publish::Pass;
 use wl_worker::{Ended, serve_connection};
 
@@ -75,13 +74,13 @@ fn serve_beside<R: Wait>(
 }
 
 /// Serves a link at 150 beside a desk of its own, and another thread that signs: whether it did, and the end.
-fn rotate<R: Threads + Wait + Sync>(
+fn rotate<R: Threads + Wait + Sync + Abort>(
     rt: &R,
     alloc: Global,
     link: &mut MemoryLink,
-) -> Result<(bool, Ended), Stop> {
-    let mut outside = memory_outside(alloc, 150, &[], &[])?;
-    let (desk, mut pass) = open(rt, alloc, 1)?;
+) -> (bool, Ended) {
+    let mut outside = memory_outside(alloc, 150, &[], &[]).expect(rt, "an outside");
+    let (desk, mut pass) = open(rt, alloc, 1).expect(rt, "a desk");
     let barrier = Barrier::new(2);
     let both = join(
         rt,
@@ -89,20 +88,15 @@ fn rotate<R: Threads + Wait + Sync>(
         || serve_beside(rt, alloc, &desk, &barrier, &mut pass, link, &mut outside),
     );
     desk.into_inner().end(rt);
-    Ok(both)
+    drop(outside);
+    both
 }
 
 /// A link of one caller, which goes on after its call.
-fn link(alloc: Global) -> Result<MemoryLink, Memory> {
-    let plan = plan(alloc, &[&[OPENING, HEAD, EMPTY], &[], &[]])?;
-    MemoryLink::start(alloc, plan)
-}
-
 #[test]
-fn a_rotation_is_sent_once(rt: HostRuntime) -> Result<(), Fail> {
-    let mut link = link(rt.alloc())?;
-    let (signed, end) = rotate(&rt, rt.alloc(), &mut link)?;
-    let due = joined(rt.alloc(), &[GREETING, RESPONSE, ROTATED])?;
-    assert!(rt; signed && end == Ended::Closed && link.took() == due.as_slice());
-    Ok(())
+fn a_rotation_is_sent_once(rt: HostRuntime) {
+    let plan = plan(rt.alloc(), &[&[OPENING, HEAD, EMPTY], &[], &[]]).expect(&rt, "memory");
+    let mut link = MemoryLink::start(rt.alloc(), plan).expect(&rt, "memory");
+    assert!(rt; rotate(&rt, rt.alloc(), &mut link) == (true, Ended::Closed));
+    assert!(rt; are_parts(link.took(), &[GREETING, RESPONSE, ROTATED]));
 }

@@ -4,10 +4,9 @@ ghost use Rattle.std.specs.Prelude.{◌≡◌};
 
 use super::outside::seat;
 use super::serve;
-use crate::connection_tests::outside::Stop;
-use std::alloc::Global;
+use std::alloc::{AllocGlobal, Global};
+use std::process::Abort;
 use std::sync::Wait;
-use std::test::Fail;
 use wl_edge::{EdgeFault, Link, Ready};
 use wl_octets::Row;
 use wl_worker::SeatEnd;
@@ -45,26 +44,21 @@ const ROOMS: [(u32, &[u64], u32); 4] = [
     (3, &[0, 0], 2),
 ];
 
-/// How many links of such a seat are served at most, where it ends with its listener.
-fn most_served<R: Wait>(
-    rt: &R,
-    alloc: Global,
-    room: u32,
-    links: &[u64],
-) -> Result<Option<u32>, Stop> {
+/// Asserts how many links of such a seat are served at most, which ends with its listener.
+fn serve_most<R: Wait + Abort>(rt: &R, alloc: Global, room: u32, links: &[u64], most: u32) {
     let ready = Widest {
         watched: 0,
         most: 0,
     };
-    let mut seat = seat(alloc, room, links, &[], &[], ready)?;
-    let (end, _) = serve(rt, alloc, &mut seat)?;
-    Ok((end == SeatEnd::End).then_some(seat.ready.most))
+    let mut seat = seat(alloc, room, links, &[], &[], ready).expect(rt, "a seat");
+    let (end, _) = serve(rt, alloc, &mut seat);
+    assert!(rt; end == SeatEnd::End && seat.ready.most == most);
+    drop(seat);
 }
 
 #[test]
-fn rooms_are_kept(rt: HostRuntime) -> Result<(), Fail> {
+fn rooms_are_kept(rt: HostRuntime) {
     for (room, links, most) in ROOMS {
-        assert_eq!(rt; most_served(&rt, rt.alloc(), room, links)?, Some(most));
+        serve_most(&rt, rt.alloc(), room, links, most);
     }
-    Ok(())
 }

@@ -1,11 +1,12 @@
 //! A link for which memory runs out ends alone.
 
 use super::outside::{SeatWith, seat, took};
-use super::{are_due, serve};
+use super::{are_due, serve, serve_on};
+use crate::connection_tests::desks::open;
 use crate::connection_tests::outside::{Stop, numbers};
-use std::alloc::Global;
+use std::alloc::{AllocGlobal, Global};
+use std::process::Abort;
 use std::sync::Wait;
-use std::test::Fail;
 use wl_edge::{Attestor, EdgeFault, MemoryAttestor, MemoryLink, MemoryReady, Origin};
 use wl_selector::Selectors;
 use wl_worker::{Seat, SeatEnd};
@@ -66,26 +67,20 @@ const CASES: [(&[u64], &[(bool, u64)]); 3] = [
     (&[0, 1, 2], &[(false, 0), (false, 0), (false, 0)]),
 ];
 
-/// The end of such a seat, its count, how many seats its desk has then, and whether its links are as is due.
-fn came_to<R: Wait>(
-    rt: &R,
-    alloc: Global,
-    without: &'static [u64],
-    due: &[(bool, u64)],
-) -> Result<(SeatEnd, u64, u32, bool), Stop> {
-    let mut seat = starving_seat(alloc, without)?;
-    let (end, left) = serve(rt, alloc, &mut seat)?;
-    let as_due = are_due(seat.listener.finished(), due);
-    Ok((end, seat.starved, left, as_due))
+/// Asserts the end of such a seat, how many seats its desk has then, its count, and what its links took.
+fn starve<R: Wait + Abort>(rt: &R, alloc: Global, without: &'static [u64], due: &[(bool, u64)]) {
+    let mut seat = starving_seat(alloc, without).expect(rt, "a seat");
+    let came = serve(rt, alloc, &mut seat);
+    assert!(rt; came == (SeatEnd::End, 2) && seat.starved == without.len() as u64);
+    assert!(rt; are_due(seat.listener.finished(), due));
+    drop(seat);
 }
 
 #[test]
-fn a_link_without_memory_ends_alone(rt: HostRuntime) -> Result<(), Fail> {
+fn a_link_without_memory_ends_alone(rt: HostRuntime) {
     for (without, due) in CASES {
-        let came = came_to(&rt, rt.alloc(), without, due)?;
-        assert_eq!(rt; came, (SeatEnd::End, without.len() as u64, 2, true));
+        starve(&rt, rt.alloc(), without, due);
     }
-    Ok(())
 }
 
 /// How many links took their whole talk, or had a call of theirs fail.
@@ -98,17 +93,18 @@ fn explained(links: &[MemoryLink]) -> usize {
 
 /// Where an allocation is refused, whichever it is, the seat counts the links that it costs, or ends with `Memory`.
 #[test]
-fn a_refused_allocation_is_counted(rt: HostRuntime) -> Result<(), Fail> {
+fn a_refused_allocation_is_counted(rt: HostRuntime) {
     let alloc = rt.alloc();
     let Ok(mut seat) = starving_seat(alloc, &[]) else {
-        return Ok(());
+        return;
     };
-    let Ok((end, _)) = serve(&rt, alloc, &mut seat) else {
-        return Ok(());
+    let Ok((desk, pass)) = open(&rt, alloc, 3) else {
+        return;
     };
+    let (end, _) = serve_on(&rt, alloc, &mut seat, desk, pass);
     assert!(rt; matches!(end, SeatEnd::End | SeatEnd::Memory | SeatEnd::ListenFault));
     let links = seat.listener.finished();
     let counted = (explained(links) as u64).saturating_add(seat.starved);
     assert!(rt; end != SeatEnd::End || links.len() == 3 && counted >= 3);
-    Ok(())
+    drop(seat);
 }

@@ -2,11 +2,11 @@
 
 use super::documents::{DOC, FOREIGN, TWO};
 use super::gates::{Closing, Starved};
-use std::alloc::Global;
+use std::alloc::{AllocGlobal, Global};
+use std::process::Abort;
 use std::rt::Clock;
-use std::sync::atomic::{AtomicU64, Ordering};
+use std::sync::atomic::Ordering;
 use std::sync::{Arc, Mutex, Wait};
-use std::test::Fail;
 use std::thread::{Threads, join_mut};
 use wl_desk::{Desk, last_snapshot};
 use wl_edge::{
@@ -15,7 +15,7 @@ use wl_edge::{
 };
 use wl_entry::{Free, Signed};
 use wl_manager::Manager;
-use wl_octets::{Memory, Octets, Row};
+use wl_octets::{Octets, Row};
 use wl_publish::start;
 use wl_store::Ticket;
 use wl_worker::{
@@ -24,61 +24,110 @@ use wl_worker::{
 };
 
 /// A desk of this document, for so many seats.
-fn open<R: Wait>(rt: &R, alloc: Global, document: &[u8], seats: u32) -> Result<Desk<Free>, Fail> {
-    let manager: Manager<Free> = Manager::start(alloc, document)?;
-    let first = last_snapshot(alloc, &manager)?;
-    let (publisher, _) = start(rt, alloc, first, 1)?;
-    Ok(Desk::start(manager, publisher, seats))
+fn open<R: Wait + Abort>(rt: &R, alloc: Global, document: &[u8], seats: u32) -> Mutex<Desk<Free>> {
+    let manager: Manager<Free> = Manager::start(alloc, document).expect(rt, "a document");
+    let first = last_snapshot(alloc, &manager).expect(rt, "memory");
+    let (publisher, _) = start(rt, alloc, first, 1).expect(rt, "memory");
+    Mutex::new(Desk::start(manager, publisher, seats))
 }
 
-fn numbers(alloc: Global, numbers: &[u64]) -> Result<Row<u64>, Memory> {
-    Ok(Row::from_vec(Vec::from_slice(alloc, numbers)?))
+fn numbers(rt: &impl Abort, alloc: Global, numbers: &[u64]) -> Row<u64> {
+    Row::from_vec(Vec::from_slice(alloc, numbers).expect(rt, "memory"))
+}
+
+/// A clock of these times.
+fn clock(rt: &impl Abort, alloc: Global, times: &[u64]) -> MemoryClock {
+    MemoryClock::start(numbers(rt, alloc, times))
+}
+
+fn octets(rt: &impl Abort, alloc: Global, bytes: &[u8]) -> Octets {
+    Octets::from_slice(alloc, bytes).expect(rt, "memory")
 }
 
 /// An upstream that gives these documents, and then the last one again; the pull of this number fails.
-fn upstream(alloc: Global, documents: &[&[u8]], failing: u64) -> Result<MemoryUpstream, Memory> {
-    let mut answers = Row::empty(alloc);
+fn upstream(rt: &impl Abort, alloc: Global, documents: &[&[u8]], failing: u64) -> MemoryUpstream {
+    let mut answers = Vec::new(alloc);
     for document in documents {
-        answers.push(Octets::from_slice(alloc, document)?)?;
+        answers
+            .push(octets(rt, alloc, document))
+            .expect(rt, "memory");
     }
-    let script = Script::start(answers, numbers(alloc, &[failing])?);
-    Ok(MemoryUpstream::start(alloc, script))
+    let failing = numbers(rt, alloc, &[failing]);
+    MemoryUpstream::start(alloc, Script::start(Row::from_vec(answers), failing))
+}
+
+/// An identity of these times.
+fn signed(rt: &impl Abort, alloc: Global, (not_before, not_after): (u64, u64)) -> Signed {
+    Signed {
+        chain: octets(rt, alloc, b"c"),
+        key: octets(rt, alloc, b"k"),
+        not_before,
+        not_after,
+    }
 }
 
 /// A signer of identities of these times; the call of this number fails.
-fn signer(alloc: Global, times: &[(u64, u64)], failing: u64) -> Result<MemorySigner, Memory> {
-    let mut answers = Row::empty(alloc);
-    for (not_before, not_after) in times {
-        answers.push(Signed {
-            chain: Octets::from_slice(alloc, b"c")?,
-            key: Octets::from_slice(alloc, b"k")?,
-            not_before: *not_before,
-            not_after: *not_after,
-        })?;
+fn signer(rt: &impl Abort, alloc: Global, times: &[(u64, u64)], failing: u64) -> MemorySigner {
+    let mut answers = Vec::new(alloc);
+    for times in times {
+        answers.push(signed(rt, alloc, *times)).expect(rt, "memory");
     }
-    let identities = Script::start(answers, numbers(alloc, &[failing])?);
+    let failing = numbers(rt, alloc, &[failing]);
+    let identities = Script::start(Row::from_vec(answers), failing);
     let tokens = Script::start(Row::empty(alloc), Row::empty(alloc));
-    Ok(MemorySigner::start(alloc, identities, tokens))
+    MemorySigner::start(alloc, identities, tokens)
 }
 
-/// What became of a document.
-fn sync_words(alloc: Global, synced: Synced<Free>) -> Result<String, Fail> {
-    Ok(match synced {
-        Synced::Done(note) => format!(in alloc; "done {}", note.number())?,
-        Synced::Refused(fault, note) => format!(in alloc; "{fault:?} {}", note.number())?,
-        Synced::Failed => format!(in alloc; "failed")?,
-        Synced::Memory => format!(in alloc; "memory")?,
-    })
+/// What became of a document, in words.
+fn sync_words(rt: &impl Abort, alloc: Global, synced: Synced<Free>) -> String {
+    let words = match synced {
+        Synced::Done(note) => format!(in alloc; "done {}", note.number()),
+        Synced::Refused(fault, note) => format!(in alloc; "{fault:?} {}", note.number()),
+        Synced::Failed => format!(in alloc; "failed"),
+        Synced::Memory => format!(in alloc; "memory"),
+    };
+    words.expect(rt, "memory")
 }
 
-/// What came of the tickets of a look.
-#[derive(Clone, Copy, Debug, Default, PartialEq, Eq)]
+/// Syncs, and what becomes of each.
+fn sync_all<R: Wait + Abort>(
+    rt: &R,
+    alloc: Global,
+    desk: &Mutex<Desk<Free>>,
+    upstream: &mut MemoryUpstream,
+    due: &[&str],
+) {
+    for due in due {
+        let synced = sync_once(rt, alloc, desk, upstream);
+        let words = sync_words(rt, alloc, synced);
+        assert_eq!(rt; words.as_str(), *due);
+    }
+}
+
+#[test]
+fn a_document_is_taken_or_refused(rt: HostRuntime) {
+    let alloc = rt.alloc();
+    let mut upstream = upstream(&rt, alloc, &[DOC, FOREIGN, DOC, TWO], 2);
+    let desk = open(&rt, alloc, DOC, 0);
+    let due = [
+        "done 0",
+        "ForeignDomain(Place { part: 0, index: 0, field: 2, item: 0 }) 0",
+        "failed",
+        "done 1",
+        "done 1",
+    ];
+    sync_all(&rt, alloc, &desk, &mut upstream, &due);
+    desk.into_inner().end(&rt);
+}
+
+/// The number of the last publication, and how many tickets of a look were kept, refused, failed and starved.
+#[derive(Clone, Copy)]
 struct Counts {
     number: u64,
-    kept: u32,
-    refused: u32,
-    failed: u32,
-    starved: u32,
+    kept: u64,
+    refused: u64,
+    failed: u64,
+    starved: u64,
 }
 
 /// Asks for one ticket; one that failed goes back to the desk.
@@ -108,15 +157,21 @@ fn ask<R: Wait, S: Signer<V = Free>>(
     }
 }
 
-/// A look of the keeper, and an ask for each of its tickets.
+/// A look of the keeper, and an ask for each of its tickets: the number and the counts, in their order.
 fn rotation<R: Wait, S: Signer<V = Free>>(
     rt: &R,
     alloc: Global,
     desk: &Mutex<Desk<Free>>,
     signer: &mut S,
     clock: &mut MemoryClock,
-) -> Counts {
-    let mut counts = Counts::default();
+) -> [u64; 5] {
+    let mut counts = Counts {
+        number: 0,
+        kept: 0,
+        refused: 0,
+        failed: 0,
+        starved: 0,
+    };
     match keep_once(rt, alloc, desk, clock) {
         Kept::Done(note, tickets) => {
             counts.number = note.number();
@@ -129,201 +184,158 @@ fn rotation<R: Wait, S: Signer<V = Free>>(
         }
         Kept::Memory => {}
     }
-    counts
-}
-
-/// Three rotations, at these times: a look and each of its asks read the clock.
-fn rotations<R: Wait, S: Signer<V = Free>>(
-    rt: &R,
-    alloc: Global,
-    document: &[u8],
-    signer: &mut S,
-    times: &[u64],
-) -> Result<[Counts; 3], Fail> {
-    let mut clock = MemoryClock::start(numbers(alloc, times)?);
-    let desk = Mutex::new(open(rt, alloc, document, 0)?);
-    let first = rotation(rt, alloc, &desk, signer, &mut clock);
-    let second = rotation(rt, alloc, &desk, signer, &mut clock);
-    let third = rotation(rt, alloc, &desk, signer, &mut clock);
-    desk.into_inner().end(rt);
-    Ok([first, second, third])
-}
-
-/// How many were kept and not.
-fn counted(number: u64, kept: u32, refused: u32, failed: u32, starved: u32) -> Counts {
-    Counts {
+    let Counts {
         number,
         kept,
         refused,
         failed,
         starved,
-    }
+    } = counts;
+    [number, kept, refused, failed, starved]
 }
 
-/// So many syncs, in words.
-fn syncs<R: Wait>(
+/// Asserts what comes of three rotations, at these times: a look and each of its asks read the clock.
+fn rotate<R: Wait + Abort, S: Signer<V = Free>>(
     rt: &R,
     alloc: Global,
-    desk: &Mutex<Desk<Free>>,
-    upstream: &mut MemoryUpstream,
-    count: u32,
-) -> Result<String, Fail> {
-    let mut said = String::new(alloc);
-    for _ in 0..count {
-        let synced = sync_once(rt, alloc, desk, upstream);
-        said.push_str(sync_words(alloc, synced)?.as_str())?;
-        said.push_str("; ")?;
+    document: &[u8],
+    signer: &mut S,
+    times: &[u64],
+    due: &[[u64; 5]; 3],
+) {
+    let mut clock = clock(rt, alloc, times);
+    let desk = open(rt, alloc, document, 0);
+    for due in due {
+        assert_eq!(rt; rotation(rt, alloc, &desk, signer, &mut clock), *due);
     }
-    Ok(said)
+    desk.into_inner().end(rt);
 }
 
-#[test]
-fn a_document_is_taken_or_refused(rt: HostRuntime) -> Result<(), Fail> {
-    let alloc = rt.alloc();
-    let mut upstream = upstream(alloc, &[DOC, FOREIGN, DOC, TWO], 2)?;
-    let desk = Mutex::new(open(&rt, alloc, DOC, 0)?);
-    let said = syncs(&rt, alloc, &desk, &mut upstream, 5);
-    desk.into_inner().end(&rt);
-    assert_eq!(rt;
-        said?.as_str(),
-        "done 0; ForeignDomain(Place { part: 0, index: 0, field: 2, item: 0 }) 0; failed; done 1; done 1; "
+/// Asserts for which entries identities were asked for.
+fn were_asked(rt: &impl Abort, signer: &MemorySigner, entries: &[&[u8]]) {
+    assert_eq!(rt; signer.calls().len(), entries.len());
+    for (call, entry) in signer.calls().iter().zip(entries) {
+        let asked = match call {
+            SignerCall::X509(ask, _) => ask.entry_id.as_slice(),
+            SignerCall::Jwt(_, _, _) => b"",
+        };
+        assert_eq!(rt; asked, *entry);
+    }
+}
+
+/// Three rotations by a signer.
+#[derive(Clone, Copy)]
+struct Case {
+    document: &'static [u8],
+    /// The times of its identities, and the number of the call that fails.
+    identities: &'static [(u64, u64)],
+    failing: u64,
+    times: &'static [u64],
+    /// Of each: the number of the last publication, and how many tickets were kept, refused, failed and starved.
+    counts: [[u64; 5]; 3],
+    /// For which entries it is asked.
+    asked: &'static [&'static [u8]],
+}
+
+/// Asserts what comes of a signer's rotations.
+fn rotate_case<R: Wait + Abort>(rt: &R, alloc: Global, case: &Case) {
+    let mut signer = signer(rt, alloc, case.identities, case.failing);
+    rotate(
+        rt,
+        alloc,
+        case.document,
+        &mut signer,
+        case.times,
+        &case.counts,
     );
-    Ok(())
+    were_asked(rt, &signer, case.asked);
 }
 
-/// The entry of a call for an identity.
-fn entry_asked(call: &SignerCall) -> &[u8] {
-    match call {
-        SignerCall::X509(ask, _) => ask.entry_id.as_slice(),
-        SignerCall::Jwt(_, _, _) => b"",
-    }
+const FAILS_ONCE: Case = Case {
+    document: TWO,
+    identities: &[(100, 200)],
+    failing: 0,
+    times: &[100],
+    counts: [[1, 1, 0, 1, 0], [2, 1, 0, 0, 0], [2, 0, 0, 0, 0]],
+    asked: &[b"e1", b"e2", b"e1"],
+};
+
+#[test]
+fn a_signer_fails_once(rt: HostRuntime) {
+    rotate_case(&rt, rt.alloc(), &FAILS_ONCE);
+}
+
+const OVER: Case = Case {
+    document: TWO,
+    identities: &[(0, 50), (100, 200)],
+    failing: 9,
+    times: &[100],
+    counts: [[1, 1, 1, 0, 0], [2, 1, 0, 0, 0], [2, 0, 0, 0, 0]],
+    asked: &[b"e1", b"e2", b"e1"],
+};
+
+#[test]
+fn an_identity_that_is_over_is_refused(rt: HostRuntime) {
+    rotate_case(&rt, rt.alloc(), &OVER);
 }
 
 #[test]
-fn a_signer_fails_once(rt: HostRuntime) -> Result<(), Fail> {
-    let alloc = rt.alloc();
-    let mut signer = signer(alloc, &[(100, 200)], 0)?;
-    let came = rotations(&rt, alloc, TWO, &mut signer, &[100])?;
-    let due = [
-        counted(1, 1, 0, 1, 0),
-        counted(2, 1, 0, 0, 0),
-        counted(2, 0, 0, 0, 0),
-    ];
-    assert_eq!(rt; came, due);
-    let asked = [b"e1".as_slice(), b"e2", b"e1"];
-    assert_eq!(rt; signer.calls().len(), 3);
-    for (call, entry) in signer.calls().iter().zip(asked) {
-        assert_eq!(rt; entry_asked(call), entry);
-    }
-    Ok(())
+fn a_ticket_comes_back_where_memory_runs_out(rt: HostRuntime) {
+    let due = [[0, 0, 0, 0, 2]; 3];
+    rotate(&rt, rt.alloc(), TWO, &mut Starved, &[100], &due);
 }
+
+/// An identity until 200 is shown at 199 and no more at 200, whatever the signer does: the second ask, at 199, and each later one
+/// fails or is too old. A look and an answer at 100; a look at 199; a look and an answer at 200.
+const ENDED: Case = Case {
+    document: DOC,
+    identities: &[(100, 200)],
+    failing: 1,
+    times: &[100, 100, 199, 200],
+    counts: [[1, 1, 0, 0, 0], [1, 0, 0, 1, 0], [2, 0, 1, 0, 0]],
+    asked: &[b"e1", b"e1", b"e1"],
+};
 
 #[test]
-fn an_identity_that_is_over_is_refused(rt: HostRuntime) -> Result<(), Fail> {
-    let alloc = rt.alloc();
-    let mut signer = signer(alloc, &[(0, 50), (100, 200)], 9)?;
-    let came = rotations(&rt, alloc, TWO, &mut signer, &[100])?;
-    let due = [
-        counted(1, 1, 1, 0, 0),
-        counted(2, 1, 0, 0, 0),
-        counted(2, 0, 0, 0, 0),
-    ];
-    assert_eq!(rt; came, due);
-    Ok(())
+fn what_has_ended_is_gone_at_the_next_look(rt: HostRuntime) {
+    rotate_case(&rt, rt.alloc(), &ENDED);
 }
 
-#[test]
-fn a_ticket_comes_back_where_memory_runs_out(rt: HostRuntime) -> Result<(), Fail> {
-    let came = rotations(&rt, rt.alloc(), TWO, &mut Starved, &[100])?;
-    assert_eq!(rt; came, [counted(0, 0, 0, 0, 2); 3]);
-    Ok(())
-}
-
-/// An identity until 200 is shown at 199 and no more at 200, whatever the signer does.
-#[test]
-fn what_has_ended_is_gone_at_the_next_look(rt: HostRuntime) -> Result<(), Fail> {
-    let alloc = rt.alloc();
-    // the second ask, at 199, and each later one fails or is too old
-    let mut signer = signer(alloc, &[(100, 200)], 1)?;
-    // a look and an answer at 100; a look at 199; a look and an answer at 200
-    let came = rotations(&rt, alloc, DOC, &mut signer, &[100, 100, 199, 200])?;
-    let due = [
-        counted(1, 1, 0, 0, 0),
-        counted(1, 0, 0, 1, 0),
-        counted(2, 0, 1, 0, 0),
-    ];
-    assert_eq!(rt; came, due);
-    Ok(())
-}
-
-/// What is beside a desk.
-#[derive(Drop)]
-struct Beside {
-    upstream: MemoryUpstream,
-    signer: MemorySigner,
-    clock: MemoryClock,
-    keeper: MemoryClock,
-    bells: [MemoryBell; 2],
-}
-
-impl Beside {
-    /// An upstream of DOC and then TWO, a signer whose call of this number fails, and a keeper whose second look is a
-    /// second later.
-    fn start(alloc: Global, failing: u64) -> Result<Beside, Fail> {
-        Ok(Beside {
-            upstream: upstream(alloc, &[DOC, TWO], 9)?,
-            signer: signer(alloc, &[(100, 200)], failing)?,
-            clock: MemoryClock::start(numbers(alloc, &[100])?),
-            keeper: MemoryClock::start(numbers(alloc, &[100, 100, 101])?),
-            bells: [MemoryBell::start(), MemoryBell::start()],
-        })
-    }
-}
-
-/// The keeper and a signer, until the signer has waited so often; then the seat ends. Whether it came to that.
-fn keep_and_sign<R: Threads + Wait + Clock + Sync>(
+/// The keeper, whose second look is a second later, and a signer, until the signer has waited so often; then the seat ends. Whether
+/// it came to that.
+fn keep_and_sign<R: Threads + Wait + Clock + Sync + Abort>(
     rt: &R,
     alloc: Global,
     desk: &Mutex<Desk<Free>>,
-    hub: Arc<AskHub<Free>>,
-    beside: &mut Beside,
+    signer: &mut MemorySigner,
+    bells: &[MemoryBell; 2],
     asks: u64,
 ) -> bool {
     let gate = Closing::start(rt, desk, BEFORE_KEEPING, asks);
-    let queue = TicketQueue::start(alloc, hub);
-    let (signer, clock, bells) = (&mut beside.signer, &mut beside.clock, &beside.bells);
-    let keeper = &mut beside.keeper;
+    let queue = TicketQueue::start(alloc, AskHub::start(alloc, 2, 1).expect(rt, "memory"));
+    let mut signing = clock(rt, alloc, &[100]);
+    let mut keeper = clock(rt, alloc, &[100, 100, 101]);
     join_mut(
         rt,
-        &mut || sign_asks(rt, alloc, desk, &queue, signer, clock, &gate, bells),
-        &mut || keep_time(rt, alloc, desk, &queue, keeper, &gate, bells),
+        &mut || sign_asks(rt, alloc, desk, &queue, signer, &mut signing, &gate, bells),
+        &mut || keep_time(rt, alloc, desk, &queue, &mut keeper, &gate, bells),
     );
     queue.end();
     gate.came.load(Ordering::SeqCst) == 1
 }
 
 #[test]
-fn a_failed_ask_is_asked_again_after_a_pause(rt: HostRuntime) -> Result<(), Fail> {
+fn a_failed_ask_is_asked_again_after_a_pause(rt: HostRuntime) {
     let alloc = rt.alloc();
-    let mut beside = Beside::start(alloc, 0)?;
-    let hub = AskHub::start(alloc, 2, 1)?;
-    let desk = Mutex::new(open(&rt, alloc, TWO, 1)?);
+    let mut signer = signer(&rt, alloc, &[(100, 200)], 0);
+    let bells = [MemoryBell::start(), MemoryBell::start()];
+    let desk = open(&rt, alloc, TWO, 1);
     // before e1, which fails; before e2; before e1 again; and once more
-    let came = keep_and_sign(&rt, alloc, &desk, hub, &mut beside, 4);
+    assert!(rt; keep_and_sign(&rt, alloc, &desk, &mut signer, &bells, 4));
     desk.into_inner().end(&rt);
-    assert!(rt; came);
-    assert_eq!(rt; beside.signer.calls().len(), 3);
-    for (call, entry) in beside
-        .signer
-        .calls()
-        .iter()
-        .zip([b"e1".as_slice(), b"e2", b"e1"])
-    {
-        assert_eq!(rt; entry_asked(call), entry);
-    }
+    were_asked(&rt, &signer, &[b"e1", b"e2", b"e1"]);
     // the keeper rings at its first look, and the signer after each identity
-    assert!(rt; beside.bells[0].rings() >= 3 && beside.bells[1].rings() >= 3);
-    Ok(())
+    assert!(rt; bells[0].rings() >= 3 && bells[1].rings() >= 3);
 }
 
 /// Puts the tickets of a look into the queue. A look reads the clock twice.
@@ -351,52 +363,67 @@ fn queue_due<R: Wait>(
     }
 }
 
-/// Identities from 0 to 200 come at 150, 152 and 162. The first one's ask rests until 162, so that the ask that failed at
-/// 150 goes before it.
-#[test]
-fn an_identity_that_is_due_at_once_rests(rt: HostRuntime) -> Result<(), Fail> {
-    let alloc = rt.alloc();
-    let mut signer = signer(alloc, &[(0, 200)], 1)?;
-    let hub = AskHub::start(alloc, 2, 1)?;
+/// The looks and asks of a seat: how many asks follow each look. Before, at and after the first ask; before and after the second,
+/// which fails; and so on.
+fn look_and_ask<R: Wait + Abort>(
+    rt: &R,
+    alloc: Global,
+    desk: &Mutex<Desk<Free>>,
+    signer: &mut MemorySigner,
+    asks: [u32; 4],
+) {
+    let queue = TicketQueue::start(alloc, AskHub::start(alloc, 2, 1).expect(rt, "memory"));
     let bells = [MemoryBell::start()];
-    // before, at and after the first; before and after the second, which fails; and so on
-    let times = [150, 150, 150, 150, 150, 152, 152, 152, 162];
-    let mut clock = MemoryClock::start(numbers(alloc, &times)?);
-    let looks = [150, 150, 151, 151, 152, 152, 162];
-    let mut keeper = MemoryClock::start(numbers(alloc, &looks)?);
-    let desk = Mutex::new(open(&rt, alloc, TWO, 1)?);
-    let queue = TicketQueue::start(alloc, hub);
-    for asks in [2, 0, 1, 1] {
-        queue_due(&rt, alloc, &desk, &queue, &mut keeper);
-        for _ in 0..asks {
-            sign_next(&rt, alloc, &desk, &queue, &mut signer, &mut clock, &bells);
+    let mut signing = clock(rt, alloc, &[150, 150, 150, 150, 150, 152, 152, 152, 162]);
+    let mut keeper = clock(rt, alloc, &[150, 150, 151, 151, 152, 152, 162]);
+    for count in asks {
+        queue_due(rt, alloc, desk, &queue, &mut keeper);
+        for _ in 0..count {
+            sign_next(rt, alloc, desk, &queue, signer, &mut signing, &bells);
         }
     }
     queue.end();
+}
+
+/// Identities from 0 to 200 come at 150, 152 and 162. The first one's ask rests until 162, so that the ask that failed at
+/// 150 goes before it.
+#[test]
+fn an_identity_that_is_due_at_once_rests(rt: HostRuntime) {
+    let alloc = rt.alloc();
+    let mut signer = signer(&rt, alloc, &[(0, 200)], 1);
+    let desk = open(&rt, alloc, TWO, 1);
+    look_and_ask(&rt, alloc, &desk, &mut signer, [2, 0, 1, 1]);
     desk.into_inner().end(&rt);
-    let asked = [b"e1".as_slice(), b"e2", b"e2", b"e1"];
-    assert_eq!(rt; signer.calls().len(), asked.len());
-    for (call, entry) in signer.calls().iter().zip(asked) {
-        assert_eq!(rt; entry_asked(call), entry);
-    }
-    Ok(())
+    were_asked(&rt, &signer, &[b"e1", b"e2", b"e2", b"e1"]);
+}
+
+/// Pulls beside so many seats, until there is none or the third round: how many pulls there were.
+fn pull<R: Wait + Abort>(rt: &R, alloc: Global, desk: &Mutex<Desk<Free>>) -> u64 {
+    let mut upstream = upstream(rt, alloc, &[DOC, TWO], 9);
+    let mut clock = clock(rt, alloc, &[100]);
+    let queue = TicketQueue::start(alloc, AskHub::start(alloc, 2, 1).expect(rt, "memory"));
+    let gate = Closing::start(rt, desk, BEFORE_UPKEEP, 3);
+    let bells = [MemoryBell::start(), MemoryBell::start()];
+    pull_documents(
+        rt,
+        alloc,
+        desk,
+        &queue,
+        &mut upstream,
+        &mut clock,
+        &gate,
+        &bells,
+    );
+    drop(gate);
+    queue.end();
+    upstream.number()
 }
 
 #[test]
-fn documents_are_pulled_until_no_seat_serves(rt: HostRuntime) -> Result<(), Fail> {
-    let alloc = rt.alloc();
+fn documents_are_pulled_until_no_seat_serves(rt: HostRuntime) {
     for (seats, pulls) in [(0, 1), (1, 3)] {
-        let mut beside = Beside::start(alloc, 9)?;
-        let hub = AskHub::start(alloc, 2, 1)?;
-        let desk = Mutex::new(open(&rt, alloc, DOC, seats)?);
-        let gate = Closing::start(&rt, &desk, BEFORE_UPKEEP, 3);
-        let queue = TicketQueue::start(alloc, hub);
-        let (upstream, clock, bells) = (&mut beside.upstream, &mut beside.clock, &beside.bells);
-        pull_documents(&rt, alloc, &desk, &queue, upstream, clock, &gate, bells);
-        drop(gate);
-        queue.end();
+        let desk = open(&rt, rt.alloc(), DOC, seats);
+        assert_eq!(rt; pull(&rt, rt.alloc(), &desk), pulls);
         desk.into_inner().end(&rt);
-        assert_eq!(rt; beside.upstream.number(), pulls);
     }
-    Ok(())
 }

@@ -2,12 +2,14 @@
 
 ghost use Rattle.std.specs.Prelude.{None};
 
+use super::Step;
 use crate::connection_tests::desks::open_all;
-use crate::connection_tests::outside::{Outside, Stop, memory_outside, numbers, plan};
+use crate::connection_tests::outside::{Outside, are_parts, memory_outside, numbers, plan};
 use ask_mail::TokenAsks;
 use std::alloc::Global;
 use std::marker::Model;
 use std::mem;
+use std::process::Abort;
 use std::sync::{Mutex, Wait};
 use wl_desk::Desk;
 use wl_edge::{
@@ -74,43 +76,6 @@ impl Caller {
     }
 }
 
-/// The connections of one seat, numbered in their order, and all that is around them.
-pub struct Callers {
-    alloc: Global,
-    desk: Mutex<Desk<Free>>,
-    callers: Vec<Caller>,
-    asks: SeatAsks<Free>,
-    queue: TicketQueue<Free>,
-    outside: Outside,
-    bells: [MemoryBell; 1],
-}
-
-fn start_caller(alloc: Global, pieces: &[&[&[u8]]], pass: Pass<Free>) -> Result<Caller, Stop> {
-    Ok(Caller {
-        link: MemoryLink::start(alloc, plan(alloc, pieces)?)?,
-        served: Served::start(alloc)?,
-        pass,
-    })
-}
-
-fn all_callers(
-    alloc: Global,
-    links: &[&[&[&[u8]]]],
-    mut passes: Vec<Pass<Free>>,
-) -> Result<Vec<Caller>, Stop> {
-    let mut callers = Vec::new(alloc);
-    for pieces in links {
-        let Some(pass) = passes.pop() else {
-            return Err(Stop::NoPass);
-        };
-        let next = start_caller(alloc, pieces, pass)?;
-        if callers.push(next).is_err() {
-            return Err(Stop::Memory);
-        }
-    }
-    Ok(callers)
-}
-
 /// A signer that gives nothing.
 fn idle_signer(alloc: Global) -> MemorySigner {
     let identities = Script::start(Row::empty(alloc), Row::empty(alloc));
@@ -171,21 +136,44 @@ impl Signer for Failing {
     }
 }
 
+/// The connections of one seat, numbered in their order, and all that is around them.
+pub struct Callers {
+    alloc: Global,
+    desk: Mutex<Desk<Free>>,
+    callers: Vec<Caller>,
+    asks: SeatAsks<Free>,
+    queue: TicketQueue<Free>,
+    outside: Outside,
+    bells: [MemoryBell; 1],
+}
+
+fn start_caller(
+    rt: &impl Abort,
+    alloc: Global,
+    pieces: &[&[&[u8]]],
+    pass: Option<Pass<Free>>,
+) -> Caller {
+    let plan = plan(alloc, pieces).expect(rt, "memory");
+    Caller {
+        link: MemoryLink::start(alloc, plan).expect(rt, "memory"),
+        served: Served::start(alloc).expect(rt, "memory"),
+        pass: pass.expect(rt, "a pass"),
+    }
+}
+
 impl Callers {
     /// Connections, three at most, over links that give these pieces, at 100, with one signer of the tokens t and u.
-    pub fn start<R: Wait>(rt: &R, alloc: Global, links: &[&[&[&[u8]]]]) -> Result<Callers, Stop> {
-        let hub = AskHub::start(alloc, 1, 1)?;
-        let asks = SeatAsks::start(alloc, &hub, 0)?;
-        let outside = memory_outside(alloc, 100, &[], &[])?;
-        let (desk, passes) = open_all(rt, alloc, 1)?;
-        let callers = match all_callers(alloc, links, passes) {
-            Ok(callers) => callers,
-            Err(stop) => {
-                desk.into_inner().end(rt);
-                return Err(stop);
-            }
-        };
-        Ok(Callers {
+    pub fn start<R: Wait + Abort>(rt: &R, alloc: Global, links: &[&[&[&[u8]]]]) -> Callers {
+        let hub = AskHub::start(alloc, 1, 1).expect(rt, "memory");
+        let asks = SeatAsks::start(alloc, &hub, 0).expect(rt, "memory");
+        let outside = memory_outside(alloc, 100, &[], &[]).expect(rt, "an outside");
+        let (desk, mut passes) = open_all(rt, alloc, 1).expect(rt, "a desk");
+        let mut callers = Vec::new(alloc);
+        for pieces in links {
+            let next = start_caller(rt, alloc, pieces, passes.pop());
+            callers.push(next).expect(rt, "memory");
+        }
+        Callers {
             alloc,
             desk,
             callers,
@@ -193,43 +181,31 @@ impl Callers {
             queue: TicketQueue::start(alloc, hub),
             outside,
             bells: [MemoryBell::start()],
-        })
+        }
     }
 
     /// A round of the connection of this number.
-    pub fn round<R: Wait>(&mut self, rt: &R, connection: u64) -> RoundEnd {
-        let Some(caller) = self.callers.get_mut(connection as usize) else {
-            return RoundEnd::Later;
-        };
-        caller.round(
-            rt,
-            &self.desk,
-            connection,
-            &mut self.asks,
-            &mut self.outside,
-        )
+    fn round<R: Wait + Abort>(&mut self, rt: &R, connection: u64) -> RoundEnd {
+        let caller = self
+            .callers
+            .get_mut(connection as usize)
+            .expect(rt, "a connection");
+        let (desk, asks) = (&self.desk, &mut self.asks);
+        caller.round(rt, desk, connection, asks, &mut self.outside)
     }
 
-    /// A signer does so many asks. How often it was called.
-    pub fn sign<R: Wait>(&mut self, rt: &R, count: u64) -> usize {
+    /// A signer does so many asks.
+    fn sign<R: Wait>(&mut self, rt: &R, count: u64) {
         let signer = &mut self.outside.asks.signer;
         let clock = &mut self.outside.clock;
+        let (desk, queue) = (&self.desk, &self.queue);
         for _ in 0..count {
-            sign_next(
-                rt,
-                self.alloc,
-                &self.desk,
-                &self.queue,
-                signer,
-                clock,
-                &self.bells,
-            );
+            sign_next(rt, self.alloc, desk, queue, signer, clock, &self.bells);
         }
-        signer.calls().len()
     }
 
-    /// A signer does one ask, while this connection ends. How often it was called.
-    pub fn sign_while_leaving<R: Wait>(&mut self, rt: &R, connection: u64) -> usize {
+    /// A signer does one ask, while this connection ends.
+    fn sign_while_leaving<R: Wait>(&mut self, rt: &R, connection: u64) {
         let mut leaving = Leaving {
             rt,
             asks: &self.asks,
@@ -237,51 +213,58 @@ impl Callers {
             signer: mem::replace(&mut self.outside.asks.signer, idle_signer(self.alloc)),
         };
         let clock = &mut self.outside.clock;
+        let (desk, queue) = (&self.desk, &self.queue);
         sign_next(
             rt,
             self.alloc,
-            &self.desk,
-            &self.queue,
+            desk,
+            queue,
             &mut leaving,
             clock,
             &self.bells,
         );
         self.outside.asks.signer = leaving.signer;
-        self.outside.asks.signer.calls().len()
     }
 
     /// A signer fails at one ask, from 100 to 110.
-    pub fn sign_slowly<R: Wait>(&mut self, rt: &R) -> Result<u64, Stop> {
+    fn sign_slowly<R: Wait + Abort>(&mut self, rt: &R) {
         let mut failing = Failing { faults: 0 };
-        let mut clock = MemoryClock::start(numbers(self.alloc, &[100, 110])?);
+        let times = numbers(self.alloc, &[100, 110]).expect(rt, "memory");
+        let mut clock = MemoryClock::start(times);
+        let (desk, queue) = (&self.desk, &self.queue);
         sign_next(
             rt,
             self.alloc,
-            &self.desk,
-            &self.queue,
+            desk,
+            queue,
             &mut failing,
             &mut clock,
             &self.bells,
         );
-        Ok(failing.faults)
+        assert_eq!(rt; failing.faults, 1);
     }
 
-    /// The keeper tells the time.
-    pub fn tell_time<R: Wait>(&self, rt: &R, now: u64) {
-        self.queue.tell_time(rt, now);
+    /// Asserts what the link of this connection took: these, one after the other, and nothing else.
+    fn took(&self, rt: &impl Abort, connection: usize, parts: &[&[u8]]) {
+        let caller = self.callers.get(connection).expect(rt, "a connection");
+        assert!(rt;
+            are_parts(caller.link.took(), parts),
+            "connection {connection}"
+        );
     }
 
-    /// What the link of this connection took.
-    pub fn took(&self, connection: usize) -> &[u8] {
-        match self.callers.get(connection) {
-            Some(caller) => caller.link.took(),
-            None => &[],
+    /// Takes a step, and asserts what comes of it.
+    pub fn take<R: Wait + Abort>(&mut self, rt: &R, step: &Step) {
+        match *step {
+            Step::Round(connection, end) => assert_eq!(rt; self.round(rt, connection), end),
+            Step::Took(connection, parts) => self.took(rt, connection, parts),
+            Step::Sign(count) => self.sign(rt, count),
+            Step::SignWhileLeaving(connection) => self.sign_while_leaving(rt, connection),
+            Step::SignSlowly => self.sign_slowly(rt),
+            Step::TellTime(now) => self.queue.tell_time(rt, now),
+            Step::Signed(calls) => assert_eq!(rt; self.outside.asks.signer.calls().len(), calls),
+            Step::Rang(rings) => assert_eq!(rt; self.bells[0].rings(), rings),
         }
-    }
-
-    /// How often the seat's bell rang.
-    pub fn rings(&self) -> u64 {
-        self.bells[0].rings()
     }
 
     /// All is let go.
