@@ -14,8 +14,6 @@ mod publication;
 mod serve;
 mod serve_ends;
 pub mod status;
-#[cfg(test)]
-mod tests;
 mod unfit;
 
 pub use program::READ_LIMIT;

@@ -1,9 +1,10 @@
 //! Simulations.
 
-use super::{USAGE, ran};
-use std::alloc::Global;
-use std::test::Fail;
-use wl_octets::Memory;
+use super::{USAGE, ends, ran, sink, source};
+use std::process::Abort;
+use std::sync::Wait;
+use std::thread::Threads;
+use wl_edge::MemorySink;
 
 /// Words, with the status and the text that are due. Nothing is read.
 type Run = (&'static [&'static str], u8, &'static str);
@@ -41,18 +42,11 @@ const SIMULATIONS: [Run; 6] = [
     ),
 ];
 
-fn is_due(alloc: Global, run: &Run) -> Result<bool, Memory> {
-    let (words, status, text) = run;
-    let (found, written) = ran(alloc, words, b"{")?;
-    Ok(found == *status && written.as_slice() == text.as_bytes())
-}
-
 #[test]
-fn simulations(rt: HostRuntime) -> Result<(), Fail> {
-    for run in &SIMULATIONS {
-        assert!(rt; is_due(rt.alloc(), run)?, "{}", run.2);
+fn simulations(rt: HostRuntime) {
+    for (words, status, text) in &SIMULATIONS {
+        ends(&rt, words, "{", *status, text);
     }
-    Ok(())
 }
 
 /// Words that fit nothing.
@@ -76,18 +70,26 @@ const UNFIT: [&[&str]; 16] = [
 ];
 
 #[test]
-fn unfit_simulations(rt: HostRuntime) -> Result<(), Fail> {
-    for (at, words) in UNFIT.iter().enumerate() {
-        assert!(rt; is_due(rt.alloc(), &(*words, 2, USAGE))?, "{at}");
+fn unfit_simulations(rt: HostRuntime) {
+    for words in &UNFIT {
+        ends(&rt, words, "{", 2, USAGE);
     }
-    Ok(())
+}
+
+/// What a run of these words that reads nothing writes.
+fn simulated(
+    rt: &(impl AllocGlobal + Abort + Threads + Wait + Sync),
+    words: &[&str],
+) -> MemorySink {
+    let (status, output) = ran(rt, words, source(rt, b"", 64, &[]), sink(rt, 1_000, &[]));
+    assert_eq!(rt; status, 0);
+    output
 }
 
 #[test]
-fn simulation_repeats(rt: HostRuntime) -> Result<(), Fail> {
+fn simulation_repeats(rt: HostRuntime) {
     let words = &["simulate", "1", "20", "4", "100"];
-    let (status, first) = ran(rt.alloc(), words, b"")?;
-    let again = ran(rt.alloc(), words, b"")?;
-    assert!(rt; status == 0 && (status, first) == again);
-    Ok(())
+    let first = simulated(&rt, words);
+    let again = simulated(&rt, words);
+    assert_eq!(rt; first.bytes(), again.bytes());
 }

@@ -1,7 +1,6 @@
 //! Scripts, replayed.
 
-use super::{Case, USAGE, is_due};
-use std::test::Fail;
+use super::{Case, USAGE, all_end};
 
 /// The document of the other tests, an identity, and a caller's first call.
 const FIRST: &str =
@@ -96,9 +95,6 @@ const REPLAYS: [Case; 12] = [
 ];
 
 #[test]
-fn replays(rt: HostRuntime) -> Result<(), Fail> {
-    for case in &REPLAYS {
-        assert!(rt; is_due(rt.alloc(), case)?, "{}", case.document);
-    }
-    Ok(())
+fn replays(rt: HostRuntime) {
+    all_end(&rt, &REPLAYS);
 }

@@ -1,13 +1,13 @@
 //! The one call over a host in memory: `serve`, and a command beside it.
 
-use super::{DOC, ONE, USAGE, word_list};
-use crate::{Host, config_path, run};
-use std::alloc::Global;
+use super::{DOC, ONE, USAGE, numbers, octets, run_over, sink, source, word_list};
+use std::alloc::AllocGlobal;
+use std::process::Abort;
 use std::sync::Wait;
-use std::test::Fail;
 use std::thread::Threads;
-use wl_edge::{ListenerPlan, MemorySink, MemorySource, OpenGate, Script};
-use wl_octets::{Memory, Octets, Row};
+use wl_agent::config_path;
+use wl_edge::{ListenerPlan, OpenGate, Script};
+use wl_octets::{Octets, Row};
 use wl_serve::{HostPlan, MemoryHost, SeatPlan};
 
 const CONFIG: &str =
@@ -45,7 +45,7 @@ const SERVED: Case = Case {
     text: "",
 };
 
-const CASES: [Case; 14] = [
+const CASES: [Case; 15] = [
     SERVED,
     Case {
         words: &["serve", "--", "-x"],
@@ -87,6 +87,14 @@ const CASES: [Case; 14] = [
         text: "fault config 5 4 0 1 0\n",
         ..SERVED
     },
+    // a document in place of a configuration
+    Case {
+        words: &["serve", "/x"],
+        input: DOC,
+        status: 3,
+        text: "fault config 3 0 0 2 0\n",
+        ..SERVED
+    },
     Case {
         document: "{",
         status: 3,
@@ -121,36 +129,33 @@ const CASES: [Case; 14] = [
     },
 ];
 
-fn numbers(alloc: Global, numbers: &[u64]) -> Result<Row<u64>, Memory> {
-    Ok(Row::from_vec(Vec::from_slice(alloc, numbers)?))
-}
-
 /// A seat whose listener gives no link.
-fn seat(alloc: Global, case: &Case) -> Result<SeatPlan, Memory> {
-    Ok(SeatPlan {
+fn seat(rt: &(impl AllocGlobal + Abort), case: &Case) -> SeatPlan {
+    let alloc = rt.alloc();
+    SeatPlan {
         listener: ListenerPlan {
             links: Row::empty(alloc),
             idle: Row::empty(alloc),
-            failing: numbers(alloc, case.accepts)?,
+            failing: numbers(rt, case.accepts),
             answers: 8,
         },
         selectors: Script::start(Row::empty(alloc), Row::empty(alloc)),
         times: Row::empty(alloc),
-        failing: numbers(alloc, case.waits)?,
-    })
+        failing: numbers(rt, case.waits),
+    }
 }
 
-fn documents(alloc: Global, case: &Case) -> Result<Script<Octets>, Memory> {
-    let mut answers = Row::empty(alloc);
-    answers.push(Octets::from_slice(alloc, case.document.as_bytes())?)?;
-    Ok(Script::start(answers, numbers(alloc, case.pulls)?))
+fn documents(rt: &(impl AllocGlobal + Abort), case: &Case) -> Script<Octets> {
+    let document = octets(rt, case.document.as_bytes());
+    let answers = vec![in rt.alloc(); document].expect(rt, "memory");
+    Script::start(Row::from_vec(answers), numbers(rt, case.pulls))
 }
 
-fn binder(alloc: Global, case: &Case) -> Result<MemoryHost<OpenGate>, Memory> {
-    let mut seats = Vec::with_capacity(alloc, 1)?;
-    seats.push_reserved(seat(alloc, case)?);
-    Ok(MemoryHost::start(Some(HostPlan {
-        documents: documents(alloc, case)?,
+fn binder(rt: &(impl AllocGlobal + Abort), case: &Case) -> MemoryHost<OpenGate> {
+    let alloc = rt.alloc();
+    let seats = vec![in alloc; seat(rt, case)].expect(rt, "memory");
+    MemoryHost::start(Some(HostPlan {
+        documents: documents(rt, case),
         tokens: Script::start(Row::empty(alloc), Row::empty(alloc)),
         identities: Script::start(Row::empty(alloc), Row::empty(alloc)),
         puller_times: Row::empty(alloc),
@@ -158,60 +163,29 @@ fn binder(alloc: Global, case: &Case) -> Result<MemoryHost<OpenGate>, Memory> {
         signer_times: Row::empty(alloc),
         gate: OpenGate,
         seats,
-    })))
+    }))
 }
 
-/// The status of a run, and what it wrote.
-fn ran<R: Threads + Wait + Sync>(
-    rt: &R,
-    alloc: Global,
-    case: &Case,
-) -> Result<(u8, Octets), Memory> {
-    let input = Octets::from_slice(alloc, case.input.as_bytes())?;
-    let mut host = Host {
-        input: MemorySource::start(input, 64, numbers(alloc, case.reads)?),
-        output: MemorySink::start(alloc, 100, 1_000, 1_000, numbers(alloc, case.writes)?)?,
-        binder: binder(alloc, case)?,
-        parts: None,
-    };
-    let words = word_list(alloc, case.words)?;
-    let status = run(rt, alloc, words.as_slice(), &mut host);
-    Ok((status, Octets::from_slice(alloc, host.output.bytes())?))
-}
-
-/// Whether a run ends as is due.
-fn is_due<R: Threads + Wait + Sync>(rt: &R, alloc: Global, case: &Case) -> Result<bool, Memory> {
-    let (status, text) = ran(rt, alloc, case)?;
-    Ok(status == case.status && text.as_slice() == case.text.as_bytes())
+/// Asserts how the run of a case ends.
+fn serves_so(rt: &(impl AllocGlobal + Abort + Threads + Wait + Sync), case: &Case) {
+    let input = source(rt, case.input.as_bytes(), 64, case.reads);
+    let output = sink(rt, 1_000, case.writes);
+    let (status, output) = run_over(rt, case.words, input, output, binder(rt, case));
+    assert_eq!(rt; status, case.status, "{}", case.input);
+    assert_eq!(rt; output.bytes(), case.text.as_bytes(), "{}", case.input);
 }
 
 #[test]
-fn serves(rt: HostRuntime) -> Result<(), Fail> {
+fn serves(rt: HostRuntime) {
     for case in &CASES {
-        assert!(rt;
-            is_due(&rt, rt.alloc(), case)?,
-            "{} {}",
-            case.status,
-            case.input
-        );
-    }
-    Ok(())
-}
-
-/// The name that the words give.
-fn name(alloc: Global, words: &[&str]) -> Result<Option<Octets>, Memory> {
-    let words = word_list(alloc, words)?;
-    match config_path(words.as_slice()) {
-        Some(name) => Ok(Some(Octets::from_slice(alloc, name.as_bytes())?)),
-        None => Ok(None),
+        serves_so(&rt, case);
     }
 }
 
 #[test]
-fn names_of_configurations(rt: HostRuntime) -> Result<(), Fail> {
-    let alloc = rt.alloc();
-    let found = name(alloc, &["serve", "agent.json"])?.ok_or("no name")?;
-    assert_eq!(rt; found.as_slice(), b"agent.json".as_slice());
-    assert!(rt; name(alloc, &["check"])?.is_none());
-    Ok(())
+fn names_of_configurations(rt: HostRuntime) {
+    let words = word_list(&rt, &["serve", "agent.json"]);
+    assert_eq!(rt; config_path(words.as_slice()), Some("agent.json"));
+    let words = word_list(&rt, &["check"]);
+    assert!(rt; config_path(words.as_slice()).is_none());
 }
