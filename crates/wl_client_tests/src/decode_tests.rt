@@ -1,140 +1,156 @@
 use pb_wire::{FieldFault, WireFault};
-use std::test::*;
+use std::alloc::Global;
+use std::process::Abort;
 use wl_client::*;
 use wl_octets::{Octets, Row};
 use workload_proto as proto;
 use workload_proto::{encode_jwt, encode_x509, size_jwt, size_x509};
 
+/// Asserts the fields of an SVID: its id, its chain, its key, its bundle and its hint.
+fn is_svid(rt: &impl Abort, svid: &X509Item<'_>, fields: [&[u8]; 5]) {
+    let [spiffe_id, chain, key, bundle, hint] = fields;
+    assert_eq!(rt; svid.spiffe_id.as_slice(), spiffe_id);
+    assert_eq!(rt; svid.chain.as_slice(), chain);
+    assert_eq!(rt; svid.key.as_slice(), key);
+    assert_eq!(rt; svid.bundle.as_slice(), bundle);
+    assert_eq!(rt; svid.hint.as_slice(), hint);
+}
+
+/// Asserts the key and the value of an item of a map.
+fn is_item(rt: &impl Abort, item: &MapItem<'_>, key: &[u8], value: &[u8]) {
+    assert_eq!(rt; item.key.as_slice(), key);
+    assert_eq!(rt; item.value.as_slice(), value);
+}
+
 #[test]
-fn responses_are_read(rt: HostRuntime) -> Result<(), Fail> {
-    let alloc = rt.alloc();
+fn responses_are_read(rt: HostRuntime) {
     let bytes = b"\x0a\x19\x0a\x0espiffe://a.b/w\x12\x01\x01\x1a\x01\x02\x22\x01\x03";
-    match decode_x509(alloc, bytes) {
-        Ok(message) => {
-            let [svid] = message.svids.as_slice() else {
-                return Err(Fail::from("it has one SVID"));
-            };
-            assert_eq!(rt; svid.spiffe_id.as_slice(), b"spiffe://a.b/w".as_slice());
-            assert_eq!(rt; svid.chain.as_slice(), b"\x01".as_slice());
-            assert_eq!(rt; svid.key.as_slice(), b"\x02".as_slice());
-            assert_eq!(rt; svid.bundle.as_slice(), b"\x03".as_slice());
-            assert_eq!(rt; svid.hint.len(), 0);
-            assert_eq!(rt; message.federated.len(), 0);
-        }
-        Err(_) => return Err(Fail::from("it is a response")),
+    let message = decode_x509(rt.alloc(), bytes).expect(&rt, "a response");
+    match message.svids.as_slice() {
+        [svid] => is_svid(
+            &rt,
+            svid,
+            [b"spiffe://a.b/w", b"\x01", b"\x02", b"\x03", b""],
+        ),
+        _ => panic!(rt; "it has one SVID"),
     }
-    Ok(())
+    assert_eq!(rt; message.federated.len(), 0);
+    drop(message);
 }
 
-fn text(alloc: std::alloc::Global, bytes: &[u8]) -> Result<Octets, wl_octets::Memory> {
-    Octets::from_slice(alloc, bytes)
+fn text(rt: &impl Abort, alloc: Global, bytes: &[u8]) -> Octets {
+    Octets::from_slice(alloc, bytes).expect(rt, "memory")
 }
 
-/// Whether this SVID is the one of this name that was encoded.
-fn is_svid(svid: &X509Item, name: &[u8]) -> bool {
-    svid.spiffe_id.as_slice() == name
-        && svid.chain.as_slice() == b"\xff\x00".as_slice()
-        && svid.key.len() == 0
-        && svid.bundle.as_slice() == name
-        && svid.hint.as_slice() == b"h".as_slice()
+fn put_svid(rt: &impl Abort, alloc: Global, svids: &mut Row<proto::X509Item>, name: &[u8]) {
+    let pushed = svids.push(proto::X509Item {
+        spiffe_id: text(rt, alloc, name),
+        chain: text(rt, alloc, b"\xff\x00"),
+        key: text(rt, alloc, b""),
+        bundle: text(rt, alloc, name),
+        hint: text(rt, alloc, b"h"),
+    });
+    assert!(rt; pushed.is_ok());
 }
 
-#[test]
-fn what_is_encoded_is_read(rt: HostRuntime) -> Result<(), Fail> {
-    let alloc = rt.alloc();
-    let names = [b"a".as_slice(), b"bc", b""];
+fn put_item(rt: &impl Abort, alloc: Global, items: &mut Row<proto::MapItem>, name: &[u8]) {
+    let pushed = items.push(proto::MapItem {
+        key: text(rt, alloc, name),
+        value: text(rt, alloc, b"\xfe"),
+    });
+    assert!(rt; pushed.is_ok());
+}
+
+const NAMES: [&[u8]; 3] = [b"a", b"bc", b""];
+
+/// A message with an SVID and a federated bundle of each name, encoded.
+fn encoded(rt: &impl Abort, alloc: Global) -> Octets {
     let mut svids = Row::empty(alloc);
     let mut federated = Row::empty(alloc);
-    for name in names {
-        svids
-            .push(proto::X509Item {
-                spiffe_id: text(alloc, name)?,
-                chain: text(alloc, b"\xff\x00")?,
-                key: text(alloc, b"")?,
-                bundle: text(alloc, name)?,
-                hint: text(alloc, b"h")?,
-            })
-            .ok()
-            .ok_or("there is memory")?;
-        federated
-            .push(proto::MapItem {
-                key: text(alloc, name)?,
-                value: text(alloc, b"\xfe")?,
-            })
-            .ok()
-            .ok_or("there is memory")?;
+    for name in NAMES {
+        put_svid(rt, alloc, &mut svids, name);
+        put_item(rt, alloc, &mut federated, name);
     }
     let message = proto::X509Response { svids, federated };
     assert_eq!(rt; size_x509(&message), 65);
-    let bytes = encode_x509(alloc, &message)?;
-    let Ok(read) = decode_x509(alloc, bytes.as_slice()) else {
-        return Err(Fail::from("it is a response"));
-    };
-    assert_eq!(rt;
-        (read.svids.len(), read.federated.len()),
-        (names.len(), names.len())
-    );
-    let svids = read.svids.as_slice().iter();
-    for ((svid, item), name) in svids.zip(read.federated.as_slice()).zip(names) {
-        assert!(rt; is_svid(svid, name), "{name:?}");
-        assert_eq!(rt; item.key.as_slice(), name);
-        assert_eq!(rt; item.value.as_slice(), b"\xfe".as_slice());
+    let bytes = encode_x509(alloc, &message).expect(rt, "memory");
+    drop(message);
+    bytes
+}
+
+/// Asserts that a message has an SVID and a federated bundle of each name.
+fn are_as_encoded(rt: &impl Abort, read: &X509Response<'_>) {
+    let counts = (read.svids.len(), read.federated.len());
+    assert_eq!(rt; counts, (NAMES.len(), NAMES.len()));
+    for (svid, name) in read.svids.as_slice().iter().zip(NAMES) {
+        is_svid(rt, svid, [name, b"\xff\x00", b"", name, b"h"]);
     }
-    assert!(rt; decode_x509(alloc, bytes.as_slice()).ok() == Some(read));
-    Ok(())
+    for (item, name) in read.federated.as_slice().iter().zip(NAMES) {
+        is_item(rt, item, name, b"\xfe");
+    }
 }
 
 #[test]
-fn tokens_are_read(rt: HostRuntime) -> Result<(), Fail> {
+fn what_is_encoded_is_read(rt: HostRuntime) {
     let alloc = rt.alloc();
+    let bytes = encoded(&rt, alloc);
+    let read = decode_x509(alloc, bytes.as_slice()).expect(&rt, "a response");
+    are_as_encoded(&rt, &read);
+    assert!(rt; decode_x509(alloc, bytes.as_slice()).ok() == Some(read));
+}
+
+/// A message with one token, encoded.
+fn encoded_token(rt: &impl Abort, alloc: Global) -> Octets {
     let mut svids = Row::empty(alloc);
-    svids
-        .push(proto::JwtItem {
-            spiffe_id: text(alloc, b"a")?,
-            svid: text(alloc, b"t.t.t")?,
-            hint: text(alloc, b"")?,
-        })
-        .ok()
-        .ok_or("there is memory")?;
+    let pushed = svids.push(proto::JwtItem {
+        spiffe_id: text(rt, alloc, b"a"),
+        svid: text(rt, alloc, b"t.t.t"),
+        hint: text(rt, alloc, b""),
+    });
+    assert!(rt; pushed.is_ok());
     let message = proto::JwtResponse { svids };
     assert_eq!(rt; size_jwt(&message), 12);
-    let bytes = encode_jwt(alloc, &message)?;
-    let Ok(read) = decode_jwt(alloc, bytes.as_slice()) else {
-        return Err(Fail::from("it is a response"));
-    };
-    let [svid] = read.svids.as_slice() else {
-        return Err(Fail::from("it has one SVID"));
-    };
-    assert_eq!(rt; svid.spiffe_id.as_slice(), b"a".as_slice());
-    assert_eq!(rt; svid.svid.as_slice(), b"t.t.t".as_slice());
-    assert_eq!(rt; svid.hint.len(), 0);
-    assert!(rt; decode_jwt(alloc, bytes.as_slice()).ok() == Some(read));
-    Ok(())
+    let bytes = encode_jwt(alloc, &message).expect(rt, "memory");
+    drop(message);
+    bytes
+}
+
+/// Asserts that a message has that token alone.
+fn is_token(rt: &impl Abort, read: &JwtResponse<'_>) {
+    match read.svids.as_slice() {
+        [svid] => {
+            assert_eq!(rt; svid.spiffe_id.as_slice(), b"a".as_slice());
+            assert_eq!(rt; svid.svid.as_slice(), b"t.t.t".as_slice());
+            assert_eq!(rt; svid.hint.len(), 0);
+        }
+        _ => panic!(rt; "it has one SVID"),
+    }
 }
 
 #[test]
-fn the_last_value_stands(rt: HostRuntime) -> Result<(), Fail> {
+fn tokens_are_read(rt: HostRuntime) {
     let alloc = rt.alloc();
+    let bytes = encoded_token(&rt, alloc);
+    let read = decode_jwt(alloc, bytes.as_slice()).expect(&rt, "a response");
+    is_token(&rt, &read);
+    assert!(rt; decode_jwt(alloc, bytes.as_slice()).ok() == Some(read));
+}
+
+#[test]
+fn the_last_value_stands(rt: HostRuntime) {
     // an unknown field, a key twice, an empty item, `crl` of any bytes, and a map item without a value
     let bytes =
         b"\x0a\x0c\x0a\x01a\x1a\x01k\x1a\x02kk\x30\x05\x0a\x00\x12\x01\xff\x1a\x03\x0a\x01d\x20\x01";
-    match decode_x509(alloc, bytes) {
-        Ok(message) => {
-            let [first, second] = message.svids.as_slice() else {
-                return Err(Fail::from("it has two SVIDs"));
-            };
-            assert_eq!(rt; first.spiffe_id.as_slice(), b"a".as_slice());
-            assert_eq!(rt; first.key.as_slice(), b"kk".as_slice());
-            assert_eq!(rt; second.spiffe_id.len(), 0);
-            let [item] = message.federated.as_slice() else {
-                return Err(Fail::from("it has one item"));
-            };
-            assert_eq!(rt; item.key.as_slice(), b"d".as_slice());
-            assert_eq!(rt; item.value.len(), 0);
+    let message = decode_x509(rt.alloc(), bytes).expect(&rt, "a response");
+    match (message.svids.as_slice(), message.federated.as_slice()) {
+        ([first, second], [item]) => {
+            is_svid(&rt, first, [b"a", b"", b"kk", b"", b""]);
+            is_svid(&rt, second, [b"", b"", b"", b"", b""]);
+            is_item(&rt, item, b"d", b"");
         }
-        Err(_) => return Err(Fail::from("it is a response")),
+        _ => panic!(rt; "it has two SVIDs and one item"),
     }
-    Ok(())
+    drop(message);
 }
 
 #[test]
@@ -156,21 +172,22 @@ fn other_bytes_are_refused(rt: HostRuntime) {
         (b"\x1a\x03\x0a\x01\xff", FieldFault::NotUtf8(1)),
     ];
     for (bytes, fault) in table {
-        assert!(rt;
-            decode_x509(alloc, bytes).err() == Some(fault),
-            "of {bytes:?}"
-        );
+        let found = decode_x509(alloc, bytes).err();
+        assert!(rt; found == Some(fault), "of {bytes:?}");
     }
+}
+
+#[test]
+fn other_bytes_of_tokens_are_refused(rt: HostRuntime) {
+    let alloc = rt.alloc();
     let table: [(&[u8], FieldFault); 3] = [
         (b"\x08\x01", FieldFault::FieldKind(1)),
         (b"\x0a\x03\x12\x01\xff", FieldFault::NotUtf8(2)),
         (b"\x0a\x03\x1a\x01\xff", FieldFault::NotUtf8(3)),
     ];
     for (bytes, fault) in table {
-        assert!(rt;
-            decode_jwt(alloc, bytes).err() == Some(fault),
-            "of {bytes:?}"
-        );
+        let found = decode_jwt(alloc, bytes).err();
+        assert!(rt; found == Some(fault), "of {bytes:?}");
     }
 }
 

@@ -1,26 +1,7 @@
 //! Answers of other servers, recorded once (tests/vectors/peers): python3-grpcio's and grpc-go's. They send SETTINGS and PING of
 //! their own and use Huffman texts and the dynamic table. What is heard is what these servers were told to answer.
 
-use crate::tests::{hear, text_of};
-use std::alloc::Global;
-use std::process::Abort;
-use std::test::*;
-use wl_octets::{Octets, Row};
-
-fn try_answer<R: Abort>(rt: &R, alloc: Global, bytes: &[u8], text: &[u8]) -> Result<(), Fail> {
-    for piece in [1, 4096] {
-        let mut out = Octets::empty(alloc);
-        let mut told = Row::empty(alloc);
-        let met = hear(alloc, bytes, piece, &mut out, &mut told)?;
-        assert_eq!(rt; met, None, "by {piece}");
-        assert_eq!(rt;
-            text_of(alloc, told.as_slice())?.as_slice(),
-            text,
-            "by {piece}"
-        );
-    }
-    Ok(())
-}
+use crate::tests::try_answer;
 
 const TWO: &[u8] =
     b"head;message \x0a\x19\x0a\x0espiffe://a.b/w\x12\x01\x01\x1a\x01\x02\"\x01\x03;message \x0a\x19\x0a\
@@ -46,9 +27,9 @@ const GO_TWO: &[u8] =
     \x9a\xca\xc8\xb5%B\x071\x7f\x00";
 
 #[test]
-fn answer_two(rt: HostRuntime) -> Result<(), Fail> {
-    try_answer(&rt, rt.alloc(), GRPCIO_TWO, TWO)?;
-    try_answer(&rt, rt.alloc(), GO_TWO, TWO)
+fn answer_two(rt: HostRuntime) {
+    try_answer(&rt, rt.alloc(), GRPCIO_TWO, TWO);
+    try_answer(&rt, rt.alloc(), GO_TWO, TWO);
 }
 
 const EMPTY: &[u8] = b"head;message ;status 0 ;";
@@ -69,9 +50,9 @@ const GO_EMPTY: &[u8] =
     \x124\xda\x8f\x010@\x89\x9a\xca\xc8\xb5%B\x071\x7f\x00";
 
 #[test]
-fn answer_empty(rt: HostRuntime) -> Result<(), Fail> {
-    try_answer(&rt, rt.alloc(), GRPCIO_EMPTY, EMPTY)?;
-    try_answer(&rt, rt.alloc(), GO_EMPTY, EMPTY)
+fn answer_empty(rt: HostRuntime) {
+    try_answer(&rt, rt.alloc(), GRPCIO_EMPTY, EMPTY);
+    try_answer(&rt, rt.alloc(), GO_EMPTY, EMPTY);
 }
 
 const DENIED: &[u8] = b"status 7 no identity issued;";
@@ -90,9 +71,9 @@ const GO_DENIED: &[u8] =
     \x124\xda\x8f\x017@\x89\x9a\xca\xc8\xb5%B\x071\x7f\x8d\xa8\xea\x1aB\xd4\x93'\xd2\x86B-,\x9f";
 
 #[test]
-fn answer_denied(rt: HostRuntime) -> Result<(), Fail> {
-    try_answer(&rt, rt.alloc(), GRPCIO_DENIED, DENIED)?;
-    try_answer(&rt, rt.alloc(), GO_DENIED, DENIED)
+fn answer_denied(rt: HostRuntime) {
+    try_answer(&rt, rt.alloc(), GRPCIO_DENIED, DENIED);
+    try_answer(&rt, rt.alloc(), GO_DENIED, DENIED);
 }
 
 const LATER: &[u8] =
@@ -117,9 +98,9 @@ const GO_LATER: &[u8] =
     1\x7f\x93 \xe5V\xf3*\xc2\xfa\x81\x00\x15\x13j+\x80J\xbfyW\xd9";
 
 #[test]
-fn answer_later(rt: HostRuntime) -> Result<(), Fail> {
-    try_answer(&rt, rt.alloc(), GRPCIO_LATER, LATER)?;
-    try_answer(&rt, rt.alloc(), GO_LATER, LATER)
+fn answer_later(rt: HostRuntime) {
+    try_answer(&rt, rt.alloc(), GRPCIO_LATER, LATER);
+    try_answer(&rt, rt.alloc(), GO_LATER, LATER);
 }
 
 const TOKEN: &[u8] = b"head;message \x0a\x13\x0a\x0espiffe://a.b/w\x12\x01t;status 0 ;";
@@ -141,9 +122,9 @@ const GO_TOKEN: &[u8] =
     \x00\x00\x00\x01@\x88\x9a\xca\xc8\xb2\x124\xda\x8f\x010@\x89\x9a\xca\xc8\xb5%B\x071\x7f\x00";
 
 #[test]
-fn answer_token(rt: HostRuntime) -> Result<(), Fail> {
-    try_answer(&rt, rt.alloc(), GRPCIO_TOKEN, TOKEN)?;
-    try_answer(&rt, rt.alloc(), GO_TOKEN, TOKEN)
+fn answer_token(rt: HostRuntime) {
+    try_answer(&rt, rt.alloc(), GRPCIO_TOKEN, TOKEN);
+    try_answer(&rt, rt.alloc(), GO_TOKEN, TOKEN);
 }
 
 const UNTOKEN: &[u8] = b"status 3 audience must be specified;";
@@ -163,9 +144,9 @@ const GO_UNTOKEN: &[u8] =
     \x86\x94\xc5\x93";
 
 #[test]
-fn answer_untoken(rt: HostRuntime) -> Result<(), Fail> {
-    try_answer(&rt, rt.alloc(), GRPCIO_UNTOKEN, UNTOKEN)?;
-    try_answer(&rt, rt.alloc(), GO_UNTOKEN, UNTOKEN)
+fn answer_untoken(rt: HostRuntime) {
+    try_answer(&rt, rt.alloc(), GRPCIO_UNTOKEN, UNTOKEN);
+    try_answer(&rt, rt.alloc(), GO_UNTOKEN, UNTOKEN);
 }
 
 const CHECK: &[u8] = b"head;message \x08\x01;status 0 ;";
@@ -186,9 +167,9 @@ const GO_CHECK: &[u8] =
     \xc8\xb2\x124\xda\x8f\x010@\x89\x9a\xca\xc8\xb5%B\x071\x7f\x00";
 
 #[test]
-fn answer_check(rt: HostRuntime) -> Result<(), Fail> {
-    try_answer(&rt, rt.alloc(), GRPCIO_CHECK, CHECK)?;
-    try_answer(&rt, rt.alloc(), GO_CHECK, CHECK)
+fn answer_check(rt: HostRuntime) {
+    try_answer(&rt, rt.alloc(), GRPCIO_CHECK, CHECK);
+    try_answer(&rt, rt.alloc(), GO_CHECK, CHECK);
 }
 
 const UNKNOWN: &[u8] = b"status 5 unknown service;";
@@ -207,9 +188,9 @@ const GO_UNKNOWN: &[u8] =
     \x124\xda\x8f\x015@\x89\x9a\xca\xc8\xb5%B\x071\x7f\x8b\xb6\xae\xb5\x1f\xc5J \xb6w1\x0b";
 
 #[test]
-fn answer_unknown(rt: HostRuntime) -> Result<(), Fail> {
-    try_answer(&rt, rt.alloc(), GRPCIO_UNKNOWN, UNKNOWN)?;
-    try_answer(&rt, rt.alloc(), GO_UNKNOWN, UNKNOWN)
+fn answer_unknown(rt: HostRuntime) {
+    try_answer(&rt, rt.alloc(), GRPCIO_UNKNOWN, UNKNOWN);
+    try_answer(&rt, rt.alloc(), GO_UNKNOWN, UNKNOWN);
 }
 
 const WATCH: &[u8] = b"head;message \x08\x01;message \x08\x02;status 0 ;";
@@ -232,7 +213,7 @@ const GO_WATCH: &[u8] =
     \xc8\xb5%B\x071\x7f\x00";
 
 #[test]
-fn answer_watch(rt: HostRuntime) -> Result<(), Fail> {
-    try_answer(&rt, rt.alloc(), GRPCIO_WATCH, WATCH)?;
-    try_answer(&rt, rt.alloc(), GO_WATCH, WATCH)
+fn answer_watch(rt: HostRuntime) {
+    try_answer(&rt, rt.alloc(), GRPCIO_WATCH, WATCH);
+    try_answer(&rt, rt.alloc(), GO_WATCH, WATCH);
 }

@@ -3,9 +3,8 @@ use h2_frame::FrameFault;
 use hpack::HpackFault;
 use std::alloc::Global;
 use std::process::Abort;
-use std::test::*;
 use wl_client::*;
-use wl_octets::{Memory, Octets, Row};
+use wl_octets::{Octets, Row};
 
 /// The server's SETTINGS and its acknowledgement of the client's.
 const GREETING: &[u8] =
@@ -33,99 +32,129 @@ const ANSWER: &[u8] = b"\x00\x00\x14\x01\x04\x00\x00\x00\x01\x88\x0f\x10\x10appl
 /// The trailers of status 0.
 const DONE: &[u8] = b"\x00\x00\x0f\x01\x05\x00\x00\x00\x01\x00\x0bgrpc-status\x010";
 
-fn join(alloc: Global, front: &[u8], rest: &[u8]) -> Result<Octets, Memory> {
-    let mut whole = Octets::from_slice(alloc, front)?;
-    whole.push_slice(rest)?;
-    Ok(whole)
+fn put(rt: &impl Abort, out: &mut Octets, bytes: &[u8]) {
+    out.push_slice(bytes).expect(rt, "memory");
+}
+
+/// Puts what was heard after the others, as text.
+fn put_heard(rt: &impl Abort, alloc: Global, text: &mut Octets, heard: &Heard) {
+    match heard {
+        Heard::Head => put(rt, text, b"head;"),
+        Heard::Message(message) => {
+            put(rt, text, b"message ");
+            put(rt, text, message.as_slice());
+            put(rt, text, b";");
+        }
+        Heard::Status { code, text: why } => {
+            let front = format!(in alloc; "status {code} ").expect(rt, "memory");
+            put(rt, text, front.as_bytes());
+            put(rt, text, why.as_slice());
+            put(rt, text, b";");
+        }
+    }
 }
 
 /// What was heard, in one text.
-pub(crate) fn text_of(alloc: Global, told: &[Heard]) -> Result<Octets, Memory> {
+fn text_of(rt: &impl Abort, alloc: Global, told: &[Heard]) -> Octets {
     let mut text = Octets::empty(alloc);
     for heard in told {
-        match heard {
-            Heard::Head => text.push_slice(b"head;")?,
-            Heard::Message(message) => {
-                text.push_slice(b"message ")?;
-                text.push_slice(message.as_slice())?;
-                text.push_slice(b";")?;
-            }
-            Heard::Status { code, text: why } => {
-                text.push_slice(b"status ")?;
-                text.push_slice(code.to_string(alloc)?.as_bytes())?;
-                text.push_slice(b" ")?;
-                text.push_slice(why.as_slice())?;
-                text.push_slice(b";")?;
-            }
-        }
+        put_heard(rt, alloc, &mut text, heard);
     }
-    Ok(text)
+    text
 }
 
 /// Feeds pieces of this length, up to the first fault.
 pub(crate) fn hear(
+    rt: &impl Abort,
     alloc: Global,
     bytes: &[u8],
     piece: usize,
     out: &mut Octets,
     told: &mut Row<Heard>,
-) -> Result<Option<ClientFault>, Memory> {
-    let mut client = Client::start(alloc, Method::X509Svid, &[])?;
+) -> Option<ClientFault> {
+    let mut client = Client::start(alloc, Method::X509Svid, &[]).expect(rt, "memory");
+    let mut met = None;
     for front in bytes.chunks(piece.max(1)) {
-        if let Err(fault) = client.feed(front, out, told) {
-            return Ok(Some(fault));
+        if met.is_none() {
+            met = client.feed(front, out, told).err();
         }
     }
-    Ok(None)
+    met
+}
+
+/// What is to come of a server's bytes: what is heard, what the client writes, and its fault.
+type Due<'a> = (&'a [u8], &'a [u8], Option<ClientFault>);
+
+/// Feeds bytes in pieces of this length.
+fn try_pieces(rt: &impl Abort, alloc: Global, bytes: &[u8], piece: usize, due: Due<'_>) {
+    let (text, wrote, fault) = due;
+    let mut out = Octets::empty(alloc);
+    let mut told = Row::empty(alloc);
+    let met = hear(rt, alloc, bytes, piece, &mut out, &mut told);
+    let heard = text_of(rt, alloc, told.as_slice());
+    assert_eq!(rt; met, fault, "of {bytes:?} by {piece}");
+    assert_eq!(rt; out.as_slice(), wrote, "of {bytes:?} by {piece}");
+    assert_eq!(rt; heard.as_slice(), text, "of {bytes:?} by {piece}");
 }
 
 /// Feeds the front and then the rest, cut into pieces of several lengths.
-fn try_bytes<R: Abort>(
-    rt: &R,
+fn try_bytes(rt: &impl Abort, alloc: Global, front: &[u8], rest: &[u8], due: Due<'_>) {
+    let mut bytes = Octets::from_slice(alloc, front).expect(rt, "memory");
+    put(rt, &mut bytes, rest);
+    for piece in [1, 2, 7, 4096] {
+        try_pieces(rt, alloc, bytes.as_slice(), piece, due);
+    }
+}
+
+/// The same, where nothing is written and the client has a fault.
+fn try_fault(
+    rt: &impl Abort,
     alloc: Global,
     front: &[u8],
     rest: &[u8],
     text: &[u8],
-    wrote: &[u8],
-    fault: Option<ClientFault>,
-) -> Result<(), Fail> {
-    let bytes = join(alloc, front, rest)?;
-    for piece in [1, 2, 7, 4096] {
+    fault: ClientFault,
+) {
+    try_bytes(rt, alloc, front, rest, (text, b"", Some(fault)));
+}
+
+/// Feeds a recorded answer, a byte at a time and in one piece.
+pub(crate) fn try_answer(rt: &impl Abort, alloc: Global, bytes: &[u8], text: &[u8]) {
+    for piece in [1, 4096] {
         let mut out = Octets::empty(alloc);
         let mut told = Row::empty(alloc);
-        let met = hear(alloc, bytes.as_slice(), piece, &mut out, &mut told)?;
-        assert_eq!(rt; met, fault, "of {rest:?} by {piece}");
-        assert_eq!(rt; out.as_slice(), wrote, "of {rest:?} by {piece}");
-        assert_eq!(rt;
-            text_of(alloc, told.as_slice())?.as_slice(),
-            text,
-            "of {rest:?} by {piece}"
-        );
+        let met = hear(rt, alloc, bytes, piece, &mut out, &mut told);
+        let heard = text_of(rt, alloc, told.as_slice());
+        assert_eq!(rt; met, None, "by {piece}");
+        assert_eq!(rt; heard.as_slice(), text, "by {piece}");
     }
-    Ok(())
+}
+
+/// Asserts how a call of a method with this message opens.
+fn opens_by(rt: &impl Abort, alloc: Global, method: Method, message: &[u8], want: &[u8]) {
+    assert!(rt; message.len() <= 16_000);
+    let client = Client::start(alloc, method, message).expect(rt, "memory");
+    assert_eq!(rt; client.opening(), want);
 }
 
 #[test]
-fn calls_open(rt: HostRuntime) -> Result<(), Fail> {
-    let client = Client::start(rt.alloc(), Method::X509Svid, &[])?;
+fn calls_open(rt: HostRuntime) {
     let want = b"PRI * HTTP/2.0\r\n\r\nSM\r\n\r\n\
         \x00\x00\x00\x04\x00\x00\x00\x00\x00\
         \x00\x00\x68\x01\x04\x00\x00\x00\x01\x83\x86\x04\x20/SpiffeWorkloadAPI/FetchX509SVID\x01\x09localhost\
         \x0f\x10\x10application/grpc\x00\x02te\x08trailers\x00\x12workload.spiffe.io\x04true\
         \x00\x00\x05\x00\x01\x00\x00\x00\x01\x00\x00\x00\x00\x00";
-    assert_eq!(rt; client.opening(), want.as_slice());
-    let client = Client::start(rt.alloc(), Method::HealthCheck, b"\x0a\x01x")?;
+    opens_by(&rt, rt.alloc(), Method::X509Svid, b"", want);
     let want = b"PRI * HTTP/2.0\r\n\r\nSM\r\n\r\n\
         \x00\x00\x00\x04\x00\x00\x00\x00\x00\
         \x00\x00\x64\x01\x04\x00\x00\x00\x01\x83\x86\x04\x1c/grpc.health.v1.Health/Check\x01\x09localhost\
         \x0f\x10\x10application/grpc\x00\x02te\x08trailers\x00\x12workload.spiffe.io\x04true\
         \x00\x00\x08\x00\x01\x00\x00\x00\x01\x00\x00\x00\x00\x03\x0a\x01x";
-    assert_eq!(rt; client.opening(), want.as_slice());
-    Ok(())
+    opens_by(&rt, rt.alloc(), Method::HealthCheck, b"\x0a\x01x", want);
 }
 
 #[test]
-fn heads_and_statuses_are_heard(rt: HostRuntime) -> Result<(), Fail> {
+fn heads_and_statuses_are_heard(rt: HostRuntime) {
     let table: [(&[u8], &[u8], &[u8], &[u8]); 5] = [
         (b"", b"", b"", b""),
         (GREETING, b"", b"", ACK),
@@ -144,13 +173,12 @@ fn heads_and_statuses_are_heard(rt: HostRuntime) -> Result<(), Fail> {
         ),
     ];
     for (front, rest, text, wrote) in table {
-        try_bytes(&rt, rt.alloc(), front, rest, text, wrote, None)?;
+        try_bytes(&rt, rt.alloc(), front, rest, (text, wrote, None));
     }
-    Ok(())
 }
 
 #[test]
-fn messages_are_heard(rt: HostRuntime) -> Result<(), Fail> {
+fn messages_are_heard(rt: HostRuntime) {
     // After the head: one message, two in one DATA frame, one in two frames with an empty frame between them, and an empty one with padding.
     let table: [(&[u8], &[u8], &[u8]); 4] = [
         (
@@ -175,23 +203,20 @@ fn messages_are_heard(rt: HostRuntime) -> Result<(), Fail> {
         ),
     ];
     for (rest, text, wrote) in table {
-        try_bytes(&rt, rt.alloc(), HEAD, rest, text, wrote, None)?;
+        try_bytes(&rt, rt.alloc(), HEAD, rest, (text, wrote, None));
     }
-    Ok(())
 }
 
 #[test]
-fn other_frames_say_nothing(rt: HostRuntime) -> Result<(), Fail> {
+fn other_frames_say_nothing(rt: HostRuntime) {
     // A block in three frames.
     try_bytes(
         &rt,
         rt.alloc(),
         b"\x00\x00\x01\x01\x00\x00\x00\x00\x01\x88\x00\x00\x03\x09\x00\x00\x00\x00\x01\x0f\x10\x10",
         b"\x00\x00\x10\x09\x04\x00\x00\x00\x01application/grpc",
-        b"head;",
-        b"",
-        None,
-    )?;
+        (b"head;", b"", None),
+    );
     // PING is answered; its acknowledgement, WINDOW_UPDATE, PRIORITY, PUSH_PROMISE, a type of no meaning, RST_STREAM of
     // another stream and GOAWAY with code 0 are not.
     let table: [(&[u8], &[u8]); 8] = [
@@ -217,13 +242,12 @@ fn other_frames_say_nothing(rt: HostRuntime) -> Result<(), Fail> {
         ),
     ];
     for (rest, wrote) in table {
-        try_bytes(&rt, rt.alloc(), HEAD, rest, b"head;", wrote, None)?;
+        try_bytes(&rt, rt.alloc(), HEAD, rest, (b"head;", wrote, None));
     }
-    Ok(())
 }
 
 #[test]
-fn frames_and_blocks_are_refused(rt: HostRuntime) -> Result<(), Fail> {
+fn frames_and_blocks_are_refused(rt: HostRuntime) {
     let table: [(&[u8], &[u8], &[u8], ClientFault); 3] = [
         (
             HEAD,
@@ -245,13 +269,12 @@ fn frames_and_blocks_are_refused(rt: HostRuntime) -> Result<(), Fail> {
         ),
     ];
     for (front, rest, text, fault) in table {
-        try_bytes(&rt, rt.alloc(), front, rest, text, b"", Some(fault))?;
+        try_fault(&rt, rt.alloc(), front, rest, text, fault);
     }
-    Ok(())
 }
 
 #[test]
-fn order_is_kept(rt: HostRuntime) -> Result<(), Fail> {
+fn order_is_kept(rt: HostRuntime) {
     // Another stream, a block that is interrupted or not open, DATA before the head, and a later block that goes on.
     let table: [(&[u8], &[u8], &[u8], ClientFault); 7] = [
         (
@@ -288,13 +311,12 @@ fn order_is_kept(rt: HostRuntime) -> Result<(), Fail> {
         (HEAD, HEAD, b"head;", ClientFault::Order(1)),
     ];
     for (front, rest, text, fault) in table {
-        try_bytes(&rt, rt.alloc(), front, rest, text, b"", Some(fault))?;
+        try_fault(&rt, rt.alloc(), front, rest, text, fault);
     }
-    Ok(())
 }
 
 #[test]
-fn nothing_comes_behind_the_end(rt: HostRuntime) -> Result<(), Fail> {
+fn nothing_comes_after_the_end(rt: HostRuntime) {
     // HEADERS, DATA and CONTINUATION after the end; RST_STREAM there.
     let table: [(&[u8], &[u8], &[u8], ClientFault); 4] = [
         (ANSWER, ABC, b"head;status 0 ;", ClientFault::Order(1)),
@@ -313,13 +335,12 @@ fn nothing_comes_behind_the_end(rt: HostRuntime) -> Result<(), Fail> {
         ),
     ];
     for (front, rest, text, fault) in table {
-        try_bytes(&rt, rt.alloc(), front, rest, text, b"", Some(fault))?;
+        try_fault(&rt, rt.alloc(), front, rest, text, fault);
     }
-    Ok(())
 }
 
 #[test]
-fn other_http_statuses_are_refused(rt: HostRuntime) -> Result<(), Fail> {
+fn other_http_statuses_are_refused(rt: HostRuntime) {
     let table: [(&[u8], &[u8], &[u8], ClientFault); 5] = [
         (
             b"",
@@ -353,13 +374,12 @@ fn other_http_statuses_are_refused(rt: HostRuntime) -> Result<(), Fail> {
         ),
     ];
     for (front, rest, text, fault) in table {
-        try_bytes(&rt, rt.alloc(), front, rest, text, b"", Some(fault))?;
+        try_fault(&rt, rt.alloc(), front, rest, text, fault);
     }
-    Ok(())
 }
 
 #[test]
-fn an_end_has_one_status(rt: HostRuntime) -> Result<(), Fail> {
+fn an_end_has_one_status(rt: HostRuntime) {
     // None, two, one that is no number, an empty one, one of 2^32, and an end by DATA.
     let table: [(&[u8], &[u8], &[u8], ClientFault); 6] = [
         (
@@ -400,13 +420,12 @@ fn an_end_has_one_status(rt: HostRuntime) -> Result<(), Fail> {
         ),
     ];
     for (front, rest, text, fault) in table {
-        try_bytes(&rt, rt.alloc(), front, rest, text, b"", Some(fault))?;
+        try_fault(&rt, rt.alloc(), front, rest, text, fault);
     }
-    Ok(())
 }
 
 #[test]
-fn messages_and_endings_are_refused(rt: HostRuntime) -> Result<(), Fail> {
+fn messages_and_endings_are_refused(rt: HostRuntime) {
     let table: [(&[u8], &[u8], &[u8], ClientFault); 4] = [
         (
             HEAD,
@@ -434,26 +453,21 @@ fn messages_and_endings_are_refused(rt: HostRuntime) -> Result<(), Fail> {
         ),
     ];
     for (front, rest, text, fault) in table {
-        try_bytes(&rt, rt.alloc(), front, rest, text, b"", Some(fault))?;
+        try_fault(&rt, rt.alloc(), front, rest, text, fault);
     }
-    Ok(())
 }
 
 #[test]
-fn faults_stay(rt: HostRuntime) -> Result<(), Fail> {
+fn faults_stay(rt: HostRuntime) {
     let alloc = rt.alloc();
-    let mut client = Client::start(alloc, Method::JwtSvid, b"x")?;
+    let mut client = Client::start(alloc, Method::JwtSvid, b"x").expect(&rt, "memory");
     let mut out = Octets::empty(alloc);
     let mut told = Row::empty(alloc);
     for piece in [ABC, HEAD, GREETING] {
-        assert_eq!(rt;
-            client.feed(piece, &mut out, &mut told),
-            Err(ClientFault::Order(1))
-        );
+        let met = client.feed(piece, &mut out, &mut told);
+        assert_eq!(rt; met, Err(ClientFault::Order(1)));
     }
-    assert_eq!(rt; out.len(), 0);
-    assert_eq!(rt; told.len(), 0);
-    Ok(())
+    assert_eq!(rt; (out.len(), told.len()), (0, 0));
 }
 
 #[test]

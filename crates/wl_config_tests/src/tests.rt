@@ -2,7 +2,6 @@
 
 use std::alloc::Global;
 use std::process::Abort;
-use std::test::Fail;
 use wl_config::*;
 use wl_edge::{Attestor, Origin};
 
@@ -46,85 +45,129 @@ fn suppliers(config: &Config) -> [Option<&[u8]>; 3] {
     [socket, file, signer]
 }
 
+fn config_of(rt: &impl Abort, alloc: Global, text: &str) -> Config {
+    read_config(alloc, text.as_bytes()).expect(rt, "a configuration")
+}
+
+/// Asserts the path of the authority's socket, of the file of documents, and of the signer's socket.
+fn is_supplied(rt: &impl Abort, config: &Config, wanted: [Option<&[u8]>; 3]) {
+    assert!(rt; suppliers(config) == wanted);
+}
+
 /// A node that is run by two files.
 #[test]
-fn a_document_without_a_signer(rt: HostRuntime) -> Result<(), Fail> {
+fn a_document_without_a_signer(rt: HostRuntime) {
     let text = r#"{"version":1,"document":"d","sockets":[{"path":"/a","selectors":["a:1"]}]}"#;
-    let config = read_config(rt.alloc(), text.as_bytes())?;
-    assert!(rt; suppliers(&config) == [None, Some(b"d".as_slice()), None]);
-    Ok(())
+    let config = config_of(&rt, rt.alloc(), text);
+    is_supplied(&rt, &config, [None, Some(b"d"), None]);
+    drop(config);
 }
 
-#[test]
-fn config_calls(rt: HostRuntime) -> Result<(), Fail> {
-    let config = read_config(rt.alloc(), EXAMPLE.as_bytes())?;
-    assert!(rt;
-        suppliers(&config)
-            == [
-                Some(b"/run/authority.sock".as_slice()),
-                None,
-                Some(b"/run/signer.sock")
-            ]
+/// Asserts that a caller of a socket is attested to the socket's own selectors.
+fn is_attested(rt: &impl Abort, alloc: Global, socket: &SocketFact) {
+    let own = socket.selectors.copy(alloc).expect(rt, "memory");
+    let origin = Origin::new(alloc, own, 0, None).expect(rt, "memory");
+    let selectors = SocketAttestor::start(alloc)
+        .attest(&origin)
+        .expect(rt, "selectors");
+    assert!(rt; selectors == socket.selectors);
+}
+
+fn is_example(rt: &impl Abort, alloc: Global, config: &Config) {
+    is_supplied(
+        rt,
+        config,
+        [
+            Some(b"/run/authority.sock"),
+            None,
+            Some(b"/run/signer.sock"),
+        ],
     );
     assert_eq!(rt; config.poll_seconds, 5);
-    let [web] = config.sockets.as_slice() else {
-        return Err("one socket".into());
-    };
-    let open = guarded(Some(1_000), Some(33), 0o660);
-    is_socket(&rt, web, "/run/web.sock", open, 4, &["unix:uid:1000"]);
     assert!(rt; (config.signers, config.log) == (7, LogLevel::Debug));
     assert!(rt; config.metrics.as_ref().map(|path| path.as_slice()) == Some(b"/m".as_slice()));
-    let mut attestor = SocketAttestor::start(rt.alloc());
-    let origin = Origin::new(rt.alloc(), web.selectors.copy(rt.alloc())?, 0, None)?;
-    let selectors = attestor.attest(&origin)?;
-    assert!(rt; selectors == web.selectors);
-    Ok(())
+    match config.sockets.as_slice() {
+        [web] => {
+            let open = guarded(Some(1_000), Some(33), 0o660);
+            is_socket(rt, web, "/run/web.sock", open, 4, &["unix:uid:1000"]);
+            is_attested(rt, alloc, web);
+        }
+        _ => panic!(rt; "one socket"),
+    }
 }
 
 #[test]
-fn defaults_and_order(rt: HostRuntime) -> Result<(), Fail> {
-    let text =
-        r#" {"sockets":[{"selectors":["b:2","a:1","b:2"],"path":"/b\n","extra":0},{"path":"/a","selectors":["a:1"],"workers":28}],"signer":"s","upstream":"u","version":1} "#;
-    let config = read_config(rt.alloc(), text.as_bytes())?;
-    assert!(rt; suppliers(&config) == [Some(b"u".as_slice()), None, Some(b"s")]);
+fn config_calls(rt: HostRuntime) {
+    let config = config_of(&rt, rt.alloc(), EXAMPLE);
+    is_example(&rt, rt.alloc(), &config);
+    drop(config);
+}
+
+fn has_defaults(rt: &impl Abort, config: &Config) {
+    is_supplied(rt, config, [Some(b"u"), None, Some(b"s")]);
     assert_eq!(rt; config.poll_seconds, 5);
-    let [first, second] = config.sockets.as_slice() else {
-        return Err("two sockets".into());
-    };
-    let own = guarded(None, None, 0o600);
-    is_socket(&rt, first, "/b\n", own, 64, &["a:1", "b:2"]);
-    is_socket(&rt, second, "/a", own, 28, &["a:1"]);
     assert!(rt; (config.signers, config.log) == (4, LogLevel::Info));
     assert!(rt; config.metrics.is_none());
-    Ok(())
+    match config.sockets.as_slice() {
+        [first, second] => {
+            let own = guarded(None, None, 0o600);
+            is_socket(rt, first, "/b\n", own, 64, &["a:1", "b:2"]);
+            is_socket(rt, second, "/a", own, 28, &["a:1"]);
+        }
+        _ => panic!(rt; "two sockets"),
+    }
+}
+
+#[test]
+fn defaults_and_order(rt: HostRuntime) {
+    let text =
+        r#" {"sockets":[{"selectors":["b:2","a:1","b:2"],"path":"/b\n","extra":0},{"path":"/a","selectors":["a:1"],"workers":28}],"signer":"s","upstream":"u","version":1} "#;
+    let config = config_of(&rt, rt.alloc(), text);
+    has_defaults(&rt, &config);
+    drop(config);
+}
+
+/// Asserts that a socket is for this uid, with the selectors of the first socket and one of its own.
+fn is_of_uid(rt: &impl Abort, socket: &SocketFact, uid: u32, path: &str, own: &str) {
+    let guard = guarded(Some(uid), None, 0o600);
+    is_socket(rt, socket, path, guard, 2, &["a:1", own, "z:1"]);
 }
 
 /// A socket for each uid, whose selector is one of its own, beside those that are given.
 #[test]
-fn sockets_by_uid(rt: HostRuntime) -> Result<(), Fail> {
+fn sockets_by_uid(rt: HostRuntime) {
     let text =
         r#"{"version":1,"document":"d","sockets":[{"path":"/r/{uid}.s","uids":["33","1000-1001"],"selectors":["z:1","a:1"],"connections":2},{"path":"{uid}","uids":["0"]}]}"#;
-    let config = read_config(rt.alloc(), text.as_bytes())?;
-    let [web, first, second, root] = config.sockets.as_slice() else {
-        return Err("four sockets".into());
-    };
-    for (socket, uid, path, own) in [
-        (web, 33, "/r/33.s", "unix:uid:33"),
-        (first, 1_000, "/r/1000.s", "unix:uid:1000"),
-        (second, 1_001, "/r/1001.s", "unix:uid:1001"),
-    ] {
-        let guard = guarded(Some(uid), None, 0o600);
-        is_socket(&rt, socket, path, guard, 2, &["a:1", own, "z:1"]);
+    let config = config_of(&rt, rt.alloc(), text);
+    match config.sockets.as_slice() {
+        [web, first, second, root] => {
+            is_of_uid(&rt, web, 33, "/r/33.s", "unix:uid:33");
+            is_of_uid(&rt, first, 1_000, "/r/1000.s", "unix:uid:1000");
+            is_of_uid(&rt, second, 1_001, "/r/1001.s", "unix:uid:1001");
+            let guard = guarded(Some(0), None, 0o600);
+            is_socket(&rt, root, "0", guard, 64, &["unix:uid:0"]);
+        }
+        _ => panic!(rt; "four sockets"),
     }
-    let guard = guarded(Some(0), None, 0o600);
-    is_socket(&rt, root, "0", guard, 64, &["unix:uid:0"]);
-    Ok(())
+    drop(config);
+}
+
+/// Asserts the mode of a socket with these digits.
+fn is_mode(rt: &impl Abort, alloc: Global, digits: &str, mode: u32) {
+    let text = format!(in alloc;
+        r#"{{"version":1,"document":"d","sockets":[{{"path":"s","mode":"{digits}","selectors":["a:1"]}}]}}"#
+    ).expect(rt, "memory");
+    let config = config_of(rt, alloc, text.as_str());
+    match config.sockets.as_slice() {
+        [socket] => assert_eq!(rt; socket.guard.mode, mode, "of {digits}"),
+        _ => panic!(rt; "one socket"),
+    }
+    drop(config);
 }
 
 /// Each mode by its digits.
 #[test]
-fn modes(rt: HostRuntime) -> Result<(), Fail> {
-    let alloc = rt.alloc();
+fn modes(rt: HostRuntime) {
     for (digits, mode) in [
         ("0", 0),
         ("7", 0o7),
@@ -134,52 +177,49 @@ fn modes(rt: HostRuntime) -> Result<(), Fail> {
         ("0642", 0o642),
         ("0777", 0o777),
     ] {
-        let text = format!(in alloc;
-            r#"{{"version":1,"document":"d","sockets":[{{"path":"s","mode":"{digits}","selectors":["a:1"]}}]}}"#
-        )?;
-        let config = read_config(alloc, text.as_bytes())?;
-        let [socket] = config.sockets.as_slice() else {
-            return Err("one socket".into());
-        };
-        assert_eq!(rt; socket.guard.mode, mode);
+        is_mode(&rt, rt.alloc(), digits, mode);
     }
-    Ok(())
 }
 
-/// What a caller of this uid is attested to over this socket, as texts with a space between them.
-fn attested(
+/// Asserts what a caller of this uid is attested to over this socket, as texts with a space after each.
+fn is_attested_to(
+    rt: &impl Abort,
     alloc: Global,
     number: u32,
     socket: &SocketFact,
     uid: Option<u32>,
-) -> Result<String, Fail> {
-    let origin = Origin::new(alloc, socket.selectors.copy(alloc)?, number, uid)?;
-    let selectors = SocketAttestor::start(alloc).attest(&origin)?;
+    wanted: &str,
+) {
+    let own = socket.selectors.copy(alloc).expect(rt, "memory");
+    let origin = Origin::new(alloc, own, number, uid).expect(rt, "memory");
+    let selectors = SocketAttestor::start(alloc)
+        .attest(&origin)
+        .expect(rt, "selectors");
     let mut text = String::new(alloc);
     for selector in selectors.as_slice() {
-        text.push_str(str::from_utf8(selector.as_bytes()).map_err(|_| "text")?)?;
-        text.push(' ')?;
+        let selector = str::from_utf8(selector.as_bytes()).expect(rt, "text");
+        text.push_str(selector).expect(rt, "memory");
+        text.push(' ').expect(rt, "memory");
     }
-    Ok(text)
+    assert_eq!(rt; text.as_str(), wanted);
 }
 
 /// By the socket, and by the uid where the kernel names it. A selector that both give counts once.
 #[test]
-fn attested_by_origin(rt: HostRuntime) -> Result<(), Fail> {
+fn attested_by_origin(rt: HostRuntime) {
     let alloc = rt.alloc();
     let text =
         r#"{"version":1,"upstream":"u","signer":"s","sockets":[{"path":"a","selectors":["x:1"]},{"path":"b","selectors":["b:2","unix:uid:33"]}]}"#;
-    let config = read_config(alloc, text.as_bytes())?;
-    let [first, second] = config.sockets.as_slice() else {
-        return Err("two sockets".into());
-    };
-    for (number, socket, uid, wanted) in [
-        (0, first, None, "x:1 "),
-        (0, first, Some(33), "unix:uid:33 x:1 "),
-        (1, second, Some(0), "b:2 unix:uid:0 unix:uid:33 "),
-        (1, second, Some(33), "b:2 unix:uid:33 "),
-    ] {
-        assert_eq!(rt; attested(alloc, number, socket, uid)?.as_str(), wanted);
+    let config = config_of(&rt, alloc, text);
+    match config.sockets.as_slice() {
+        [first, second] => {
+            is_attested_to(&rt, alloc, 0, first, None, "x:1 ");
+            is_attested_to(&rt, alloc, 0, first, Some(33), "unix:uid:33 x:1 ");
+            let both = "b:2 unix:uid:0 unix:uid:33 ";
+            is_attested_to(&rt, alloc, 1, second, Some(0), both);
+            is_attested_to(&rt, alloc, 1, second, Some(33), "b:2 unix:uid:33 ");
+        }
+        _ => panic!(rt; "two sockets"),
     }
-    Ok(())
+    drop(config);
 }

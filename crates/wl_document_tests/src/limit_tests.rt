@@ -1,268 +1,90 @@
 //! Documents at the limits and just past them, and what a document says.
 
-use crate::tests::{Numbers, outcome};
+use crate::tests::{are_read_as, outcome};
 use spiffe_id::TrustDomain;
-use std::alloc::{AllocError, Global};
+use std::alloc::Global;
 use std::process::Abort;
 use std::string::ToString;
-use std::test::Fail;
 use wl_document::*;
 
-/// A document with a text that is repeated.
-struct Repeated {
-    front: &'static str,
-    text: &'static str,
-    count: u32,
-    back: &'static str,
-    wanted: Numbers,
-}
-
-fn document_of(alloc: Global, case: &Repeated) -> Result<String, AllocError> {
-    let mut document = String::new(alloc);
-    document.push_str(case.front)?;
-    for _ in 0..case.count {
-        document.push_str(case.text)?;
-    }
-    document.push_str(case.back)?;
-    Ok(document)
-}
-
-fn come_to(rt: &impl Abort, alloc: Global, cases: &[Repeated]) -> Result<(), Fail> {
-    for case in cases {
-        let document = document_of(alloc, case)?;
-        let found = outcome(alloc, document.as_bytes(), None)?;
-        assert_eq!(rt; found, case.wanted, "{}", case.count);
-    }
-    Ok(())
-}
-
-static COUNTS: [Repeated; 11] = [
-    Repeated {
-        front: r#"{"version":1,"trust_domain":"a.b","entries":[],"bundles":["#,
-        text: "0,",
-        count: 1_023,
-        back: "0]}",
-        wanted: [4, 1, 0, 0, 0, 0, 0],
-    },
-    Repeated {
-        front: r#"{"version":1,"trust_domain":"a.b","entries":[],"bundles":["#,
-        text: "0,",
-        count: 1_024,
-        back: "0]}",
-        wanted: [12, 0, 0, 3, 0, 1025, 0],
-    },
-    Repeated {
-        front: r#"{"version":1,"trust_domain":"a.b","bundles":[{"trust_domain":"a.b","x509":"Aw=="}],"entries":["#,
-        text: "0,",
-        count: 9_999,
-        back: "0]}",
-        wanted: [4, 2, 0, 0, 0, 0, 0],
-    },
-    Repeated {
-        front: r#"{"version":1,"trust_domain":"a.b","bundles":[0],"entries":["#,
-        text: "0,",
-        count: 10_000,
-        back: "0]}",
-        wanted: [12, 0, 0, 4, 0, 10001, 0],
-    },
-    Repeated {
-        front: r#"{"version":1,"trust_domain":"a.b","bundles":[{"trust_domain":"a.b","x509":"Aw=="}],"entries":[],"svids":["#,
-        text: "0,",
-        count: 9_999,
-        back: "0]}",
-        wanted: [4, 3, 0, 0, 0, 0, 0],
-    },
-    Repeated {
-        front: r#"{"version":1,"trust_domain":"a.b","bundles":[0],"entries":[0],"svids":["#,
-        text: "0,",
-        count: 10_000,
-        back: "0]}",
-        wanted: [12, 0, 0, 5, 0, 10001, 0],
-    },
-    Repeated {
-        front: r#"{"version":1,"trust_domain":"a.b","bundles":[{"trust_domain":"a.b","x509":"Aw=="}],"entries":[{"id":"e","spiffe_id":"spiffe://a.b","selectors":["#,
-        text: "\"u:1\",",
-        count: 63,
-        back: "\"u:1\"]}]}",
-        wanted: [0, 0, 0, 0, 0, 0, 0],
-    },
-    Repeated {
-        front: r#"{"version":1,"trust_domain":"a.b","bundles":[{"trust_domain":"a.b","x509":"Aw=="}],"entries":[{"id":"e","spiffe_id":"spiffe://a.b","selectors":["#,
-        text: "\"u\",",
-        count: 64,
-        back: "\"u:1\"]}]}",
-        wanted: [12, 2, 0, 3, 0, 65, 0],
-    },
-    Repeated {
-        front: r#"{"version":1,"trust_domain":"a.b","bundles":[{"trust_domain":"a.b","x509":"Aw=="}],"entries":[{"id":"e","spiffe_id":"spiffe://a.b","selectors":["u:1"],"federates_with":["#,
-        text: "\"c.d\",",
-        count: 64,
-        back: "5]}]}",
-        wanted: [12, 2, 0, 4, 0, 65, 0],
-    },
-    Repeated {
-        front: r#"{"version":1,"trust_domain":"a.b","bundles":[{"trust_domain":"a.b","x509":"Aw=="}],"entries":[{"id":"e","spiffe_id":"spiffe://a.b","selectors":["u:1"],"dns_names":["#,
-        text: "\"x\",",
-        count: 64,
-        back: "5]}]}",
-        wanted: [12, 2, 0, 5, 0, 65, 0],
-    },
-    Repeated {
-        front: r#"{"version":1,"trust_domain":"a.b","bundles":[{"trust_domain":"a.b","x509":"Aw=="}],"entries":[{"id":"e","spiffe_id":"spiffe://a.b","selectors":["u:1"],"dns_names":["#,
-        text: "\"x\",",
-        count: 63,
-        back: "5]}]}",
-        wanted: [4, 2, 0, 5, 63, 0, 0],
-    },
-];
+const COUNTS: &str = r#"
+[4, 1, 0, 0, 0, 0, 0]:{"version":1,"trust_domain":"a.b","entries":[],"bundles":[<0,*1023>0]}
+[12, 0, 0, 3, 0, 1025, 0]:{"version":1,"trust_domain":"a.b","entries":[],"bundles":[<0,*1024>0]}
+[4, 2, 0, 0, 0, 0, 0]:{"version":1,"trust_domain":"a.b","bundles":[{"trust_domain":"a.b","x509":"Aw=="}],"entries":[<0,*9999>0]}
+[12, 0, 0, 4, 0, 10001, 0]:{"version":1,"trust_domain":"a.b","bundles":[0],"entries":[<0,*10000>0]}
+[4, 3, 0, 0, 0, 0, 0]:{"version":1,"trust_domain":"a.b","bundles":[{"trust_domain":"a.b","x509":"Aw=="}],"entries":[],"svids":[<0,*9999>0]}
+[12, 0, 0, 5, 0, 10001, 0]:{"version":1,"trust_domain":"a.b","bundles":[0],"entries":[0],"svids":[<0,*10000>0]}
+[0, 0, 0, 0, 0, 0, 0]:{"version":1,"trust_domain":"a.b","bundles":[{"trust_domain":"a.b","x509":"Aw=="}],"entries":[{"id":"e","spiffe_id":"spiffe://a.b","selectors":[<"u:1",*63>"u:1"]}]}
+[12, 2, 0, 3, 0, 65, 0]:{"version":1,"trust_domain":"a.b","bundles":[{"trust_domain":"a.b","x509":"Aw=="}],"entries":[{"id":"e","spiffe_id":"spiffe://a.b","selectors":[<"u",*64>"u:1"]}]}
+[12, 2, 0, 4, 0, 65, 0]:{"version":1,"trust_domain":"a.b","bundles":[{"trust_domain":"a.b","x509":"Aw=="}],"entries":[{"id":"e","spiffe_id":"spiffe://a.b","selectors":["u:1"],"federates_with":[<"c.d",*64>5]}]}
+[12, 2, 0, 5, 0, 65, 0]:{"version":1,"trust_domain":"a.b","bundles":[{"trust_domain":"a.b","x509":"Aw=="}],"entries":[{"id":"e","spiffe_id":"spiffe://a.b","selectors":["u:1"],"dns_names":[<"x",*64>5]}]}
+[4, 2, 0, 5, 63, 0, 0]:{"version":1,"trust_domain":"a.b","bundles":[{"trust_domain":"a.b","x509":"Aw=="}],"entries":[{"id":"e","spiffe_id":"spiffe://a.b","selectors":["u:1"],"dns_names":[<"x",*63>5]}]}
+"#;
 
 #[test]
-fn counts(rt: HostRuntime) -> Result<(), Fail> {
-    come_to(&rt, rt.alloc(), &COUNTS)
+fn counts(rt: HostRuntime) {
+    are_read_as(&rt, rt.alloc(), "", COUNTS, "");
 }
 
-static LENGTHS: [Repeated; 15] = [
-    Repeated {
-        front: r#"{"version":1,"trust_domain":""#,
-        text: "a",
-        count: 255,
-        back: "\"}",
-        wanted: [3, 0, 0, 3, 0, 0, 0],
-    },
-    Repeated {
-        front: r#"{"version":1,"trust_domain":""#,
-        text: "a",
-        count: 256,
-        back: "\"}",
-        wanted: [5, 0, 0, 2, 0, 1, 256],
-    },
-    Repeated {
-        front: r#"{"version":1,"trust_domain":"a.b","bundles":[{"trust_domain":"a.b","x509":"Aw=="}],"entries":[{"id":""#,
-        text: "e",
-        count: 128,
-        back: "\"}]}",
-        wanted: [3, 2, 0, 2, 0, 0, 0],
-    },
-    Repeated {
-        front: r#"{"version":1,"trust_domain":"a.b","bundles":[{"trust_domain":"a.b","x509":"Aw=="}],"entries":[{"id":""#,
-        text: "e",
-        count: 129,
-        back: "\"}]}",
-        wanted: [4, 2, 0, 1, 0, 0, 0],
-    },
-    Repeated {
-        front: r#"{"version":1,"trust_domain":"a.b","bundles":[{"trust_domain":"a.b","x509":"Aw=="}],"entries":[{"id":"e","spiffe_id":"spiffe://a.b/"#,
-        text: "a",
-        count: 2_035,
-        back: "\"}]}",
-        wanted: [3, 2, 0, 3, 0, 0, 0],
-    },
-    Repeated {
-        front: r#"{"version":1,"trust_domain":"a.b","bundles":[{"trust_domain":"a.b","x509":"Aw=="}],"entries":[{"id":"e","spiffe_id":"spiffe://a.b/"#,
-        text: "a",
-        count: 2_036,
-        back: "\"}]}",
-        wanted: [5, 2, 0, 2, 0, 1, 2049],
-    },
-    Repeated {
-        front: r#"{"version":1,"trust_domain":"a.b","bundles":[{"trust_domain":"a.b","x509":"Aw=="}],"entries":[{"id":"e","spiffe_id":"spiffe://a.b","selectors":["u:1"],"dns_names":["x",""#,
-        text: "x",
-        count: 253,
-        back: "\"]}]}",
-        wanted: [0, 0, 0, 0, 0, 0, 0],
-    },
-    Repeated {
-        front: r#"{"version":1,"trust_domain":"a.b","bundles":[{"trust_domain":"a.b","x509":"Aw=="}],"entries":[{"id":"e","spiffe_id":"spiffe://a.b","selectors":["u:1"],"dns_names":["x",""#,
-        text: "x",
-        count: 254,
-        back: "\"]}]}",
-        wanted: [4, 2, 0, 5, 1, 0, 0],
-    },
-    Repeated {
-        front: r#"{"version":2,"trust_domain":"a.b","bundles":[{"trust_domain":"a.b","x509":"Aw=="}],"entries":[{"id":"e","spiffe_id":"spiffe://a.b","selectors":["u:1"],"hint":""#,
-        text: "é",
-        count: 512,
-        back: "\"}]}",
-        wanted: [0, 0, 0, 0, 0, 0, 0],
-    },
-    Repeated {
-        front: r#"{"version":2,"trust_domain":"a.b","bundles":[{"trust_domain":"a.b","x509":"Aw=="}],"entries":[{"id":"e","spiffe_id":"spiffe://a.b","selectors":["u:1"],"hint":""#,
-        text: "é",
-        count: 512,
-        back: "e\"}]}",
-        wanted: [13, 2, 0, 7, 0, 1025, 0],
-    },
-    Repeated {
-        front: r#"{"version":1,"trust_domain":"a.b","bundles":[{"trust_domain":"a.b","x509":"Aw=="}],"entries":[{"id":"e","spiffe_id":"spiffe://a.b","selectors":["u:1"],"hint":""#,
-        text: "é",
-        count: 513,
-        back: "\"}]}",
-        wanted: [0, 0, 0, 0, 0, 0, 0],
-    },
-    Repeated {
-        front: r#"{"version":1,"trust_domain":"a.b","entries":[],"bundles":[{"trust_domain":"a.b","x509":""#,
-        text: "AAAAAAAAAAAAAAAAAAAAAAAAAAAAAAAAAAAAAAAAAAAAAAAAAAAAAAAAAAAAAAAAAAAAAAAAAAAAAAAAAAAAAAAAAAAAAAAAAAAA",
-        count: 13_981,
-        back: "AA==\"}]}",
-        wanted: [0, 0, 0, 0, 0, 0, 0],
-    },
-    Repeated {
-        front: r#"{"version":1,"trust_domain":"a.b","entries":[],"bundles":[{"trust_domain":"a.b","x509":""#,
-        text: "AAAAAAAAAAAAAAAAAAAAAAAAAAAAAAAAAAAAAAAAAAAAAAAAAAAAAAAAAAAAAAAAAAAAAAAAAAAAAAAAAAAAAAAAAAAAAAAAAAAA",
-        count: 13_981,
-        back: "AAA=\"}]}",
-        wanted: [13, 1, 0, 2, 0, 1048577, 0],
-    },
-    Repeated {
-        front: r#"{"version":1,"trust_domain":"a.b","entries":[],"bundles":[{"trust_domain":"a.b","jwks":""#,
-        text: "xxxxxxxxxxxxxxxxx",
-        count: 61_681,
-        back: "\"}]}",
-        wanted: [13, 1, 0, 3, 0, 1048577, 0],
-    },
-    Repeated {
-        front: "",
-        text: "                                                                                                 ",
-        count: 172_961,
-        back: "",
-        wanted: [13, 0, 0, 0, 0, 16777217, 0],
-    },
-];
+const LENGTHS: &str = r#"
+[3, 0, 0, 3, 0, 0, 0]:{"version":1,"trust_domain":"<a*255>"}
+[5, 0, 0, 2, 0, 1, 256]:{"version":1,"trust_domain":"<a*256>"}
+[3, 2, 0, 2, 0, 0, 0]:{"version":1,"trust_domain":"a.b","bundles":[{"trust_domain":"a.b","x509":"Aw=="}],"entries":[{"id":"<e*128>"}]}
+[4, 2, 0, 1, 0, 0, 0]:{"version":1,"trust_domain":"a.b","bundles":[{"trust_domain":"a.b","x509":"Aw=="}],"entries":[{"id":"<e*129>"}]}
+[3, 2, 0, 3, 0, 0, 0]:{"version":1,"trust_domain":"a.b","bundles":[{"trust_domain":"a.b","x509":"Aw=="}],"entries":[{"id":"e","spiffe_id":"spiffe://a.b/<a*2035>"}]}
+[5, 2, 0, 2, 0, 1, 2049]:{"version":1,"trust_domain":"a.b","bundles":[{"trust_domain":"a.b","x509":"Aw=="}],"entries":[{"id":"e","spiffe_id":"spiffe://a.b/<a*2036>"}]}
+[0, 0, 0, 0, 0, 0, 0]:{"version":1,"trust_domain":"a.b","bundles":[{"trust_domain":"a.b","x509":"Aw=="}],"entries":[{"id":"e","spiffe_id":"spiffe://a.b","selectors":["u:1"],"dns_names":["x","<x*253>"]}]}
+[4, 2, 0, 5, 1, 0, 0]:{"version":1,"trust_domain":"a.b","bundles":[{"trust_domain":"a.b","x509":"Aw=="}],"entries":[{"id":"e","spiffe_id":"spiffe://a.b","selectors":["u:1"],"dns_names":["x","<x*254>"]}]}
+[0, 0, 0, 0, 0, 0, 0]:{"version":2,"trust_domain":"a.b","bundles":[{"trust_domain":"a.b","x509":"Aw=="}],"entries":[{"id":"e","spiffe_id":"spiffe://a.b","selectors":["u:1"],"hint":"<é*512>"}]}
+[13, 2, 0, 7, 0, 1025, 0]:{"version":2,"trust_domain":"a.b","bundles":[{"trust_domain":"a.b","x509":"Aw=="}],"entries":[{"id":"e","spiffe_id":"spiffe://a.b","selectors":["u:1"],"hint":"<é*512>e"}]}
+[0, 0, 0, 0, 0, 0, 0]:{"version":1,"trust_domain":"a.b","bundles":[{"trust_domain":"a.b","x509":"Aw=="}],"entries":[{"id":"e","spiffe_id":"spiffe://a.b","selectors":["u:1"],"hint":"<é*513>"}]}
+[0, 0, 0, 0, 0, 0, 0]:{"version":1,"trust_domain":"a.b","entries":[],"bundles":[{"trust_domain":"a.b","x509":"<AAAAAAAAAAAAAAAAAAAAAAAAAAAAAAAAAAAAAAAAAAAAAAAAAAAAAAAAAAAAAAAAAAAAAAAAAAAAAAAAAAAAAAAAAAAAAAAAAAAA*13981>AA=="}]}
+[13, 1, 0, 2, 0, 1048577, 0]:{"version":1,"trust_domain":"a.b","entries":[],"bundles":[{"trust_domain":"a.b","x509":"<AAAAAAAAAAAAAAAAAAAAAAAAAAAAAAAAAAAAAAAAAAAAAAAAAAAAAAAAAAAAAAAAAAAAAAAAAAAAAAAAAAAAAAAAAAAAAAAAAAAA*13981>AAA="}]}
+[13, 1, 0, 3, 0, 1048577, 0]:{"version":1,"trust_domain":"a.b","entries":[],"bundles":[{"trust_domain":"a.b","jwks":"<xxxxxxxxxxxxxxxxx*61681>"}]}
+[13, 0, 0, 0, 0, 16777217, 0]:<                                                                                                 *172961>
+"#;
 
 #[test]
-fn lengths(rt: HostRuntime) -> Result<(), Fail> {
-    come_to(&rt, rt.alloc(), &LENGTHS)
+fn lengths(rt: HostRuntime) {
+    are_read_as(&rt, rt.alloc(), "", LENGTHS, "");
 }
 
 static DOCUMENT: &str =
     r#"{"version":1,"trust_domain":"a.b","bundles":[{"trust_domain":"a.b","x509":"Aw=="}],"entries":[{"id":"e1","spiffe_id":"spiffe://a.b/w","selectors":["unix:uid:1"]}],"svids":[{"entry":"e1","chain":"AQ==","key":"Ag==","not_before":100,"not_after":200}]}"#;
 
-fn state_of(alloc: Global, document: &str) -> Result<AuthorityState, AllocError> {
-    read_state(alloc, document.as_bytes(), None).map_err(|_| AllocError)
+fn state_of(rt: &impl Abort, alloc: Global, document: &str) -> AuthorityState {
+    read_state(alloc, document.as_bytes(), None).expect(rt, "a state")
+}
+
+/// Asserts how many bundles, entries and signed identities a state has.
+fn has(rt: &impl Abort, state: &AuthorityState, counts: [usize; 3]) {
+    let found = [state.bundles.len(), state.entries.len(), state.svids.len()];
+    assert_eq!(rt; found, counts);
 }
 
 #[test]
-fn state_of_document(rt: HostRuntime) -> Result<(), Fail> {
-    let state = state_of(rt.alloc(), DOCUMENT)?;
+fn state_of_document(rt: HostRuntime) {
+    let state = state_of(&rt, rt.alloc(), DOCUMENT);
     assert_eq!(rt; state.domain.as_bytes(), b"a.b".as_slice());
-    let counts = [state.bundles.len(), state.entries.len(), state.svids.len()];
-    assert_eq!(rt; counts, [1, 1, 1]);
-    Ok(())
+    has(&rt, &state, [1, 1, 1]);
+    drop(state);
+}
+
+fn is_of(rt: &impl Abort, alloc: Global, own: &str, wanted: [usize; 7]) {
+    let own = TrustDomain::parse(alloc, own.as_bytes()).expect(rt, "a domain");
+    let found = outcome(rt, alloc, DOCUMENT.as_bytes(), Some(&own));
+    assert_eq!(rt; found, wanted);
 }
 
 #[test]
-fn own_domains(rt: HostRuntime) -> Result<(), Fail> {
-    let alloc = rt.alloc();
+fn own_domains(rt: HostRuntime) {
     for (name, wanted) in [
         ("a.b", [0; 7]),
         ("a.c", [9, 0, 0, 2, 0, 0, 0]),
         ("a.bc", [9, 0, 0, 2, 0, 0, 0]),
     ] {
-        let own = TrustDomain::parse(alloc, name.as_bytes()).map_err(|_| AllocError)?;
-        let found = outcome(alloc, DOCUMENT.as_bytes(), Some(&own))?;
-        assert_eq!(rt; found, wanted);
+        is_of(&rt, rt.alloc(), name, wanted);
     }
-    Ok(())
 }
 
 /// The same state, by ascending keys, with what may be left out.
@@ -280,68 +102,69 @@ fn are_same(rt: &impl Abort, state: &AuthorityState, other: &AuthorityState) {
 }
 
 #[test]
-fn order_of_state(rt: HostRuntime) -> Result<(), Fail> {
-    let state = state_of(rt.alloc(), UNORDERED)?;
-    let ordered = state_of(rt.alloc(), ORDERED)?;
+fn order_of_state(rt: HostRuntime) {
+    let state = state_of(&rt, rt.alloc(), UNORDERED);
+    let ordered = state_of(&rt, rt.alloc(), ORDERED);
     are_same(&rt, &state, &ordered);
-    Ok(())
+    drop(state);
+    drop(ordered);
 }
 
 #[test]
-fn copies(rt: HostRuntime) -> Result<(), Fail> {
-    let state = state_of(rt.alloc(), UNORDERED)?;
-    let copy = state.copy(rt.alloc()).map_err(|_| AllocError)?;
+fn copies(rt: HostRuntime) {
+    let state = state_of(&rt, rt.alloc(), UNORDERED);
+    let copy = state.copy(rt.alloc()).expect(&rt, "memory");
     are_same(&rt, &state, &copy);
-    Ok(())
+    drop(state);
+    drop(copy);
+}
+
+fn put(rt: &impl Abort, text: &mut String, part: &str) {
+    text.push_str(part).expect(rt, "memory");
 }
 
 /// Writes so many items, which differ in one number.
-fn put_items(text: &mut String, count: u32, front: &str, back: &str) -> Result<(), AllocError> {
+fn put_items(rt: &impl Abort, text: &mut String, count: u32, front: &str, back: &str) {
     for number in 0..count {
         if number > 0 {
-            text.push_str(",")?;
+            put(rt, text, ",");
         }
-        text.push_str(front)?;
-        text.push_str(number.to_string(*text.allocator())?.as_str())?;
-        text.push_str(back)?;
+        let digits = number.to_string(*text.allocator()).expect(rt, "memory");
+        put(rt, text, front);
+        put(rt, text, digits.as_str());
+        put(rt, text, back);
     }
-    Ok(())
 }
 
 /// A document with as many bundles, entries and signed identities as one may have.
-fn largest_document(alloc: Global) -> Result<String, AllocError> {
-    let mut text = String::from_str(alloc, r#"{"version":1,"trust_domain":"d0","bundles":["#)?;
+fn largest_document(rt: &impl Abort, alloc: Global) -> String {
+    let mut text = String::new(alloc);
+    put(
+        rt,
+        &mut text,
+        r#"{"version":1,"trust_domain":"d0","bundles":["#,
+    );
     put_items(
+        rt,
         &mut text,
         1_024,
         r#"{"trust_domain":"d"#,
         r#"","x509":"Aw=="}"#,
-    )?;
-    text.push_str(r#"],"entries":["#)?;
-    put_items(
-        &mut text,
-        10_000,
-        r#"{"spiffe_id":"spiffe://d0/w","selectors":["u:1"],"id":"e"#,
-        r#""}"#,
-    )?;
-    text.push_str(r#"],"svids":["#)?;
-    put_items(
-        &mut text,
-        10_000,
-        r#"{"chain":"AQ==","key":"Ag==","not_before":1,"not_after":2,"entry":"e"#,
-        r#""}"#,
-    )?;
-    text.push_str("]}")?;
-    Ok(text)
+    );
+    put(rt, &mut text, r#"],"entries":["#);
+    let entry = r#"{"spiffe_id":"spiffe://d0/w","selectors":["u:1"],"id":"e"#;
+    put_items(rt, &mut text, 10_000, entry, r#""}"#);
+    put(rt, &mut text, r#"],"svids":["#);
+    let svid = r#"{"chain":"AQ==","key":"Ag==","not_before":1,"not_after":2,"entry":"e"#;
+    put_items(rt, &mut text, 10_000, svid, r#""}"#);
+    put(rt, &mut text, "]}");
+    text
 }
 
 #[test]
-fn largest(rt: HostRuntime) -> Result<(), Fail> {
-    let alloc = rt.alloc();
-    let document = largest_document(alloc)?;
-    let state = read_state(alloc, document.as_bytes(), None)?;
-    assert_eq!(rt; state.bundles.len(), 1_024);
-    assert_eq!(rt; state.entries.len(), 10_000);
-    assert_eq!(rt; state.svids.len(), 10_000);
-    Ok(())
+fn largest(rt: HostRuntime) {
+    let document = largest_document(&rt, rt.alloc());
+    let state = state_of(&rt, rt.alloc(), document.as_str());
+    has(&rt, &state, [1_024, 10_000, 10_000]);
+    drop(state);
 }

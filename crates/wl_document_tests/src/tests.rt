@@ -1,14 +1,13 @@
 //! Documents with one fault each, at every field.
 
 use spiffe_id::{IdFault, TrustDomain};
-use std::alloc::{AllocError, Global};
+use std::alloc::Global;
 use std::process::Abort;
-use std::test::Fail;
 use wl_document::*;
 
 /// A fault by its numbers: its own, its place as part, index, field and item, and its count, or the number of the
 /// fault of an id with its own number; 0 where there is none.
-pub(crate) type Numbers = [usize; 7];
+type Numbers = [usize; 7];
 
 fn at(number: usize, p: &Place, first: usize, second: usize) -> Numbers {
     let (index, item) = (p.index as usize, p.item as usize);
@@ -58,117 +57,104 @@ fn numbers_of(fault: &DocFault) -> Numbers {
 /// What reading this document of the own domain, if one is given, comes to: the numbers of its fault, or else
 /// only zeros.
 pub(crate) fn outcome(
+    rt: &impl Abort,
     alloc: Global,
     document: &[u8],
     own: Option<&TrustDomain>,
-) -> Result<Numbers, AllocError> {
+) -> Numbers {
     match read_state(alloc, document, own) {
-        Ok(_) => Ok([0; 7]),
-        Err(DocFault::Memory) => Err(AllocError),
-        Err(fault) => Ok(numbers_of(&fault)),
+        Ok(_) => [0; 7],
+        Err(DocFault::Memory) => panic!(rt; "memory"),
+        Err(fault) => numbers_of(&fault),
     }
 }
 
-/// Asserts what each document comes to, between these two texts.
-fn reads_as(
-    rt: &impl Abort,
-    alloc: Global,
-    front: &str,
-    cases: &[(&str, Numbers)],
-    back: &str,
-) -> Result<(), Fail> {
-    for (text, wanted) in cases {
-        let mut document = String::new(alloc);
-        document.push_str(front)?;
-        document.push_str(text)?;
-        document.push_str(back)?;
-        let found = outcome(alloc, document.as_bytes(), None)?;
-        assert_eq!(rt; found, *wanted, "{text}");
-    }
-    Ok(())
+fn put(rt: &impl Abort, out: &mut String, text: &str) {
+    out.push_str(text).expect(rt, "memory");
 }
 
-static TOPS: [(&str, Numbers); 34] = [
-    ("", [1, 0, 0, 0, 0, 0, 0]),
-    ("{", [1, 0, 0, 0, 0, 0, 0]),
-    ("{}}", [1, 0, 0, 0, 0, 0, 0]),
-    ("[]", [4, 0, 0, 0, 0, 0, 0]),
-    ("null", [4, 0, 0, 0, 0, 0, 0]),
-    ("{}", [3, 0, 0, 1, 0, 0, 0]),
-    (r#"{"version":"1"}"#, [4, 0, 0, 1, 0, 0, 0]),
-    (r#"{"version":null}"#, [4, 0, 0, 1, 0, 0, 0]),
-    (r#"{"version":1.0}"#, [4, 0, 0, 1, 0, 0, 0]),
-    (r#"{"version":1e0}"#, [4, 0, 0, 1, 0, 0, 0]),
-    (r#"{"version":-1}"#, [4, 0, 0, 1, 0, 0, 0]),
-    (r#"{"version":-0}"#, [4, 0, 0, 1, 0, 0, 0]),
-    (r#"{"version":18446744073709551616}"#, [4, 0, 0, 1, 0, 0, 0]),
-    (r#"{"version":18446744073709551615}"#, [2, 0, 0, 0, 0, 0, 0]),
-    (r#"{"version":0}"#, [2, 0, 0, 0, 0, 0, 0]),
-    (r#"{"version":3}"#, [2, 0, 0, 0, 0, 0, 0]),
-    (r#"{"version":1}"#, [3, 0, 0, 2, 0, 0, 0]),
-    (r#"{"version":2}"#, [3, 0, 0, 2, 0, 0, 0]),
-    (r#"{"version":3,"version":2}"#, [3, 0, 0, 2, 0, 0, 0]),
-    (r#"{"version":1,"trust_domain":7}"#, [4, 0, 0, 2, 0, 0, 0]),
-    (
-        r#"{"version":1,"trust_domain":null}"#,
-        [4, 0, 0, 2, 0, 0, 0],
-    ),
-    (r#"{"version":1,"trust_domain":""}"#, [5, 0, 0, 2, 0, 3, 0]),
-    (
-        r#"{"version":1,"trust_domain":"a.B"}"#,
-        [5, 0, 0, 2, 0, 4, 2],
-    ),
-    (
-        r#"{"version":1,"trust_domain":"a.b"}"#,
-        [3, 0, 0, 3, 0, 0, 0],
-    ),
-    (
-        r#"{"version":1,"trust_domain":"a.b","bundles":{}}"#,
-        [4, 0, 0, 3, 0, 0, 0],
-    ),
-    (
-        r#"{"version":1,"trust_domain":"a.b","bundles":[]}"#,
-        [3, 0, 0, 4, 0, 0, 0],
-    ),
-    (
-        r#"{"version":1,"trust_domain":"a.b","bundles":[5]}"#,
-        [3, 0, 0, 4, 0, 0, 0],
-    ),
-    (
-        r#"{"version":1,"trust_domain":"a.b","bundles":[],"entries":null}"#,
-        [4, 0, 0, 4, 0, 0, 0],
-    ),
-    (
-        r#"{"version":1,"trust_domain":"a.b","bundles":[],"entries":[],"svids":null}"#,
-        [4, 0, 0, 5, 0, 0, 0],
-    ),
-    (
-        r#"{"version":1,"trust_domain":"a.b","bundles":[],"entries":[],"svids":"x"}"#,
-        [4, 0, 0, 5, 0, 0, 0],
-    ),
-    (
-        r#"{"version":1,"trust_domain":"a.b","bundles":[],"entries":[]}"#,
-        [11, 0, 0, 0, 0, 0, 0],
-    ),
-    (
-        r#"{"version":1,"trust_domain":"a.b","bundles":[],"entries":[5]}"#,
-        [11, 0, 0, 0, 0, 0, 0],
-    ),
-    (
-        r#"{"version":1,"trust_domain":"a.b","bundles":[{"trust_domain":"a.b","x509":"Aw=="}],"entries":[]}"#,
-        [0, 0, 0, 0, 0, 0, 0],
-    ),
-    (
-        r#"{"version":2,"x":[],"trust_domain":"a.b","bundles":[{"trust_domain":"a.b","x509":"Aw==","y":0}],"entries":[],"svids":[]}"#,
-        [0, 0, 0, 0, 0, 0, 0],
-    ),
-];
+/// Puts what stands between `<` and `>` after the others, so many times as the number after its `*` says.
+fn put_repeated(rt: &impl Abort, out: &mut String, text: &str) {
+    let (part, times) = text.rsplit_once('*').expect(rt, "a number of times");
+    for _ in 0..times.parse::<u32>().expect(rt, "a number") {
+        put(rt, out, part);
+    }
+}
+
+/// Puts a text after the others, in which a part `<PART*TIMES>` may stand.
+fn put_text(rt: &impl Abort, out: &mut String, text: &str) {
+    match text.split_once('<') {
+        None => put(rt, out, text),
+        Some((front, rest)) => {
+            let (repeated, back) = rest.split_once('>').expect(rt, "an end");
+            put(rt, out, front);
+            put_repeated(rt, out, repeated);
+            put(rt, out, back);
+        }
+    }
+}
+
+/// Asserts what a document comes to: a row has the numbers of its outcome, a colon, and what stands between two texts.
+fn is_read_as(rt: &impl Abort, alloc: Global, front: &str, row: &str, back: &str) {
+    let (_, text) = row.split_once("]:").expect(rt, "numbers");
+    let mut document = String::new(alloc);
+    put(rt, &mut document, front);
+    put_text(rt, &mut document, text);
+    put(rt, &mut document, back);
+    let found = outcome(rt, alloc, document.as_bytes(), None);
+    let found = format!(in alloc; "{found:?}:{text}").expect(rt, "memory");
+    assert_eq!(rt; found.as_str(), row);
+}
+
+/// Asserts what each document comes to, between these two texts: a line is a row.
+pub(crate) fn are_read_as(rt: &impl Abort, alloc: Global, front: &str, rows: &str, back: &str) {
+    for row in rows.trim().lines() {
+        is_read_as(rt, alloc, front, row, back);
+    }
+}
+
+const TOPS: &str = r#"
+[1, 0, 0, 0, 0, 0, 0]:
+[1, 0, 0, 0, 0, 0, 0]:{
+[1, 0, 0, 0, 0, 0, 0]:{}}
+[4, 0, 0, 0, 0, 0, 0]:[]
+[4, 0, 0, 0, 0, 0, 0]:null
+[3, 0, 0, 1, 0, 0, 0]:{}
+[4, 0, 0, 1, 0, 0, 0]:{"version":"1"}
+[4, 0, 0, 1, 0, 0, 0]:{"version":null}
+[4, 0, 0, 1, 0, 0, 0]:{"version":1.0}
+[4, 0, 0, 1, 0, 0, 0]:{"version":1e0}
+[4, 0, 0, 1, 0, 0, 0]:{"version":-1}
+[4, 0, 0, 1, 0, 0, 0]:{"version":-0}
+[4, 0, 0, 1, 0, 0, 0]:{"version":18446744073709551616}
+[2, 0, 0, 0, 0, 0, 0]:{"version":18446744073709551615}
+[2, 0, 0, 0, 0, 0, 0]:{"version":0}
+[2, 0, 0, 0, 0, 0, 0]:{"version":3}
+[3, 0, 0, 2, 0, 0, 0]:{"version":1}
+[3, 0, 0, 2, 0, 0, 0]:{"version":2}
+[3, 0, 0, 2, 0, 0, 0]:{"version":3,"version":2}
+[4, 0, 0, 2, 0, 0, 0]:{"version":1,"trust_domain":7}
+[4, 0, 0, 2, 0, 0, 0]:{"version":1,"trust_domain":null}
+[5, 0, 0, 2, 0, 3, 0]:{"version":1,"trust_domain":""}
+[5, 0, 0, 2, 0, 4, 2]:{"version":1,"trust_domain":"a.B"}
+[3, 0, 0, 3, 0, 0, 0]:{"version":1,"trust_domain":"a.b"}
+[4, 0, 0, 3, 0, 0, 0]:{"version":1,"trust_domain":"a.b","bundles":{}}
+[3, 0, 0, 4, 0, 0, 0]:{"version":1,"trust_domain":"a.b","bundles":[]}
+[3, 0, 0, 4, 0, 0, 0]:{"version":1,"trust_domain":"a.b","bundles":[5]}
+[4, 0, 0, 4, 0, 0, 0]:{"version":1,"trust_domain":"a.b","bundles":[],"entries":null}
+[4, 0, 0, 5, 0, 0, 0]:{"version":1,"trust_domain":"a.b","bundles":[],"entries":[],"svids":null}
+[4, 0, 0, 5, 0, 0, 0]:{"version":1,"trust_domain":"a.b","bundles":[],"entries":[],"svids":"x"}
+[11, 0, 0, 0, 0, 0, 0]:{"version":1,"trust_domain":"a.b","bundles":[],"entries":[]}
+[11, 0, 0, 0, 0, 0, 0]:{"version":1,"trust_domain":"a.b","bundles":[],"entries":[5]}
+[0, 0, 0, 0, 0, 0, 0]:{"version":1,"trust_domain":"a.b","bundles":[{"trust_domain":"a.b","x509":"Aw=="}],"entries":[]}
+[0, 0, 0, 0, 0, 0, 0]:{"version":2,"x":[],"trust_domain":"a.b","bundles":[{"trust_domain":"a.b","x509":"Aw==","y":0}],"entries":[],"svids":[]}
+"#;
 
 #[test]
-fn tops(rt: HostRuntime) -> Result<(), Fail> {
-    let alloc = rt.alloc();
-    assert_eq!(rt; outcome(alloc, b"\xff{}", None)?, [1, 0, 0, 0, 0, 0, 0]);
-    reads_as(&rt, alloc, "", &TOPS, "")
+fn tops(rt: HostRuntime) {
+    let found = outcome(&rt, rt.alloc(), b"\xff{}", None);
+    assert_eq!(rt; found, [1, 0, 0, 0, 0, 0, 0]);
+    are_read_as(&rt, rt.alloc(), "", TOPS, "");
 }
 
 const BUNDLES_FRONT: &str = r#"{"version":1,"trust_domain":"a.b","bundles":["#;
@@ -176,97 +162,40 @@ const BUNDLES_FRONT: &str = r#"{"version":1,"trust_domain":"a.b","bundles":["#;
 const BUNDLES_BACK: &str = r#"],"entries":[{"id":1}]}"#;
 
 /// Where no bundle has a fault, the id of the entry has one.
-static BUNDLES: [(&str, Numbers); 28] = [
-    ("5", [4, 1, 0, 0, 0, 0, 0]),
-    ("null", [4, 1, 0, 0, 0, 0, 0]),
-    (r#"{"trust_domain":"c.d"},[]"#, [4, 1, 1, 0, 0, 0, 0]),
-    ("{}", [3, 1, 0, 1, 0, 0, 0]),
-    (r#"{"trust_domain":[]}"#, [4, 1, 0, 1, 0, 0, 0]),
-    (r#"{"trust_domain":""}"#, [5, 1, 0, 1, 0, 3, 0]),
-    (
-        r#"{"trust_domain":"a.b"},{"trust_domain":"c/d"}"#,
-        [5, 1, 1, 1, 0, 4, 1],
-    ),
-    (
-        r#"{"trust_domain":"a.b"},{"trust_domain":"c.d"},{"trust_domain":"a.b"}"#,
-        [8, 1, 2, 1, 0, 0, 0],
-    ),
-    (
-        r#"{"trust_domain":"a.b"},{"trust_domain":"a.b","x509":5}"#,
-        [8, 1, 1, 1, 0, 0, 0],
-    ),
-    (r#"{"trust_domain":"a.b","x509":5}"#, [4, 1, 0, 2, 0, 0, 0]),
-    (
-        r#"{"trust_domain":"a.b","x509":null}"#,
-        [4, 1, 0, 2, 0, 0, 0],
-    ),
-    (
-        r#"{"trust_domain":"a.b","x509":"Aw"}"#,
-        [10, 1, 0, 2, 0, 0, 0],
-    ),
-    (
-        r#"{"trust_domain":"a.b","x509":"Aw="}"#,
-        [10, 1, 0, 2, 0, 0, 0],
-    ),
-    (
-        r#"{"trust_domain":"a.b","x509":"Ax=="}"#,
-        [10, 1, 0, 2, 0, 0, 0],
-    ),
-    (
-        r#"{"trust_domain":"a.b","x509":"A_=="}"#,
-        [10, 1, 0, 2, 0, 0, 0],
-    ),
-    (
-        r#"{"trust_domain":"a.b","x509":"Aw==\n"}"#,
-        [10, 1, 0, 2, 0, 0, 0],
-    ),
-    (
-        r#"{"trust_domain":"a.b","x509":"Aw==","jwks":{}}"#,
-        [4, 1, 0, 3, 0, 0, 0],
-    ),
-    (
-        r#"{"trust_domain":"a.b","x509":"A","jwks":{}}"#,
-        [10, 1, 0, 2, 0, 0, 0],
-    ),
-    (r#"{"trust_domain":"a.b"}"#, [11, 0, 0, 0, 0, 0, 0]),
-    (
-        r#"{"trust_domain":"a.b","x509":""}"#,
-        [11, 0, 0, 0, 0, 0, 0],
-    ),
-    (
-        r#"{"trust_domain":"a.b","jwks":"{}"}"#,
-        [11, 0, 0, 0, 0, 0, 0],
-    ),
-    (
-        r#"{"trust_domain":"c.d","x509":"Aw=="}"#,
-        [11, 0, 0, 0, 0, 0, 0],
-    ),
-    (
-        r#"{"trust_domain":"c.d","x509":"Aw=="},{"trust_domain":"a.b","x509":""}"#,
-        [11, 0, 0, 0, 0, 0, 0],
-    ),
-    (r#"{"trust_domain":"a.b"},5"#, [4, 1, 1, 0, 0, 0, 0]),
-    (
-        r#"{"trust_domain":"a.b","x509":"Aw=="}"#,
-        [4, 2, 0, 1, 0, 0, 0],
-    ),
-    (
-        r#"{"trust_domain":"a.b","x509":"++//"}"#,
-        [4, 2, 0, 1, 0, 0, 0],
-    ),
-    (
-        r#"{"trust_domain":"c.d"},{"trust_domain":"a.b","x509":"Aw=="},{"trust_domain":"b.c"}"#,
-        [4, 2, 0, 1, 0, 0, 0],
-    ),
-    (
-        r#"{"trust_domain":"a.b","x509":"Aw==","jwks":"{}"}"#,
-        [4, 2, 0, 1, 0, 0, 0],
-    ),
-];
+const BUNDLES: &str = r#"
+[4, 1, 0, 0, 0, 0, 0]:5
+[4, 1, 0, 0, 0, 0, 0]:null
+[4, 1, 1, 0, 0, 0, 0]:{"trust_domain":"c.d"},[]
+[3, 1, 0, 1, 0, 0, 0]:{}
+[4, 1, 0, 1, 0, 0, 0]:{"trust_domain":[]}
+[5, 1, 0, 1, 0, 3, 0]:{"trust_domain":""}
+[5, 1, 1, 1, 0, 4, 1]:{"trust_domain":"a.b"},{"trust_domain":"c/d"}
+[8, 1, 2, 1, 0, 0, 0]:{"trust_domain":"a.b"},{"trust_domain":"c.d"},{"trust_domain":"a.b"}
+[8, 1, 1, 1, 0, 0, 0]:{"trust_domain":"a.b"},{"trust_domain":"a.b","x509":5}
+[4, 1, 0, 2, 0, 0, 0]:{"trust_domain":"a.b","x509":5}
+[4, 1, 0, 2, 0, 0, 0]:{"trust_domain":"a.b","x509":null}
+[10, 1, 0, 2, 0, 0, 0]:{"trust_domain":"a.b","x509":"Aw"}
+[10, 1, 0, 2, 0, 0, 0]:{"trust_domain":"a.b","x509":"Aw="}
+[10, 1, 0, 2, 0, 0, 0]:{"trust_domain":"a.b","x509":"Ax=="}
+[10, 1, 0, 2, 0, 0, 0]:{"trust_domain":"a.b","x509":"A_=="}
+[10, 1, 0, 2, 0, 0, 0]:{"trust_domain":"a.b","x509":"Aw==\n"}
+[4, 1, 0, 3, 0, 0, 0]:{"trust_domain":"a.b","x509":"Aw==","jwks":{}}
+[10, 1, 0, 2, 0, 0, 0]:{"trust_domain":"a.b","x509":"A","jwks":{}}
+[11, 0, 0, 0, 0, 0, 0]:{"trust_domain":"a.b"}
+[11, 0, 0, 0, 0, 0, 0]:{"trust_domain":"a.b","x509":""}
+[11, 0, 0, 0, 0, 0, 0]:{"trust_domain":"a.b","jwks":"{}"}
+[11, 0, 0, 0, 0, 0, 0]:{"trust_domain":"c.d","x509":"Aw=="}
+[11, 0, 0, 0, 0, 0, 0]:{"trust_domain":"c.d","x509":"Aw=="},{"trust_domain":"a.b","x509":""}
+[4, 1, 1, 0, 0, 0, 0]:{"trust_domain":"a.b"},5
+[4, 2, 0, 1, 0, 0, 0]:{"trust_domain":"a.b","x509":"Aw=="}
+[4, 2, 0, 1, 0, 0, 0]:{"trust_domain":"a.b","x509":"++//"}
+[4, 2, 0, 1, 0, 0, 0]:{"trust_domain":"c.d"},{"trust_domain":"a.b","x509":"Aw=="},{"trust_domain":"b.c"}
+[4, 2, 0, 1, 0, 0, 0]:{"trust_domain":"a.b","x509":"Aw==","jwks":"{}"}
+"#;
 
 #[test]
-fn bundles(rt: HostRuntime) -> Result<(), Fail> {
-    reads_as(&rt, rt.alloc(), BUNDLES_FRONT, &BUNDLES, BUNDLES_BACK)
+fn bundles(rt: HostRuntime) {
+    are_read_as(&rt, rt.alloc(), BUNDLES_FRONT, BUNDLES, BUNDLES_BACK);
 }
 
 const ENTRIES_FRONT: &str =
@@ -275,97 +204,43 @@ const ENTRIES_FRONT: &str =
 const ENTRIES_BACK: &str = r#"],"svids":[5]}"#;
 
 /// Where no entry has a fault, the first signed identity has one.
-static ENTRIES: [(&str, Numbers); 31] = [
-    ("5", [4, 2, 0, 0, 0, 0, 0]),
-    ("[]", [4, 2, 0, 0, 0, 0, 0]),
-    ("{}", [3, 2, 0, 1, 0, 0, 0]),
-    (r#"{"id":7}"#, [4, 2, 0, 1, 0, 0, 0]),
-    (r#"{"id":null}"#, [4, 2, 0, 1, 0, 0, 0]),
-    (r#"{"id":""}"#, [4, 2, 0, 1, 0, 0, 0]),
-    (r#"{"id":"a b"}"#, [4, 2, 0, 1, 0, 0, 0]),
-    (r#"{"id":"a/b"}"#, [4, 2, 0, 1, 0, 0, 0]),
-    (r#"{"id":"é"}"#, [4, 2, 0, 1, 0, 0, 0]),
-    (r#"{"id":"e"}"#, [3, 2, 0, 2, 0, 0, 0]),
-    (r#"{"id":"Az09._-"}"#, [3, 2, 0, 2, 0, 0, 0]),
-    (r#"{"id":"e","spiffe_id":7}"#, [4, 2, 0, 2, 0, 0, 0]),
-    (r#"{"id":"e","spiffe_id":""}"#, [5, 2, 0, 2, 0, 2, 0]),
-    (
-        r#"{"id":"e","spiffe_id":"SPIFFE://a.b"}"#,
-        [5, 2, 0, 2, 0, 2, 0],
-    ),
-    (
-        r#"{"id":"e","spiffe_id":"spiffe:///w"}"#,
-        [5, 2, 0, 2, 0, 3, 0],
-    ),
-    (
-        r#"{"id":"e","spiffe_id":"spiffe://A.b/w"}"#,
-        [5, 2, 0, 2, 0, 4, 9],
-    ),
-    (
-        r#"{"id":"e","spiffe_id":"spiffe://a.b/"}"#,
-        [5, 2, 0, 2, 0, 5, 12],
-    ),
-    (
-        r#"{"id":"e","spiffe_id":"spiffe://a.b/w%"}"#,
-        [5, 2, 0, 2, 0, 6, 14],
-    ),
-    (
-        r#"{"id":"e","spiffe_id":"spiffe://a.b/w/.."}"#,
-        [5, 2, 0, 2, 0, 7, 14],
-    ),
-    (
-        r#"{"id":"e","spiffe_id":"spiffe://c.d/w/.."}"#,
-        [5, 2, 0, 2, 0, 7, 14],
-    ),
-    (
-        r#"{"id":"e","spiffe_id":"spiffe://a.bc/w"}"#,
-        [9, 2, 0, 2, 0, 0, 0],
-    ),
-    (
-        r#"{"id":"e","spiffe_id":"spiffe://c.d"}"#,
-        [9, 2, 0, 2, 0, 0, 0],
-    ),
-    (
-        r#"{"id":"e","spiffe_id":"spiffe://a.b"}"#,
-        [3, 2, 0, 3, 0, 0, 0],
-    ),
-    (
-        r#"{"id":"e","spiffe_id":"spiffe://a.b","selectors":"u:1"}"#,
-        [4, 2, 0, 3, 0, 0, 0],
-    ),
-    (
-        r#"{"id":"e","spiffe_id":"spiffe://a.b","selectors":[]}"#,
-        [7, 2, 0, 3, 0, 0, 0],
-    ),
-    (
-        r#"{"id":"e","spiffe_id":"spiffe://a.b","selectors":["u:1",5]}"#,
-        [4, 2, 0, 3, 1, 0, 0],
-    ),
-    (
-        r#"{"id":"e","spiffe_id":"spiffe://a.b","selectors":["u:1","u:2","u"]}"#,
-        [6, 2, 0, 3, 2, 0, 0],
-    ),
-    (
-        r#"{"id":"e","spiffe_id":"spiffe://a.b","selectors":[":u"]}"#,
-        [6, 2, 0, 3, 0, 0, 0],
-    ),
-    (
-        r#"{"id":"e","spiffe_id":"spiffe://a.b","selectors":["u:"]}"#,
-        [6, 2, 0, 3, 0, 0, 0],
-    ),
-    (
-        r#"{"id":"e","spiffe_id":"spiffe://a.b","selectors":["u:1"]}"#,
-        [4, 3, 0, 0, 0, 0, 0],
-    ),
-    (
-        r#"{"id":"e","spiffe_id":"spiffe://a.b","selectors":["u:1","u:1"]}"#,
-        [4, 3, 0, 0, 0, 0, 0],
-    ),
-];
+const ENTRIES: &str = r#"
+[4, 2, 0, 0, 0, 0, 0]:5
+[4, 2, 0, 0, 0, 0, 0]:[]
+[3, 2, 0, 1, 0, 0, 0]:{}
+[4, 2, 0, 1, 0, 0, 0]:{"id":7}
+[4, 2, 0, 1, 0, 0, 0]:{"id":null}
+[4, 2, 0, 1, 0, 0, 0]:{"id":""}
+[4, 2, 0, 1, 0, 0, 0]:{"id":"a b"}
+[4, 2, 0, 1, 0, 0, 0]:{"id":"a/b"}
+[4, 2, 0, 1, 0, 0, 0]:{"id":"é"}
+[3, 2, 0, 2, 0, 0, 0]:{"id":"e"}
+[3, 2, 0, 2, 0, 0, 0]:{"id":"Az09._-"}
+[4, 2, 0, 2, 0, 0, 0]:{"id":"e","spiffe_id":7}
+[5, 2, 0, 2, 0, 2, 0]:{"id":"e","spiffe_id":""}
+[5, 2, 0, 2, 0, 2, 0]:{"id":"e","spiffe_id":"SPIFFE://a.b"}
+[5, 2, 0, 2, 0, 3, 0]:{"id":"e","spiffe_id":"spiffe:///w"}
+[5, 2, 0, 2, 0, 4, 9]:{"id":"e","spiffe_id":"spiffe://A.b/w"}
+[5, 2, 0, 2, 0, 5, 12]:{"id":"e","spiffe_id":"spiffe://a.b/"}
+[5, 2, 0, 2, 0, 6, 14]:{"id":"e","spiffe_id":"spiffe://a.b/w%"}
+[5, 2, 0, 2, 0, 7, 14]:{"id":"e","spiffe_id":"spiffe://a.b/w/.."}
+[5, 2, 0, 2, 0, 7, 14]:{"id":"e","spiffe_id":"spiffe://c.d/w/.."}
+[9, 2, 0, 2, 0, 0, 0]:{"id":"e","spiffe_id":"spiffe://a.bc/w"}
+[9, 2, 0, 2, 0, 0, 0]:{"id":"e","spiffe_id":"spiffe://c.d"}
+[3, 2, 0, 3, 0, 0, 0]:{"id":"e","spiffe_id":"spiffe://a.b"}
+[4, 2, 0, 3, 0, 0, 0]:{"id":"e","spiffe_id":"spiffe://a.b","selectors":"u:1"}
+[7, 2, 0, 3, 0, 0, 0]:{"id":"e","spiffe_id":"spiffe://a.b","selectors":[]}
+[4, 2, 0, 3, 1, 0, 0]:{"id":"e","spiffe_id":"spiffe://a.b","selectors":["u:1",5]}
+[6, 2, 0, 3, 2, 0, 0]:{"id":"e","spiffe_id":"spiffe://a.b","selectors":["u:1","u:2","u"]}
+[6, 2, 0, 3, 0, 0, 0]:{"id":"e","spiffe_id":"spiffe://a.b","selectors":[":u"]}
+[6, 2, 0, 3, 0, 0, 0]:{"id":"e","spiffe_id":"spiffe://a.b","selectors":["u:"]}
+[4, 3, 0, 0, 0, 0, 0]:{"id":"e","spiffe_id":"spiffe://a.b","selectors":["u:1"]}
+[4, 3, 0, 0, 0, 0, 0]:{"id":"e","spiffe_id":"spiffe://a.b","selectors":["u:1","u:1"]}
+"#;
 
 #[test]
-fn entries(rt: HostRuntime) -> Result<(), Fail> {
-    reads_as(&rt, rt.alloc(), ENTRIES_FRONT, &ENTRIES, ENTRIES_BACK)
+fn entries(rt: HostRuntime) {
+    are_read_as(&rt, rt.alloc(), ENTRIES_FRONT, ENTRIES, ENTRIES_BACK);
 }
 
 const EXTRAS_FRONT: &str =
@@ -374,48 +249,39 @@ const EXTRAS_FRONT: &str =
 const EXTRAS_BACK: &str = "}]}";
 
 /// The further members of the second entry.
-static EXTRAS: [(&str, Numbers); 27] = [
-    ("", [0, 0, 0, 0, 0, 0, 0]),
-    (r#","federates_with":"c.d""#, [4, 2, 1, 4, 0, 0, 0]),
-    (r#","federates_with":null"#, [4, 2, 1, 4, 0, 0, 0]),
-    (r#","federates_with":["c.d",5]"#, [4, 2, 1, 4, 1, 0, 0]),
-    (r#","federates_with":["c.d",""]"#, [5, 2, 1, 4, 1, 3, 0]),
-    (
-        r#","federates_with":["c.d","e.f","g h"]"#,
-        [5, 2, 1, 4, 2, 4, 1],
-    ),
-    (
-        r#","federates_with":["c.d","a.b","c.d"]"#,
-        [0, 0, 0, 0, 0, 0, 0],
-    ),
-    (r#","dns_names":{}"#, [4, 2, 1, 5, 0, 0, 0]),
-    (r#","dns_names":["x","y",null]"#, [4, 2, 1, 5, 2, 0, 0]),
-    (r#","dns_names":["x",""]"#, [4, 2, 1, 5, 1, 0, 0]),
-    (
-        r#","dns_names":[],"federates_with":[5]"#,
-        [4, 2, 1, 4, 0, 0, 0],
-    ),
-    (r#","ttl":"60""#, [4, 2, 1, 6, 0, 0, 0]),
-    (r#","ttl":0"#, [4, 2, 1, 6, 0, 0, 0]),
-    (r#","ttl":-1"#, [4, 2, 1, 6, 0, 0, 0]),
-    (r#","ttl":60.5"#, [4, 2, 1, 6, 0, 0, 0]),
-    (r#","ttl":31536001"#, [4, 2, 1, 6, 0, 0, 0]),
-    (r#","ttl":4294967297"#, [4, 2, 1, 6, 0, 0, 0]),
-    (r#","ttl":null"#, [4, 2, 1, 6, 0, 0, 0]),
-    (r#","ttl":31536000"#, [0, 0, 0, 0, 0, 0, 0]),
-    (r#","ttl":1"#, [0, 0, 0, 0, 0, 0, 0]),
-    (r#","hint":5"#, [4, 2, 1, 7, 0, 0, 0]),
-    (r#","hint":null"#, [4, 2, 1, 7, 0, 0, 0]),
-    (r#","hint":5,"ttl":0"#, [4, 2, 1, 6, 0, 0, 0]),
-    (r#","hint":"internal""#, [0, 0, 0, 0, 0, 0, 0]),
-    (r#"},{"id":"e""#, [8, 2, 2, 1, 0, 0, 0]),
-    (r#"},{"id":"d","spiffe_id":5"#, [8, 2, 2, 1, 0, 0, 0]),
-    (r#"},{"id":"f""#, [3, 2, 2, 2, 0, 0, 0]),
-];
+const EXTRAS: &str = r#"
+[0, 0, 0, 0, 0, 0, 0]:
+[4, 2, 1, 4, 0, 0, 0]:,"federates_with":"c.d"
+[4, 2, 1, 4, 0, 0, 0]:,"federates_with":null
+[4, 2, 1, 4, 1, 0, 0]:,"federates_with":["c.d",5]
+[5, 2, 1, 4, 1, 3, 0]:,"federates_with":["c.d",""]
+[5, 2, 1, 4, 2, 4, 1]:,"federates_with":["c.d","e.f","g h"]
+[0, 0, 0, 0, 0, 0, 0]:,"federates_with":["c.d","a.b","c.d"]
+[4, 2, 1, 5, 0, 0, 0]:,"dns_names":{}
+[4, 2, 1, 5, 2, 0, 0]:,"dns_names":["x","y",null]
+[4, 2, 1, 5, 1, 0, 0]:,"dns_names":["x",""]
+[4, 2, 1, 4, 0, 0, 0]:,"dns_names":[],"federates_with":[5]
+[4, 2, 1, 6, 0, 0, 0]:,"ttl":"60"
+[4, 2, 1, 6, 0, 0, 0]:,"ttl":0
+[4, 2, 1, 6, 0, 0, 0]:,"ttl":-1
+[4, 2, 1, 6, 0, 0, 0]:,"ttl":60.5
+[4, 2, 1, 6, 0, 0, 0]:,"ttl":31536001
+[4, 2, 1, 6, 0, 0, 0]:,"ttl":4294967297
+[4, 2, 1, 6, 0, 0, 0]:,"ttl":null
+[0, 0, 0, 0, 0, 0, 0]:,"ttl":31536000
+[0, 0, 0, 0, 0, 0, 0]:,"ttl":1
+[4, 2, 1, 7, 0, 0, 0]:,"hint":5
+[4, 2, 1, 7, 0, 0, 0]:,"hint":null
+[4, 2, 1, 6, 0, 0, 0]:,"hint":5,"ttl":0
+[0, 0, 0, 0, 0, 0, 0]:,"hint":"internal"
+[8, 2, 2, 1, 0, 0, 0]:},{"id":"e"
+[8, 2, 2, 1, 0, 0, 0]:},{"id":"d","spiffe_id":5
+[3, 2, 2, 2, 0, 0, 0]:},{"id":"f"
+"#;
 
 #[test]
-fn extras(rt: HostRuntime) -> Result<(), Fail> {
-    reads_as(&rt, rt.alloc(), EXTRAS_FRONT, &EXTRAS, EXTRAS_BACK)
+fn extras(rt: HostRuntime) {
+    are_read_as(&rt, rt.alloc(), EXTRAS_FRONT, EXTRAS, EXTRAS_BACK);
 }
 
 const SVIDS_FRONT: &str =
@@ -423,79 +289,34 @@ const SVIDS_FRONT: &str =
 
 const SVIDS_BACK: &str = "]}";
 
-static SVIDS: [(&str, Numbers); 24] = [
-    ("5", [4, 3, 0, 0, 0, 0, 0]),
-    ("{}", [3, 3, 0, 1, 0, 0, 0]),
-    (r#"{"entry":[]}"#, [4, 3, 0, 1, 0, 0, 0]),
-    (r#"{"entry":""}"#, [4, 3, 0, 1, 0, 0, 0]),
-    (r#"{"entry":"e:1"}"#, [4, 3, 0, 1, 0, 0, 0]),
-    (r#"{"entry":"e"}"#, [3, 3, 0, 2, 0, 0, 0]),
-    (r#"{"entry":"e","chain":5}"#, [4, 3, 0, 2, 0, 0, 0]),
-    (r#"{"entry":"e","chain":"AQ"}"#, [10, 3, 0, 2, 0, 0, 0]),
-    (r#"{"entry":"e","chain":"AQ=="}"#, [3, 3, 0, 3, 0, 0, 0]),
-    (
-        r#"{"entry":"e","chain":"AQ==","key":null}"#,
-        [4, 3, 0, 3, 0, 0, 0],
-    ),
-    (
-        r#"{"entry":"e","chain":"AQ==","key":"Ag==Ag=="}"#,
-        [10, 3, 0, 3, 0, 0, 0],
-    ),
-    (
-        r#"{"entry":"e","chain":"AQ==","key":"Ag=="}"#,
-        [3, 3, 0, 4, 0, 0, 0],
-    ),
-    (
-        r#"{"entry":"e","chain":"AQ==","key":"Ag==","not_before":"1"}"#,
-        [4, 3, 0, 4, 0, 0, 0],
-    ),
-    (
-        r#"{"entry":"e","chain":"AQ==","key":"Ag==","not_before":-5}"#,
-        [4, 3, 0, 4, 0, 0, 0],
-    ),
-    (
-        r#"{"entry":"e","chain":"AQ==","key":"Ag==","not_before":0.5}"#,
-        [4, 3, 0, 4, 0, 0, 0],
-    ),
-    (
-        r#"{"entry":"e","chain":"AQ==","key":"Ag==","not_before":1}"#,
-        [3, 3, 0, 5, 0, 0, 0],
-    ),
-    (
-        r#"{"entry":"e","chain":"AQ==","key":"Ag==","not_before":1,"not_after":{}}"#,
-        [4, 3, 0, 5, 0, 0, 0],
-    ),
-    (
-        r#"{"entry":"e","chain":"AQ==","key":"Ag==","not_before":1,"not_after":18446744073709551616}"#,
-        [4, 3, 0, 5, 0, 0, 0],
-    ),
-    (
-        r#"{"entry":"e","chain":"AQ==","key":"Ag==","not_before":1,"not_after":18446744073709551615}"#,
-        [0, 0, 0, 0, 0, 0, 0],
-    ),
-    (
-        r#"{"entry":"e","chain":"","key":"","not_before":2,"not_after":1}"#,
-        [0, 0, 0, 0, 0, 0, 0],
-    ),
-    (
-        r#"{"entry":"e","chain":"","key":"","not_before":2,"not_after":1},{"entry":"e"}"#,
-        [8, 3, 1, 1, 0, 0, 0],
-    ),
-    (
-        r#"{"entry":"e","chain":"","key":"","not_before":2,"not_after":1},{"entry":"d","chain":"","key":"","not_before":0,"not_after":0}"#,
-        [0, 0, 0, 0, 0, 0, 0],
-    ),
-    (
-        r#"{"entry":"e","chain":"","key":"","not_before":2,"not_after":1},{"entry":"f"}"#,
-        [3, 3, 1, 2, 0, 0, 0],
-    ),
-    (
-        r#"{"entry":"e","chain":"","key":"","not_before":2,"not_after":1},null"#,
-        [4, 3, 1, 0, 0, 0, 0],
-    ),
-];
+const SVIDS: &str = r#"
+[4, 3, 0, 0, 0, 0, 0]:5
+[3, 3, 0, 1, 0, 0, 0]:{}
+[4, 3, 0, 1, 0, 0, 0]:{"entry":[]}
+[4, 3, 0, 1, 0, 0, 0]:{"entry":""}
+[4, 3, 0, 1, 0, 0, 0]:{"entry":"e:1"}
+[3, 3, 0, 2, 0, 0, 0]:{"entry":"e"}
+[4, 3, 0, 2, 0, 0, 0]:{"entry":"e","chain":5}
+[10, 3, 0, 2, 0, 0, 0]:{"entry":"e","chain":"AQ"}
+[3, 3, 0, 3, 0, 0, 0]:{"entry":"e","chain":"AQ=="}
+[4, 3, 0, 3, 0, 0, 0]:{"entry":"e","chain":"AQ==","key":null}
+[10, 3, 0, 3, 0, 0, 0]:{"entry":"e","chain":"AQ==","key":"Ag==Ag=="}
+[3, 3, 0, 4, 0, 0, 0]:{"entry":"e","chain":"AQ==","key":"Ag=="}
+[4, 3, 0, 4, 0, 0, 0]:{"entry":"e","chain":"AQ==","key":"Ag==","not_before":"1"}
+[4, 3, 0, 4, 0, 0, 0]:{"entry":"e","chain":"AQ==","key":"Ag==","not_before":-5}
+[4, 3, 0, 4, 0, 0, 0]:{"entry":"e","chain":"AQ==","key":"Ag==","not_before":0.5}
+[3, 3, 0, 5, 0, 0, 0]:{"entry":"e","chain":"AQ==","key":"Ag==","not_before":1}
+[4, 3, 0, 5, 0, 0, 0]:{"entry":"e","chain":"AQ==","key":"Ag==","not_before":1,"not_after":{}}
+[4, 3, 0, 5, 0, 0, 0]:{"entry":"e","chain":"AQ==","key":"Ag==","not_before":1,"not_after":18446744073709551616}
+[0, 0, 0, 0, 0, 0, 0]:{"entry":"e","chain":"AQ==","key":"Ag==","not_before":1,"not_after":18446744073709551615}
+[0, 0, 0, 0, 0, 0, 0]:{"entry":"e","chain":"","key":"","not_before":2,"not_after":1}
+[8, 3, 1, 1, 0, 0, 0]:{"entry":"e","chain":"","key":"","not_before":2,"not_after":1},{"entry":"e"}
+[0, 0, 0, 0, 0, 0, 0]:{"entry":"e","chain":"","key":"","not_before":2,"not_after":1},{"entry":"d","chain":"","key":"","not_before":0,"not_after":0}
+[3, 3, 1, 2, 0, 0, 0]:{"entry":"e","chain":"","key":"","not_before":2,"not_after":1},{"entry":"f"}
+[4, 3, 1, 0, 0, 0, 0]:{"entry":"e","chain":"","key":"","not_before":2,"not_after":1},null
+"#;
 
 #[test]
-fn svids(rt: HostRuntime) -> Result<(), Fail> {
-    reads_as(&rt, rt.alloc(), SVIDS_FRONT, &SVIDS, SVIDS_BACK)
+fn svids(rt: HostRuntime) {
+    are_read_as(&rt, rt.alloc(), SVIDS_FRONT, SVIDS, SVIDS_BACK);
 }
