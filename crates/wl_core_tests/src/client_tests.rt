@@ -1,13 +1,14 @@
 //! A client against a session of the core, in memory: what it hears of each method.
 
+use crate::tests::apply;
+use crate::tests::scripts::{octets, selectors};
 use grpc_wire::Method;
-use std::alloc::Global;
-use std::test::Fail;
+use std::alloc::{AllocGlobal, Global};
+use std::process::Abort;
 use wl_client::{Client, Heard};
 use wl_core::{Event, Line, World};
 use wl_entry::{JwtToken, Signed};
-use wl_octets::{Memory, Octets, Row};
-use wl_selector::{Selector, Selectors};
+use wl_octets::{Octets, Row};
 
 /// One entry, for the caller of `unix:uid:1`, and a bundle of both kinds.
 const DOC: &[u8] =
@@ -86,168 +87,139 @@ const CASES: [Case; 8] = [
     },
 ];
 
-fn octets(alloc: Global, bytes: &[u8]) -> Result<Octets, Memory> {
-    Octets::from_slice(alloc, bytes)
-}
-
-/// The set of one selector.
-fn selectors(alloc: Global, selector: &[u8]) -> Result<Selectors, Fail> {
-    let mut items = Vec::new(alloc);
-    items.push(Selector::parse(alloc, selector)?)?;
-    Ok(Selectors::from_list(alloc, items, 64)?)
-}
-
-/// Takes an event on a connection that there may be.
-fn apply(world: &mut World, event: Event, said: &mut Row<Line>) -> Result<(), Fail> {
-    if !event.is_within() {
-        return Err(Fail::from("no such connection"));
-    }
-    Ok(world.apply(event, said)?)
-}
-
 /// The ticket of the entry comes back with an identity.
-fn signed(alloc: Global) -> Result<Event, Memory> {
-    let signed = Signed {
-        chain: octets(alloc, b"\x01")?,
-        key: octets(alloc, b"\x02")?,
-        not_before: 100,
-        not_after: 200,
-    };
-    Ok(Event::Signed {
+fn signed(rt: &impl Abort, alloc: Global) -> Event {
+    Event::Signed {
         ticket: 1,
-        signed,
+        signed: Signed {
+            chain: octets(rt, alloc, b"\x01"),
+            key: octets(rt, alloc, b"\x02"),
+            not_before: 100,
+            not_after: 200,
+        },
         now: 100,
-    })
+    }
 }
 
 /// The signer answers with a token.
-fn token(alloc: Global) -> Result<Event, Memory> {
-    let token = JwtToken {
-        token: octets(alloc, b"t")?,
-        issued_at: 100,
-        expires_at: 200,
-    };
-    Ok(Event::Token {
+fn token(rt: &impl Abort, alloc: Global) -> Event {
+    Event::Token {
         conn: CONN,
         now: 100,
-        signed: Some(token),
-    })
+        signed: Some(JwtToken {
+            token: octets(rt, alloc, b"t"),
+            issued_at: 100,
+            expires_at: 200,
+        }),
+    }
 }
 
 /// A world whose entry has an identity, and to which a caller has come.
-fn world(alloc: Global, selector: &[u8]) -> Result<World, Fail> {
-    let mut world = World::start(alloc, DOC)?;
+fn world(rt: &impl Abort, alloc: Global, selector: &[u8]) -> World {
+    let mut world = World::start(alloc, DOC).expect(rt, "a document");
     let mut said = Row::empty(alloc);
-    apply(&mut world, Event::Claim { now: 100 }, &mut said)?;
-    apply(&mut world, signed(alloc)?, &mut said)?;
+    apply(rt, &mut world, Event::Claim { now: 100 }, &mut said);
+    apply(rt, &mut world, signed(rt, alloc), &mut said);
     let join = Event::Join {
         conn: CONN,
-        selectors: selectors(alloc, selector)?,
+        selectors: selectors(rt, alloc, selector),
     };
-    apply(&mut world, join, &mut said)?;
-    Ok(world)
+    apply(rt, &mut world, join, &mut said);
+    world
 }
 
 /// The caller, and what it has heard so far.
 #[derive(Drop)]
 struct Caller {
-    alloc: Global,
     client: Client,
     heard: Row<Heard>,
 }
 
 impl Caller {
     /// A caller that has not sent anything yet.
-    fn start(alloc: Global, case: Case) -> Result<Caller, Fail> {
-        if case.message.len() > 16_000 {
-            return Err(Fail::from("too long a message"));
-        }
-        Ok(Caller {
-            alloc,
-            client: Client::start(alloc, case.method, case.message)?,
+    fn start(rt: &impl Abort, alloc: Global, case: &Case) -> Caller {
+        assert!(rt; case.message.len() <= 16_000);
+        Caller {
+            client: Client::start(alloc, case.method, case.message).expect(rt, "memory"),
             heard: Row::empty(alloc),
-        })
+        }
     }
 
     /// Hears what was written, and gives what is to be sent for it.
-    fn hear(&mut self, said: &[Line]) -> Result<Octets, Fail> {
-        let mut out = Octets::empty(self.alloc);
+    fn hear(&mut self, rt: &impl Abort, alloc: Global, said: &[Line]) -> Octets {
+        let mut out = Octets::empty(alloc);
         for line in said {
             if let Line::Out { bytes, .. } = line {
-                self.client
-                    .feed(bytes.as_slice(), &mut out, &mut self.heard)?;
+                let fed = self
+                    .client
+                    .feed(bytes.as_slice(), &mut out, &mut self.heard);
+                fed.expect(rt, "frames");
             }
         }
-        Ok(out)
+        out
     }
 
     /// An event, and what is sent for what is written after it.
-    fn pass(&mut self, world: &mut World, event: Event) -> Result<Octets, Fail> {
-        let mut said = Row::empty(self.alloc);
-        apply(world, event, &mut said)?;
-        self.hear(said.as_slice())
+    fn pass(&mut self, rt: &impl Abort, alloc: Global, world: &mut World, event: Event) -> Octets {
+        let mut said = Row::empty(alloc);
+        apply(rt, world, event, &mut said);
+        self.hear(rt, alloc, said.as_slice())
     }
 
     /// Sends bytes, and then what is to be sent for each answer.
-    fn send(&mut self, world: &mut World, bytes: Octets) -> Result<(), Fail> {
+    fn send(&mut self, rt: &impl Abort, alloc: Global, world: &mut World, bytes: Octets) {
         let mut piece = bytes;
         for _ in 0..4 {
-            piece = self.pass(world, Event::Feed { conn: CONN, piece })?;
+            piece = self.pass(rt, alloc, world, Event::Feed { conn: CONN, piece });
         }
-        Ok(())
     }
 
     /// An event, and all that is sent for it.
-    fn live(&mut self, world: &mut World, event: Event) -> Result<(), Fail> {
-        let bytes = self.pass(world, event)?;
-        self.send(world, bytes)
+    fn live(&mut self, rt: &impl Abort, alloc: Global, world: &mut World, event: Event) {
+        let bytes = self.pass(rt, alloc, world, event);
+        self.send(rt, alloc, world, bytes);
+    }
+}
+
+/// Puts these after others.
+fn put(rt: &impl Abort, text: &mut Octets, parts: &[&[u8]]) {
+    for part in parts {
+        text.push_slice(part).expect(rt, "memory");
     }
 }
 
 /// What was told, in one text.
-fn text_of(alloc: Global, told: &[Heard]) -> Result<Octets, Memory> {
+fn text_of(rt: &impl Abort, alloc: Global, told: &[Heard]) -> Octets {
     let mut text = Octets::empty(alloc);
     for heard in told {
-        put_heard(alloc, heard, &mut text)?;
+        match heard {
+            Heard::Head => put(rt, &mut text, &[b"head;"]),
+            Heard::Message(message) => put(rt, &mut text, &[b"message ", message.as_slice(), b";"]),
+            Heard::Status { code, text: why } => {
+                let code = code.to_string(alloc).expect(rt, "memory");
+                let parts: [&[u8]; 5] = [b"status ", code.as_bytes(), b" ", why.as_slice(), b";"];
+                put(rt, &mut text, &parts);
+            }
+        }
     }
-    Ok(text)
+    text
 }
 
-fn put_heard(alloc: Global, heard: &Heard, text: &mut Octets) -> Result<(), Memory> {
-    match heard {
-        Heard::Head => text.push_slice(b"head"),
-        Heard::Message(message) => put_two(text, b"message ", message.as_slice()),
-        Heard::Status { code, text: why } => put_status(alloc, *code, why, text),
-    }?;
-    text.push_slice(b";")
-}
-
-fn put_two(text: &mut Octets, first: &[u8], second: &[u8]) -> Result<(), Memory> {
-    text.push_slice(first)?;
-    text.push_slice(second)
-}
-
-fn put_status(alloc: Global, code: u32, why: &Octets, text: &mut Octets) -> Result<(), Memory> {
-    put_two(text, b"status ", code.to_string(alloc)?.as_bytes())?;
-    put_two(text, b" ", why.as_slice())
-}
-
-/// What the caller hears of its call, after a turn and a token.
-fn heard_of(alloc: Global, case: Case) -> Result<Octets, Fail> {
-    let mut world = world(alloc, case.selector)?;
-    let mut caller = Caller::start(alloc, case)?;
-    let opening = octets(alloc, caller.client.opening())?;
-    caller.send(&mut world, opening)?;
-    caller.live(&mut world, Event::Turn { conn: CONN })?;
-    caller.live(&mut world, token(alloc)?)?;
-    Ok(text_of(alloc, caller.heard.as_slice())?)
+/// Asserts what the caller hears of its call, after a turn and a token.
+fn hears(rt: &impl Abort, alloc: Global, case: &Case) {
+    let mut world = world(rt, alloc, case.selector);
+    let mut caller = Caller::start(rt, alloc, case);
+    let opening = octets(rt, alloc, caller.client.opening());
+    caller.send(rt, alloc, &mut world, opening);
+    caller.live(rt, alloc, &mut world, Event::Turn { conn: CONN });
+    caller.live(rt, alloc, &mut world, token(rt, alloc));
+    let heard = text_of(rt, alloc, caller.heard.as_slice());
+    assert_eq!(rt; heard.as_slice(), case.heard, "{}", case.name);
 }
 
 #[test]
-fn client_to_server(rt: HostRuntime) -> Result<(), Fail> {
-    for case in CASES {
-        let heard = heard_of(rt.alloc(), case)?;
-        assert_eq!(rt; heard.as_slice(), case.heard, "{}", case.name);
+fn client_to_server(rt: HostRuntime) {
+    for case in &CASES {
+        hears(&rt, rt.alloc(), case);
     }
-    Ok(())
 }

@@ -4,153 +4,127 @@ mod documents;
 mod frames;
 mod render;
 mod rows;
-mod scripts;
+pub mod scripts;
 
-ghost use Rattle.std.specs.Prelude.{◌≡◌, ◌++◌, ◌∷◌, [], IfOk, OnOk};
+ghost use Rattle.std.specs.Prelude.{◌≡◌, ◌++◌, ◌∷◌, []};
 ghost use Rattle.std.specs.List.{AllByRecursion};
 ghost use Rattle.wl_core.specs.Events.{IsWithin};
 
 use documents::DOC;
-use render::{Said, words};
+use render::are_said;
 use rows::{FIRST, FIRST_SAID, SEQUELS, STORES, TOKENS, Transcript};
-use std::alloc::Global;
-use std::test::Fail;
+use scripts::Step;
+use std::alloc::{AllocGlobal, Global};
+use std::process::Abort;
 use wl_core::{Counts, Event, Line, World};
-use wl_octets::{Memory, Row};
+use wl_octets::Row;
 
-fn start(alloc: Global, document: &[u8], is_strict: bool) -> Result<World, Fail> {
-    if is_strict {
-        Ok(World::start_strict(alloc, document)?)
+fn start(rt: &impl Abort, alloc: Global, transcript: &Transcript) -> World {
+    let started = if transcript.is_strict {
+        World::start_strict(alloc, transcript.document)
     } else {
-        Ok(World::start(alloc, document)?)
-    }
+        World::start(alloc, transcript.document)
+    };
+    started.expect(rt, "a document")
 }
 
-/// The lines in words, with a newline after each.
-fn text_of(alloc: Global, lines: &[Line]) -> Result<String, Fail> {
-    let mut text = String::new(alloc);
-    for line in lines {
-        text.push_str(words(alloc, line)?.as_str())?;
-        text.push_str("\n")?;
-    }
-    Ok(text)
-}
-
-/// What is expected, likewise.
-fn add_due(alloc: Global, said: &[Said], text: &mut String) -> Result<(), Fail> {
-    for one in said {
-        text.push_str(one.text(alloc)?.as_str())?;
-        text.push_str("\n")?;
-    }
-    Ok(())
-}
-
-fn push(events: &mut Row<Event>, event: Event) -> Result<(), Memory>
-    ensures { OnOk result (events.new ≡ events.old ++ event ∷ []) }
-{
-    events.push(event)?;
-    Ok(())
-}
-
-/// Appends an event that names a connection there may be.
+/// Appends the event of a step, which names a connection there may be.
 #[tactic(auto, using(crate::proofs::Samples::within_more))]
-fn add(events: &mut Row<Event>, event: Event) -> Result<(), Fail>
-    ensures { AllByRecursion IsWithin events.old → OnOk result (AllByRecursion IsWithin events.new) }
+fn add(rt: &impl Abort, events: &mut Row<Event>, event: Event)
+    ensures { AllByRecursion IsWithin events.old → AllByRecursion IsWithin events.new }
 {
-    if !event.is_within() {
-        return Err(Fail::from("no such connection"));
+    assert!(rt; event.is_within());
+    match events.push(event) {
+        Ok(()) => {}
+        Err(_) => panic!(rt; "memory"),
     }
-    push(events, event)?;
-    Ok(())
+}
+
+/// Appends the events of steps.
+fn add_all(rt: &impl Abort, alloc: Global, events: &mut Row<Event>, steps: &[Step])
+    ensures { AllByRecursion IsWithin events.old → AllByRecursion IsWithin events.new }
+{
+    for step in steps {
+        add(rt, events, step.event(rt, alloc));
+    }
 }
 
 /// The events of a transcript.
-fn events_of(alloc: Global, transcript: Transcript) -> Result<Row<Event>, Fail>
-    ensures { IfOk result (AllByRecursion IsWithin) }
+fn events_of(rt: &impl Abort, alloc: Global, transcript: &Transcript) -> Row<Event>
+    ensures { AllByRecursion IsWithin result }
 {
     let mut events = Row::empty(alloc);
     if transcript.is_sequel {
-        for step in FIRST {
-            add(&mut events, step.event(alloc)?)?;
-        }
+        add_all(rt, alloc, &mut events, &FIRST);
     }
-    for step in transcript.steps {
-        add(&mut events, step.event(alloc)?)?;
-    }
-    Ok(events)
-}
-
-/// What is expected of a transcript.
-fn due(alloc: Global, transcript: Transcript) -> Result<String, Fail> {
-    let mut text = String::new(alloc);
-    if transcript.is_sequel {
-        add_due(alloc, &FIRST_SAID, &mut text)?;
-    }
-    add_due(alloc, transcript.said, &mut text)?;
-    Ok(text)
+    add_all(rt, alloc, &mut events, transcript.steps);
+    events
 }
 
 /// What `run` says of the events of a transcript.
-fn told(alloc: Global, transcript: Transcript) -> Result<String, Fail> {
-    let mut world = start(alloc, transcript.document, transcript.is_strict)?;
+fn told(rt: &impl Abort, alloc: Global, transcript: &Transcript) -> Row<Line> {
+    let mut world = start(rt, alloc, transcript);
     let mut said = Row::empty(alloc);
-    world.run(events_of(alloc, transcript)?, &mut said)?;
-    text_of(alloc, said.as_slice())
+    let events = events_of(rt, alloc, transcript);
+    world.run(events, &mut said).expect(rt, "memory");
+    said
+}
+
+/// Asserts that `run` says what is due.
+fn run(rt: &impl Abort, alloc: Global, transcript: &Transcript) {
+    let said = told(rt, alloc, transcript);
+    let count = if transcript.is_sequel {
+        FIRST_SAID.len()
+    } else {
+        0
+    };
+    assert!(rt; count <= said.len(), "{}", transcript.name);
+    let (first, rest) = said.as_slice().split_at(count);
+    are_said(rt, alloc, first, &FIRST_SAID[..count], transcript.name);
+    are_said(rt, alloc, rest, transcript.said, transcript.name);
 }
 
 #[test]
-fn stores(rt: HostRuntime) -> Result<(), Fail> {
-    for transcript in STORES {
-        let told = told(rt.alloc(), transcript)?;
-        let due = due(rt.alloc(), transcript)?;
-        assert_eq!(rt; told.as_str(), due.as_str(), "{}", transcript.name);
+fn stores(rt: HostRuntime) {
+    for transcript in &STORES {
+        run(&rt, rt.alloc(), transcript);
     }
-    Ok(())
 }
 
 #[test]
-fn sequels(rt: HostRuntime) -> Result<(), Fail> {
-    for transcript in SEQUELS {
-        let told = told(rt.alloc(), transcript)?;
-        let due = due(rt.alloc(), transcript)?;
-        assert_eq!(rt; told.as_str(), due.as_str(), "{}", transcript.name);
+fn sequels(rt: HostRuntime) {
+    for transcript in &SEQUELS {
+        run(&rt, rt.alloc(), transcript);
     }
-    Ok(())
 }
 
 #[test]
-fn tokens(rt: HostRuntime) -> Result<(), Fail> {
-    for transcript in TOKENS {
-        let told = told(rt.alloc(), transcript)?;
-        let due = due(rt.alloc(), transcript)?;
-        assert_eq!(rt; told.as_str(), due.as_str(), "{}", transcript.name);
+fn tokens(rt: HostRuntime) {
+    for transcript in &TOKENS {
+        run(&rt, rt.alloc(), transcript);
     }
-    Ok(())
 }
 
-fn apply(world: &mut World, event: Event, said: &mut Row<Line>) -> Result<(), Fail> {
-    if !event.is_within() {
-        return Err(Fail::from("no such connection"));
-    }
-    world.apply(event, said)?;
-    Ok(())
+/// Takes an event on a connection that there may be.
+pub fn apply(rt: &impl Abort, world: &mut World, event: Event, said: &mut Row<Line>) {
+    assert!(rt; event.is_within());
+    world.apply(event, said).expect(rt, "memory");
 }
 
 #[test]
-fn counts(rt: HostRuntime) -> Result<(), Fail> {
+fn counts(rt: HostRuntime) {
     let alloc = rt.alloc();
-    let mut world = World::start(alloc, DOC)?;
+    let mut world = World::start(alloc, DOC).expect(&rt, "a document");
     let mut said = Row::empty(alloc);
     for step in FIRST {
-        apply(&mut world, step.event(alloc)?, &mut said)?;
+        apply(&rt, &mut world, step.event(&rt, alloc), &mut said);
     }
     let due = Counts {
         publications: 2,
         responses: 1,
         octets: 113,
     };
-    assert_eq!(rt; world.counts(), due);
-    world.apply(Event::Close { conn: 0 }, &mut said)?;
-    assert_eq!(rt; world.counts(), due);
-    Ok(())
+    assert!(rt; world.counts() == due);
+    apply(&rt, &mut world, Event::Close { conn: 0 }, &mut said);
+    assert!(rt; world.counts() == due);
 }

@@ -11,7 +11,6 @@ use std::os::unix::net::UnixStream;
 use std::process::Abort;
 use std::sync::Arc;
 use std::sync::atomic::AtomicBool;
-use std::test::Fail;
 use wl_document::DocFault;
 use wl_edge::{
     BEFORE_KEEPING, BEFORE_UPKEEP, EdgeFault, Gate, MemorySigner, MemorySink, MemoryUpstream,
@@ -131,7 +130,7 @@ fn signed(rt: &(impl AllocGlobal + Abort), not_before: u64, not_after: u64) -> S
 }
 
 #[test]
-fn failed_pulls_are_said_once(rt: HostRuntime) -> Result<(), Fail> {
+fn failed_pulls_are_said_once(rt: HostRuntime) {
     let alloc = rt.alloc();
     let (outlook, ours, mut theirs) = watched(&rt, &rt);
     let document = Octets::from_slice(alloc, GOOD).expect(&rt, "document");
@@ -152,7 +151,6 @@ fn failed_pulls_are_said_once(rt: HostRuntime) -> Result<(), Fail> {
     );
     assert_eq!(rt; numbers(&rt, &outlook), [2, 0, 0, 0]);
     drop(ours);
-    Ok(())
 }
 
 /// Whether two asks for an identity fail, the third gives one, and one for a token fails.
@@ -169,7 +167,7 @@ fn asks_twice_in_vain<S: Signer>(rt: &(impl AllocGlobal + Abort), signer: &mut S
 }
 
 #[test]
-fn failed_asks_are_said_for_each_entry(rt: HostRuntime) -> Result<(), Fail> {
+fn failed_asks_are_said_for_each_entry(rt: HostRuntime) {
     let (outlook, ours, mut theirs) = watched(&rt, &rt);
     let identities = late(&rt, signed(&rt, 100, 200));
     let mut saying = saying_signer(&rt, identities, one_more(&rt, &outlook));
@@ -184,11 +182,10 @@ fn failed_asks_are_said_for_each_entry(rt: HostRuntime) -> Result<(), Fail> {
     );
     assert!(rt; asked && numbers(&rt, &outlook) == [0, 1, 2, 1]);
     drop(ours);
-    Ok(())
 }
 
 #[test]
-fn early_identities_are_said(rt: HostRuntime) -> Result<(), Fail> {
+fn early_identities_are_said(rt: HostRuntime) {
     let (outlook, ours, mut theirs) = watched(&rt, &rt);
     let identity = signed(&rt, 9_000_000_000, 9_000_000_060);
     let identities = Script::start(row_of(&rt, identity), Row::empty(rt.alloc()));
@@ -205,7 +202,6 @@ fn early_identities_are_said(rt: HostRuntime) -> Result<(), Fail> {
                 == "level=info event=signed entry=\"e1\" not_after=9000000060;\
         level=warn event=identity_not_yet_valid entry=\"e1\" not_before=9000000000;"
     );
-    Ok(())
 }
 
 /// Says of this path that it can't be bound.
@@ -221,7 +217,7 @@ fn say_path(
 }
 
 #[test]
-fn unbound_paths_are_said(rt: HostRuntime) -> Result<(), Fail> {
+fn unbound_paths_are_said(rt: HostRuntime) {
     let (outlook, ours, mut theirs) = watched(&rt, &rt);
     say_path(&rt, &outlook, b"/a", BindFault::NotASocket, false);
     let refused = BindFault::Refused(ErrorKind::NotFound);
@@ -236,11 +232,10 @@ fn unbound_paths_are_said(rt: HostRuntime) -> Result<(), Fail> {
         level=error event=bind_failed path=\"/b\" cause=refused reason=not_found;\
         level=error event=bind_failed path=\"/b\" cause=stale_of_other_user;"
     );
-    Ok(())
 }
 
 #[test]
-fn serving_is_said_once_and_a_failed_seat_has_all_stop(rt: HostRuntime) -> Result<(), Fail> {
+fn serving_is_said_once_and_a_failed_seat_has_all_stop(rt: HostRuntime) {
     let (outlook, ours, mut theirs) = watched(&rt, &rt);
     let stop = Arc::new(rt.alloc(), Stop::start()).expect(&rt, "stop");
     let shared = Arc::try_clone(&stop).expect(&rt, "stop");
@@ -258,17 +253,15 @@ fn serving_is_said_once_and_a_failed_seat_has_all_stop(rt: HostRuntime) -> Resul
     let said = lines_of(&rt, &mut theirs);
     drop(ours);
     assert_eq!(rt; said.as_str(), "level=info event=serving sockets=3;");
-    Ok(())
 }
 
 #[test]
-fn first_line_is_kept(rt: HostRuntime) -> Result<(), Fail> {
+fn first_line_is_kept(rt: HostRuntime) {
     let alloc = rt.alloc();
-    let sink = MemorySink::start(alloc, 9, 9_000, 9_000, Row::empty(alloc))?;
+    let sink = MemorySink::start(alloc, 9, 9_000, 9_000, Row::empty(alloc)).expect(&rt, "a sink");
     let mut keeping = KeepingSink::start(alloc, sink);
     keeping.write(b"fault config");
     keeping.write(b" 1\nmore");
     keeping.write(&[b'a'; 300]);
     assert_eq!(rt; keeping.first_line(), b"fault config 1".as_slice());
-    Ok(())
 }

@@ -1,7 +1,7 @@
 //! Events of the worked transcripts.
 
 use std::alloc::Global;
-use std::test::Fail;
+use std::process::Abort;
 use wl_core::Event;
 use wl_entry::{JwtToken, Signed};
 use wl_octets::Octets;
@@ -26,51 +26,60 @@ pub enum Step {
     Close(u32),
 }
 
-fn selectors(alloc: Global, selector: &[u8]) -> Result<Selectors, Fail> {
+/// The set of this selector alone.
+pub fn selectors(rt: &impl Abort, alloc: Global, selector: &[u8]) -> Selectors {
     let mut items = Vec::new(alloc);
-    items.push(Selector::parse(alloc, selector)?)?;
-    Ok(Selectors::from_list(alloc, items, 64)?)
+    let selector = Selector::parse(alloc, selector).expect(rt, "a selector");
+    items.push(selector).expect(rt, "memory");
+    Selectors::from_list(alloc, items, 64).expect(rt, "selectors")
 }
 
 /// These bytes, one part after the other.
-pub fn joined(alloc: Global, parts: &[&[u8]]) -> Result<Octets, Fail> {
+fn joined(rt: &impl Abort, alloc: Global, parts: &[&[u8]]) -> Octets {
     let mut bytes = Octets::empty(alloc);
     for part in parts {
-        bytes.push_slice(part)?;
+        bytes.push_slice(part).expect(rt, "memory");
     }
-    Ok(bytes)
+    bytes
 }
 
-fn octets(alloc: Global, bytes: &[u8]) -> Result<Octets, Fail> {
-    Ok(Octets::from_slice(alloc, bytes)?)
+pub fn octets(rt: &impl Abort, alloc: Global, bytes: &[u8]) -> Octets {
+    Octets::from_slice(alloc, bytes).expect(rt, "memory")
 }
 
 impl Step {
     /// The event.
-    pub fn event(self, alloc: Global) -> Result<Event, Fail> {
-        Ok(match self {
+    pub fn event(self, rt: &impl Abort, alloc: Global) -> Event {
+        match self {
             Step::Sync(document) => Event::Sync {
-                document: octets(alloc, document)?,
+                document: octets(rt, alloc, document),
             },
             Step::Claim(now) => Event::Claim { now },
             Step::Signed(ticket, chain, key, not_before, not_after, now) => Event::Signed {
                 ticket,
                 signed: Signed {
-                    chain: octets(alloc, chain)?,
-                    key: octets(alloc, key)?,
+                    chain: octets(rt, alloc, chain),
+                    key: octets(rt, alloc, key),
                     not_before,
                     not_after,
                 },
                 now,
             },
             Step::Failed(ticket) => Event::Failed { ticket },
+            step => step.event_of_connection(rt, alloc),
+        }
+    }
+
+    /// The event of a step of a connection.
+    fn event_of_connection(self, rt: &impl Abort, alloc: Global) -> Event {
+        match self {
             Step::Join(conn, selector) => Event::Join {
                 conn,
-                selectors: selectors(alloc, selector)?,
+                selectors: selectors(rt, alloc, selector),
             },
             Step::Name(conn, selector) => Event::Name {
                 conn,
-                selectors: Some(selectors(alloc, selector)?),
+                selectors: Some(selectors(rt, alloc, selector)),
             },
             Step::NameFail(conn) => Event::Name {
                 conn,
@@ -78,14 +87,14 @@ impl Step {
             },
             Step::Feed(conn, parts) => Event::Feed {
                 conn,
-                piece: joined(alloc, parts)?,
+                piece: joined(rt, alloc, parts),
             },
             Step::Turn(conn) => Event::Turn { conn },
             Step::Token(conn, now, token, issued_at, expires_at) => Event::Token {
                 conn,
                 now,
                 signed: Some(JwtToken {
-                    token: octets(alloc, token)?,
+                    token: octets(rt, alloc, token),
                     issued_at,
                     expires_at,
                 }),
@@ -96,6 +105,7 @@ impl Step {
                 signed: None,
             },
             Step::Close(conn) => Event::Close { conn },
-        })
+            _ => panic!(rt; "a step of no connection"),
+        }
     }
 }
