@@ -2,7 +2,7 @@
 """Header blocks encoded by Debian's python3-hpack, for the tests of the crate `hpack`.
 
 Prints a script: a line `new` begins a connection, a line `> HEX` is its next block, and the lines after it are the
-headers that the block names. Run once; its text stands in crates/hpack/src/vectors.rt.
+headers that the block names. Run once; its text stands in crates/wire_tests/src/hpack_tests/vectors.rt.
 """
 
 import hpack

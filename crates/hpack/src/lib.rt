@@ -15,10 +15,6 @@ mod integers;
 pub mod limit;
 mod static_table;
 mod tables;
-#[cfg(test)]
-mod tests;
-#[cfg(test)]
-mod vectors;
 
 pub use decoder::Decoder;
 pub use encode::encode_plain;

@@ -7,8 +7,6 @@
 mod log;
 mod notifier;
 mod output;
-#[cfg(test)]
-mod tests;
 
 pub use log::Log;
 pub use notifier::Notifier;

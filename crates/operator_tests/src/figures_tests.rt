@@ -2,7 +2,7 @@
 
 use figures::*;
 use std::alloc::AllocGlobal;
-use std::test::Fail;
+use std::process::Abort;
 use wl_octets::{Octets, Row};
 
 /// What is counted below.
@@ -57,11 +57,16 @@ agentd_log_lines_dropped_total 5
 process_start_time_seconds 1795929000
 ";
 
+fn octets(rt: &(impl AllocGlobal + Abort), bytes: &[u8]) -> Octets {
+    Octets::from_slice(rt.alloc(), bytes).expect(rt, "memory")
+}
+
 #[test]
-fn page_has_what_was_counted(rt: HostRuntime) -> Result<(), Fail> {
+fn page_has_what_was_counted(rt: HostRuntime) {
     let alloc = rt.alloc();
     let mut counters = Counters::start(alloc);
-    counters.add_socket(alloc, &Octets::from_slice(alloc, b"/run/a\"b")?)?;
+    let socket = octets(&rt, b"/run/a\"b");
+    counters.add_socket(alloc, &socket).expect(&rt, "memory");
     counters.count_document(DocumentResult::Failed);
     counters.count_document(DocumentResult::Taken);
     counters.note_came(1_000);
@@ -77,36 +82,44 @@ fn page_has_what_was_counted(rt: HostRuntime) -> Result<(), Fail> {
         missing: 2,
         next_end: Some(300),
     };
-    let figures = counters.figures(alloc, 5_999, 1_795_929_000, 5, identities)?;
-    let text = metrics_text(alloc, &figures)?;
+    let figures = counters.figures(alloc, 5_999, 1_795_929_000, 5, identities);
+    let figures = figures.expect(&rt, "memory");
+    let text = metrics_text(alloc, &figures).expect(&rt, "memory");
     assert_eq!(rt; text.as_slice(), PAGE);
-    Ok(())
+    drop(figures);
+}
+
+/// The entry `we\nb` alone, which lacks its identity.
+fn lacking(rt: &(impl AllocGlobal + Abort)) -> Row<Lacking> {
+    let id = octets(rt, b"we\nb");
+    let entry = EntryId::of_entry(rt.alloc(), &id).expect(rt, "memory");
+    let lacking = Lacking { entry, seconds: 75 };
+    Row::from_vec(vec![in rt.alloc(); lacking].expect(rt, "memory"))
+}
+
+/// Asserts what a page says of this health.
+fn says(rt: &(impl AllocGlobal + Abort), health: &Health, text: &[u8]) {
+    let said = ready_text(rt.alloc(), health).expect(rt, "memory");
+    assert_eq!(rt; said.as_slice(), text);
 }
 
 #[test]
-fn health_is_written_in_lines(rt: HostRuntime) -> Result<(), Fail> {
-    let alloc = rt.alloc();
-    let entry = EntryId::of_entry(alloc, &Octets::from_slice(alloc, b"we\nb")?)?;
-    let mut lacking = Vec::new(alloc);
-    lacking.push(Lacking { entry, seconds: 75 })?;
+fn health_is_written_in_lines(rt: HostRuntime) {
     let mut health = Health {
         is_live: true,
         has_document: false,
-        lacking: Row::from_vec(lacking),
+        lacking: lacking(&rt),
     };
-    assert_eq!(rt;
-        ready_text(alloc, &health)?.as_slice(),
-        b"no document was taken\n".as_slice()
-    );
+    says(&rt, &health, b"no document was taken\n");
     health.has_document = true;
-    let line = b"entry \"we\\nb\" has had no identity for 75 s\n".as_slice();
-    assert_eq!(rt; ready_text(alloc, &health)?.as_slice(), line);
-    assert!(rt; !health.is_ready());
-    health.lacking = Row::empty(alloc);
-    assert_eq!(rt;
-        ready_text(alloc, &health)?.as_slice(),
-        b"ready\n".as_slice()
+    says(
+        &rt,
+        &health,
+        b"entry \"we\\nb\" has had no identity for 75 s\n",
     );
+    assert!(rt; !health.is_ready());
+    health.lacking = Row::empty(rt.alloc());
+    says(&rt, &health, b"ready\n");
     assert_eq!(rt; live_text(health.is_live), b"live\n".as_slice());
-    Ok(())
+    drop(health);
 }

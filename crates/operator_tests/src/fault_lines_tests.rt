@@ -1,6 +1,8 @@
+//! Fault lines as sentences, and other lines.
+
 use fault_lines::explain_text;
 use std::alloc::AllocGlobal;
-use std::test::Fail;
+use std::process::Abort;
 
 /// A line, and what is written for it.
 type Case = (&'static str, &'static str);
@@ -214,38 +216,36 @@ const OTHERS: [&str; 14] = [
     "ok entries=2 bundles=2 svids=2",
 ];
 
-/// Whether this line becomes that one.
-fn becomes<R: AllocGlobal>(rt: &R, line: &str, wanted: &str) -> Result<bool, Fail> {
-    let found = explain_text(rt.alloc(), line.as_bytes())?;
-    Ok(found.as_slice() == wanted.as_bytes())
+/// Asserts that this line becomes that one.
+fn becomes(rt: &(impl AllocGlobal + Abort), line: &str, wanted: &str) {
+    let found = explain_text(rt.alloc(), line.as_bytes()).expect(rt, "memory");
+    assert_eq!(rt; found.as_slice(), wanted.as_bytes(), "{line}");
+}
+
+/// Asserts that the line of each case becomes the other.
+fn become_so(rt: &(impl AllocGlobal + Abort), cases: &[Case]) {
+    for (line, wanted) in cases {
+        becomes(rt, line, wanted);
+    }
 }
 
 #[test]
-fn sentences(rt: HostRuntime) -> Result<(), Fail> {
-    for (line, wanted) in &DOCUMENTS {
-        assert!(rt; becomes(&rt, line, wanted)?, "{line}");
-    }
-    for (line, wanted) in &CONFIGS {
-        assert!(rt; becomes(&rt, line, wanted)?, "{line}");
-    }
-    for (line, wanted) in &SCRIPTS {
-        assert!(rt; becomes(&rt, line, wanted)?, "{line}");
-    }
-    Ok(())
+fn sentences(rt: HostRuntime) {
+    become_so(&rt, &DOCUMENTS);
+    become_so(&rt, &CONFIGS);
+    become_so(&rt, &SCRIPTS);
 }
 
 #[test]
-fn other_lines(rt: HostRuntime) -> Result<(), Fail> {
+fn other_lines(rt: HostRuntime) {
     for line in &OTHERS {
-        assert!(rt; becomes(&rt, line, line)?, "{line}");
+        becomes(&rt, line, line);
     }
-    Ok(())
 }
 
 #[test]
-fn lines_in_order(rt: HostRuntime) -> Result<(), Fail> {
+fn lines_in_order(rt: HostRuntime) {
     let text = "a\nfault document 2\n\nfault script 6\nb\n";
     let wanted = "a\nversion: is neither 1 nor 2\n\nscript: memory ran out\nb\n";
-    assert!(rt; becomes(&rt, text, wanted)?);
-    Ok(())
+    becomes(&rt, text, wanted);
 }

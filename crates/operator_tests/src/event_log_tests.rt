@@ -1,0 +1,107 @@
+//! Lines of events, as an operator reads them.
+
+use event_log::*;
+use spiffe_id::SpiffeId;
+use std::alloc::AllocGlobal;
+use std::io::ErrorKind;
+use std::process::Abort;
+use wl_entry::Ask;
+use wl_octets::{Octets, Row};
+
+/// 2026-11-29T05:10:00Z.
+const TIME: u64 = 1_795_929_000;
+
+fn octets(rt: &(impl AllocGlobal + Abort), bytes: &[u8]) -> Octets {
+    Octets::from_slice(rt.alloc(), bytes).expect(rt, "memory")
+}
+
+/// The line of an event at that time.
+fn line_of(rt: &(impl AllocGlobal + Abort), event: &Event<'_>, held: u64) -> Octets {
+    let mut out = Octets::empty(rt.alloc());
+    let time = TimeText::at(rt.alloc(), TIME).expect(rt, "memory");
+    put_line(rt.alloc(), &mut out, &time, event, held).expect(rt, "memory");
+    out
+}
+
+/// Asserts that the line of an event begins with its time, and goes on so.
+fn says(rt: &(impl AllocGlobal + Abort), event: &Event<'_>, held: u64, rest: &[u8]) {
+    let line = line_of(rt, event, held);
+    let time = b"ts=2026-11-29T05:10:00Z ".as_slice();
+    assert_eq!(rt; line.as_slice().get(..24), Some(time));
+    assert_eq!(rt; line.as_slice().get(24..), Some(rest));
+}
+
+/// Asserts that the line of an event ends so.
+fn ends(rt: &(impl AllocGlobal + Abort), event: &Event<'_>, end: &[u8]) {
+    assert!(rt; line_of(rt, event, 0).as_slice().ends_with(end), "{end:?}");
+}
+
+#[test]
+fn paths_and_causes_stand_in_lines(rt: HostRuntime) {
+    let name = octets(&rt, b"/run/a\\b.sock");
+    let path = PathText::of_configuration(rt.alloc(), &name).expect(&rt, "memory");
+    let reason = Reason::of_kind(ErrorKind::PermissionDenied);
+    let refused = Event::BindFailed(&path, BindCause::Refused(reason));
+    says(
+        &rt,
+        &refused,
+        0,
+        b"level=error event=bind_failed path=\"/run/a\\\\b.sock\" cause=refused reason=permission_denied\n",
+    );
+    ends(
+        &rt,
+        &Event::BindFailed(&path, BindCause::Taken),
+        b" cause=taken\n",
+    );
+}
+
+/// An ask for an entry with a name that is no plain word.
+fn ask(rt: &(impl AllocGlobal + Abort)) -> Ask {
+    Ask {
+        entry_id: octets(rt, b"e \"1\"\n\xc3"),
+        spiffe_id: SpiffeId::parse(rt.alloc(), b"spiffe://a.b/one").expect(rt, "an id"),
+        dns_names: Row::empty(rt.alloc()),
+        ttl: 60,
+    }
+}
+
+#[test]
+fn ids_are_escaped_and_repeats_are_told(rt: HostRuntime) {
+    let ask = ask(&rt);
+    says(
+        &rt,
+        &Event::SigningFailed(&ask, SignCause::NoAnswer),
+        7,
+        b"level=warn event=signing_failed entry=\"e \\\"1\\\"\\u000a\\u00c3\" cause=no_answer repeated=7\n",
+    );
+    ends(
+        &rt,
+        &Event::Signed(&ask, TIME),
+        b"\\u00c3\" not_after=1795929000\n",
+    );
+    drop(ask);
+}
+
+#[test]
+fn faults_have_their_sentence(rt: HostRuntime) {
+    let read = FaultLine::read(rt.alloc(), b"fault document 5 2 0 2 0 4 9");
+    let fault = read.expect(&rt, "memory").expect(&rt, "a fault line");
+    says(
+        &rt,
+        &Event::FirstDocumentRefused(&fault),
+        0,
+        b"level=error event=first_document_refused fault=\"fault document 5 2 0 2 0 4 9\" text=\"entries[0].spiffe_id: byte 9 may not stand in a trust domain name\"\n",
+    );
+    let other = FaultLine::read(rt.alloc(), b"-----BEGIN");
+    assert!(rt; other.expect(&rt, "memory").is_none());
+}
+
+#[test]
+fn what_stands_still_is_said_once_a_minute(rt: HostRuntime) {
+    let mut slot = Slot::empty();
+    assert_eq!(rt; slot.admit(TIME), Some(0));
+    assert_eq!(rt; slot.admit(TIME + 1), None);
+    assert_eq!(rt; slot.admit(TIME + 59), None);
+    assert!(rt; !slot.is_due(TIME + 59) && slot.is_due(TIME + MINUTE));
+    assert_eq!(rt; slot.admit(TIME + MINUTE), Some(2));
+}

@@ -1,0 +1,204 @@
+//! What is said and counted of documents, and which entries lack an identity.
+
+use event_log::{FaultLine, Level};
+use figures::{Counters, Shows, SigningKind, SigningResult};
+use log_output::{Log, LogOutput};
+use spiffe_id::{SpiffeId, TrustDomain};
+use std::alloc::{AllocGlobal, Global};
+use std::io::Read;
+use std::os::fd::AsRawFd;
+use std::os::unix::net::UnixStream;
+use std::process::Abort;
+use std::sync::Arc;
+use wl_document::DocFault;
+use wl_entry::{Ask, Entry};
+use wl_octets::{Memory, Octets, Row};
+use wl_outlook::*;
+use wl_selector::Selectors;
+
+/// A document with no entry.
+const GOOD: &[u8] =
+    br#"{"version":1,"trust_domain":"a.b","bundles":[{"trust_domain":"a.b","x509":"AQ=="}],"entries":[]}"#;
+
+/// One with a fault.
+const BAD: &[u8] = b"{\"version\":9}";
+
+/// Calls each fault by one name.
+#[derive(Drop)]
+struct OneName;
+
+impl FaultLines for OneName {
+    fn line_of(&self, alloc: Global, _fault: DocFault) -> Result<Option<FaultLine>, Memory> {
+        FaultLine::read(alloc, b"fault document 2")
+    }
+}
+
+/// What is known of an agent, and both ends of its log.
+fn watched(
+    own: &HostRuntime,
+    rt: &(impl AllocGlobal + Abort),
+) -> (Arc<Outlook>, UnixStream, UnixStream) {
+    let alloc = rt.alloc();
+    let (ours, theirs) = UnixStream::pair(own).expect(rt, "streams");
+    let output = LogOutput::over(ours.as_raw_fd(), false);
+    let log = Log::over(own.clone().expect(rt, "runtime"), output, Level::Info, None);
+    let log = Arc::new(alloc, log).expect(rt, "log");
+    let outlook = Outlook::start(alloc, log, Counters::start(alloc));
+    (Arc::new(alloc, outlook).expect(rt, "outlook"), ours, theirs)
+}
+
+/// What the log says so far.
+fn text_of(rt: &(impl AllocGlobal + Abort), reader: &mut UnixStream) -> String {
+    let mut bytes = [0u8; 2_000];
+    let count = reader.read(&mut bytes).expect(rt, "lines");
+    let text = str::from_utf8(bytes.get(..count).unwrap_or(&[])).expect(rt, "text");
+    String::from_str(rt.alloc(), text).expect(rt, "memory")
+}
+
+/// Whether threads may share it.
+fn is_shared<T: Send + Sync>(_value: &T) -> bool {
+    true
+}
+
+/// The judge takes two good documents and two of the other.
+fn judge_four(rt: &(impl AllocGlobal + Abort), outlook: &Arc<Outlook>) {
+    let owner = Arc::try_clone(outlook).expect(rt, "owner");
+    let mut judge = DocumentJudge::start(rt.alloc(), owner, OneName);
+    for document in [GOOD, GOOD, BAD, BAD] {
+        judge.note_document(document);
+    }
+}
+
+/// Asserts what was counted of them.
+fn counts_four(rt: &(impl AllocGlobal + Abort), outlook: &Outlook) {
+    let figures = outlook.figures().expect(rt, "figures");
+    let documents = figures.documents;
+    assert_eq!(rt;
+        (documents.taken, documents.refused, documents.failed),
+        (2, 2, 0)
+    );
+    assert_eq!(rt;
+        (figures.entries, figures.bundles, figures.document_age),
+        (0, 1, Some(0))
+    );
+    drop(figures);
+}
+
+fn is_ready(rt: &(impl AllocGlobal + Abort), outlook: &Outlook) -> bool {
+    let health = outlook.health().expect(rt, "health");
+    let ready = health.is_ready();
+    drop(health);
+    ready
+}
+
+#[test]
+fn documents_are_counted_and_judged_once(rt: HostRuntime) {
+    let (outlook, _ours, mut theirs) = watched(&rt, &rt);
+    assert!(rt; !is_ready(&rt, &outlook));
+    judge_four(&rt, &outlook);
+    counts_four(&rt, &outlook);
+    assert!(rt; is_ready(&rt, &outlook) && is_shared(&outlook));
+    let said = text_of(&rt, &mut theirs);
+    let taken = "level=info event=document_taken entries=0 bundles=1\n";
+    let refused =
+        "level=warn event=document_refused fault=\"fault document 2\" text=\"version: is neither 1 nor 2\"\n";
+    assert!(rt; said.lines().count() == 2 && said.contains(taken) && said.contains(refused));
+}
+
+#[test]
+fn what_is_noted_is_counted(rt: HostRuntime) {
+    let (outlook, _ours, _theirs) = watched(&rt, &rt);
+    outlook.note_ask(SigningKind::X509, SigningResult::Signed, 0);
+    outlook.note_ask(SigningKind::Jwt, SigningResult::Failed, 0);
+    outlook.note_opened(0);
+    outlook.note_closed(0);
+    outlook.note_step();
+    let figures = outlook.figures().expect(&rt, "figures");
+    assert_eq!(rt; (figures.x509.signed, figures.jwt.failed), (1, 1));
+    assert_eq!(rt; figures.seconds.count, 2);
+    drop(figures);
+    let health = outlook.health().expect(&rt, "health");
+    assert!(rt; health.is_live);
+    drop(health);
+}
+
+fn octets(rt: &(impl AllocGlobal + Abort), bytes: &[u8]) -> Octets {
+    Octets::from_slice(rt.alloc(), bytes).expect(rt, "memory")
+}
+
+fn spiffe_id(rt: &(impl AllocGlobal + Abort)) -> SpiffeId {
+    SpiffeId::parse(rt.alloc(), b"spiffe://a.b/one").expect(rt, "an id")
+}
+
+/// An identity of the entry with this id was signed, and ends then.
+fn sign(rt: &(impl AllocGlobal + Abort), standing: &mut Standing, id: &[u8], end: u64) {
+    let ask = Ask {
+        entry_id: octets(rt, id),
+        spiffe_id: spiffe_id(rt),
+        dns_names: Row::empty(rt.alloc()),
+        ttl: 60,
+    };
+    standing.note_signed(&ask, end);
+    drop(ask);
+}
+
+/// An entry with this id, whose identity lasts so long.
+fn entry(rt: &(impl AllocGlobal + Abort), id: &[u8], ttl: u32) -> Entry {
+    let none = Selectors::from_list(rt.alloc(), Vec::new(rt.alloc()), 1);
+    Entry {
+        id: octets(rt, id),
+        spiffe_id: spiffe_id(rt),
+        selectors: none.expect(rt, "a set"),
+        federates_with: Row::<TrustDomain>::empty(rt.alloc()),
+        dns_names: Row::empty(rt.alloc()),
+        ttl,
+        hint: Octets::empty(rt.alloc()),
+    }
+}
+
+/// A document comes then with the entries `one` and `two`, of which the second one's identity lasts so long.
+fn take(rt: &(impl AllocGlobal + Abort), standing: &mut Standing, ttl: u32, now: u64) {
+    let entries = [entry(rt, b"one", 60), entry(rt, b"two", ttl)];
+    standing.take_document(&entries, now).expect(rt, "memory");
+    drop(entries);
+}
+
+/// Asserts how many entries lack an identity then.
+fn lack(rt: &(impl AllocGlobal + Abort), standing: &Standing, now: u64, count: usize) {
+    let lacking = standing.lacking(now).expect(rt, "memory");
+    assert_eq!(rt; lacking.len(), count, "at {now}");
+}
+
+#[test]
+fn entries_lack_identities_after_a_minute(rt: HostRuntime) {
+    let mut standing = Standing::start(rt.alloc());
+    assert!(rt; !standing.has_document());
+    take(&rt, &mut standing, 60, 1_000);
+    lack(&rt, &standing, 1_060, 0);
+    lack(&rt, &standing, 1_061, 2);
+    sign(&rt, &mut standing, b"one", 1_100);
+    sign(&rt, &mut standing, b"three", 1_100);
+    lack(&rt, &standing, 1_061, 1);
+    lack(&rt, &standing, 1_161, 2);
+    take(&rt, &mut standing, 90, 1_150);
+    lack(&rt, &standing, 1_161, 1);
+}
+
+#[test]
+fn ended_identities_are_said_once(rt: HostRuntime) {
+    let (outlook, _ours, mut theirs) = watched(&rt, &rt);
+    let mut standing = Standing::start(rt.alloc());
+    take(&rt, &mut standing, 60, 1_000);
+    sign(&rt, &mut standing, b"one", 1_100);
+    let identities = standing.identities(1_050);
+    assert_eq!(rt;
+        (identities.kept, identities.missing, identities.next_end),
+        (1, 1, Some(50))
+    );
+    for now in [1_099, 1_100, 1_101] {
+        standing.say_ended(outlook.log(), now);
+    }
+    let said = text_of(&rt, &mut theirs);
+    assert_eq!(rt; said.lines().count(), 1);
+    assert!(rt; said.ends_with("level=warn event=identity_ended entry=\"one\"\n"));
+}
