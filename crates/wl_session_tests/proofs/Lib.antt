@@ -1,2 +1,1 @@
-mod EveryAnswer
 mod Samples

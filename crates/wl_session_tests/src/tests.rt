@@ -7,513 +7,229 @@ mod frames;
 mod publications;
 mod sequences;
 
-ghost use Rattle.std.specs.Prelude.{◌≡◌, ◌<◌, IfOk, OnOk, None};
+ghost use Rattle.std.specs.Prelude.{◌≡◌, ◌<◌, None};
 ghost use Rattle.wl_snapshot.specs.Snapshots.{Publication};
 ghost use Rattle.wl_session.specs.Sessions.{unnamed_in};
 ghost use Rattle.wl_session.specs.Settled.{MayTurn};
 
 use broken::{Broken, FAULTS, LONGEST};
-use callers::{Caller, Stop, attested};
-use cases::{ANSWERS, Case, HEADS, HEALTH, REQUESTS};
-use frames::{
-    ACK, AUDIENCE_X, CREDIT_5, DATA_M, EMPTY, GOAWAY, GREETING, HEAD, JWT_HEAD, OPENING,
-    RESPONSE_HEAD,
-};
+use callers::{Caller, attested};
+use cases::{ANSWERS, ASKED, Case, FIRST_RESPONSE, HEADS, HEALTH, REQUESTS};
+use frames::{GOAWAY, OPENING};
 use publications::{State, following, publication};
 use sequences::{CALLS, Outcome, PUBLICATIONS, Round, Sequence, TOKENS, WINDOWS};
 use std::alloc::{AllocGlobal, Global};
-use std::test::Fail;
+use std::process::Abort;
 use wl_entry::JwtToken;
 use wl_match::Index;
-use wl_octets::{Memory, Octets};
+use wl_octets::Octets;
 use wl_session::{JwtOutcome, Session, SessionFault};
 use wl_snapshot::Snapshot;
 
-fn joined(alloc: Global, parts: &[&[u8]]) -> Result<Octets, Memory> {
+/// Parts, each so many times.
+fn repeated(rt: &impl Abort, alloc: Global, parts: &[(&[u8], u32)]) -> Octets {
+    let mut all = Octets::empty(alloc);
+    for (part, times) in parts {
+        for _ in 0..*times {
+            all.push_slice(part).expect(rt, "memory");
+        }
+    }
+    all
+}
+
+fn joined(rt: &impl Abort, alloc: Global, parts: &[&[u8]]) -> Octets {
     let mut all = Octets::empty(alloc);
     for part in parts {
-        all.push_slice(part)?;
+        all.push_slice(part).expect(rt, "memory");
     }
-    Ok(all)
+    all
 }
 
 /// Whether these bytes are the parts, one after the other.
 fn are_parts(bytes: &[u8], parts: &[&[u8]]) -> bool {
     let mut rest = bytes;
     for part in parts {
-        if rest.len() < part.len() {
-            return false;
+        match rest.strip_prefix(*part) {
+            Some(next) => rest = next,
+            None => return false,
         }
-        let (front, back) = rest.split_at(part.len());
-        if front != *part {
-            return false;
-        }
-        rest = back;
     }
     rest.is_empty()
 }
 
 /// A session on which no turn was taken.
 #[tactic(auto, using(wl_session::proofs::TurnPublications::fresh_follows))]
-fn fresh(alloc: Global) -> Result<Session, Stop>
-    ensures { IfOk result (λ s. (x : Publication) → MayTurn x s) }
+fn fresh(rt: &impl Abort, alloc: Global) -> Session
+    ensures { (x : Publication) → MayTurn x result }
 {
-    let session = Session::start(alloc)?;
-    Ok(session)
+    Session::start(alloc).expect(rt, "memory")
 }
 
-/// The call that is not named, if there is one, takes its name.
+/// The call that is not named, if there is one, takes its name. There is no other.
 #[tactic(auto, using(wl_session::proofs::TurnPublications::names_follow))]
-fn name(alloc: Global, session: &mut Session, caller: Caller, out: &mut Octets) -> Result<(), Stop>
-    ensures keeps { OnOk result ((x : Publication) → MayTurn x session.old → MayTurn x session.new) }
+fn name(rt: &impl Abort, alloc: Global, session: &mut Session, caller: Caller, out: &mut Octets)
+    ensures keeps { (x : Publication) → MayTurn x session.old → MayTurn x session.new }
+    ensures named { unnamed_in session.new ≡ None }
 {
     if session.unnamed().is_none() {
-        return Ok(());
+        return;
     }
-    let selectors = attested(alloc, caller)?;
-    Ok(session.name(selectors, out)?)
-}
-
-#[tactic(auto, using(wl_session::proofs::TurnPublications::feeds_follow))]
-fn hear(alloc: Global, session: &mut Session, parts: &[&[u8]], out: &mut Octets) -> Result<(), Stop>
-    ensures keeps { OnOk result ((x : Publication) → MayTurn x session.old → MayTurn x session.new) }
-{
-    let bytes = joined(alloc, parts)?;
-    Ok(session.feed(bytes.as_slice(), out)?)
-}
-
-/// Whether no call is unnamed.
-fn all_named(session: &Session) -> Result<(), Stop>
-    ensures named { OnOk result (unnamed_in session.now ≡ None) }
-{
-    match session.unnamed() {
-        None => Ok(()),
-        Some(_) => Err(Stop::Calls),
-    }
-}
-
-/// Bytes, and then a name for the call that they make ready.
-fn feed(
-    alloc: Global,
-    session: &mut Session,
-    caller: Caller,
-    parts: &[&[u8]],
-    out: &mut Octets,
-) -> Result<(), Stop>
-    ensures keeps { OnOk result ((x : Publication) → MayTurn x session.old → MayTurn x session.new) }
-    ensures named { OnOk result (unnamed_in session.new ≡ None) }
-{
-    hear(alloc, session, parts, out)?;
-    name(alloc, session, caller, out)?;
-    all_named(session)
-}
-
-/// A session of which these bytes came, and what it wrote.
-fn fed(alloc: Global, caller: Caller, parts: &[&[u8]]) -> Result<(Session, Octets), Stop>
-    ensures may { IfOk result (λ p. (x : Publication) → MayTurn x p.0) }
-    ensures named { IfOk result (λ p. unnamed_in p.0 ≡ None) }
-{
-    let mut session = fresh(alloc)?;
-    let mut out = Octets::empty(alloc);
-    feed(alloc, &mut session, caller, parts, &mut out)?;
-    Ok((session, out))
-}
-
-/// Whether each of two turns writes what is due: this, and then nothing.
-#[tactic(auto, using(wl_session::proofs::TurnPublications::turns_again))]
-fn answers(
-    alloc: Global,
-    mut session: Session,
-    snapshot: &Snapshot,
-    due: &[&[u8]],
-) -> Result<bool, Stop>
-    requires follows { MayTurn snapshot.now session }
-    requires named { unnamed_in session ≡ None }
-{
-    let mut first = Octets::empty(alloc);
-    session.turn(snapshot, &mut first)?;
-    if session.unnamed().is_some() {
-        return Ok(false);
-    }
-    let mut second = Octets::empty(alloc);
-    session.turn(snapshot, &mut second)?;
-    Ok(are_parts(first.as_slice(), due) && second.len() == 0)
-}
-
-/// Whether a turn by the index of the entries writes what is due, and one on the same views nothing.
-#[tactic(auto, using(wl_session::proofs::TurnPublications::turns_again, wl_session::proofs::ViewFacts::turns_shown))]
-fn answers_by_index(
-    alloc: Global,
-    mut session: Session,
-    snapshot: &Snapshot,
-    due: &[&[u8]],
-) -> Result<bool, Stop>
-    requires follows { MayTurn snapshot.now session }
-    requires named { unnamed_in session ≡ None }
-{
-    let index = Index::build(alloc, snapshot.entries.part().as_slice())?;
-    let mut first = Octets::empty(alloc);
-    session.turn_by(snapshot, &index, &mut first)?;
-    if session.unnamed().is_some() {
-        return Ok(false);
-    }
-    let mut second = Octets::empty(alloc);
-    session.turn_unchanged(snapshot, &index, &mut second)?;
-    Ok(are_parts(first.as_slice(), due) && second.len() == 0)
-}
-
-/// Whether a case writes what is due before its turn.
-fn is_start_due(alloc: Global, case: &Case) -> Result<bool, Stop> {
-    let (_, out) = fed(alloc, case.caller, case.fed)?;
-    Ok(are_parts(out.as_slice(), case.wrote))
-}
-
-/// Whether its turn does.
-fn is_turn_due(alloc: Global, case: &Case, snapshot: &Snapshot) -> Result<bool, Stop> {
-    let (session, _) = fed(alloc, case.caller, case.fed)?;
-    answers(alloc, session, snapshot, case.answered)
-}
-
-/// Whether its turn by the index does.
-fn is_indexed_turn_due(alloc: Global, case: &Case, snapshot: &Snapshot) -> Result<bool, Stop> {
-    let (session, _) = fed(alloc, case.caller, case.fed)?;
-    answers_by_index(alloc, session, snapshot, case.answered)
-}
-
-fn is_due(alloc: Global, case: &Case, snapshot: &Snapshot) -> Result<bool, Stop> {
-    let start = is_start_due(alloc, case)?;
-    let turn = is_turn_due(alloc, case, snapshot)?;
-    let indexed = is_indexed_turn_due(alloc, case, snapshot)?;
-    Ok(start && turn && indexed)
-}
-
-/// The name of the first case that writes something else than what is due.
-fn wrong_case(
-    alloc: Global,
-    cases: &[Case],
-    snapshot: &Snapshot,
-) -> Result<Option<&'static str>, Stop> {
-    for case in cases {
-        if !is_due(alloc, case, snapshot)? {
-            return Ok(Some(case.name));
-        }
-    }
-    Ok(None)
-}
-
-/// The same on the publication of the worked document.
-fn first_wrong(alloc: Global, cases: &[Case]) -> Result<Option<&'static str>, Stop> {
-    let snapshot = publication(alloc, 1, State::Document)?;
-    wrong_case(alloc, cases, &snapshot)
-}
-
-#[test]
-fn heads_are_refused(rt: HostRuntime) -> Result<(), Fail> {
-    assert_eq!(rt; first_wrong(rt.alloc(), &HEADS)?, None);
-    Ok(())
-}
-
-#[test]
-fn requests_are_refused(rt: HostRuntime) -> Result<(), Fail> {
-    assert_eq!(rt; first_wrong(rt.alloc(), &REQUESTS)?, None);
-    Ok(())
-}
-
-#[test]
-fn calls_are_answered(rt: HostRuntime) -> Result<(), Fail> {
-    assert_eq!(rt; first_wrong(rt.alloc(), &ANSWERS)?, None);
-    Ok(())
-}
-
-#[test]
-fn health_is_told(rt: HostRuntime) -> Result<(), Fail> {
-    assert_eq!(rt; first_wrong(rt.alloc(), &HEALTH)?, None);
-    Ok(())
-}
-
-#[tactic(auto, using(wl_session::proofs::TurnPublications::turns_later))]
-fn turn(session: &mut Session, snapshot: &Snapshot, out: &mut Octets) -> Result<(), Stop>
-    requires follows { MayTurn snapshot.now session.old }
-    requires named { unnamed_in session.old ≡ None }
-    ensures later { OnOk result ((x : Publication) → snapshot.now.number < x.number → MayTurn x session.new) }
-{
-    Ok(session.turn(snapshot, out)?)
-}
-
-/// A token from 100 to 200.
-fn token(alloc: Global, text: &[u8]) -> Result<JwtToken, Memory> {
-    Ok(JwtToken {
-        token: Octets::from_slice(alloc, text)?,
-        issued_at: 100,
-        expires_at: 200,
-    })
-}
-
-fn jwt_outcome(alloc: Global, outcome: Outcome) -> Result<JwtOutcome, Memory> {
-    match outcome {
-        Outcome::Token => Ok(JwtOutcome::Token(token(alloc, b"t")?)),
-        Outcome::Failed => Ok(JwtOutcome::Failed),
-    }
-}
-
-/// The ask that waits, if there is one, gets this outcome.
-#[tactic(auto, using(wl_session::proofs::TurnPublications::tokens_follow))]
-fn give(
-    alloc: Global,
-    session: &mut Session,
-    outcome: Outcome,
-    out: &mut Octets,
-) -> Result<(), Stop>
-    ensures keeps { OnOk result ((x : Publication) → MayTurn x session.old → MayTurn x session.new) }
-{
-    if session.asks().is_none() {
-        return Ok(());
-    }
-    let outcome = jwt_outcome(alloc, outcome)?;
-    Ok(session.given(outcome, out)?)
-}
-
-/// A turn, and then the outcome of the ask that waits.
-fn answer(
-    alloc: Global,
-    session: &mut Session,
-    snapshot: &Snapshot,
-    outcome: Outcome,
-    out: &mut Octets,
-) -> Result<(), Stop>
-    requires follows { MayTurn snapshot.now session.old }
-    requires named { unnamed_in session.old ≡ None }
-    ensures later { OnOk result ((x : Publication) → snapshot.now.number < x.number → MayTurn x session.new) }
-{
-    turn(session, snapshot, out)?;
-    give(alloc, session, outcome, out)?;
-    Ok(())
-}
-
-/// Takes a round on the publication after the one of this number, and tells its number, and whether the
-/// round writes what is due.
-fn take_round(
-    alloc: Global,
-    session: &mut Session,
-    number: u64,
-    round: &Round,
-) -> Result<(u64, bool), Stop>
-    requires { (x : Publication) → number < x.number → MayTurn x session.old }
-    ensures { IfOk result (λ r. (x : Publication) → r.0 < x.number → MayTurn x session.new) }
-{
-    let snapshot = following(alloc, number, round.state)?;
-    let mut out = Octets::empty(alloc);
-    feed(alloc, session, round.caller, round.fed, &mut out)?;
-    answer(alloc, session, &snapshot, round.outcome, &mut out)?;
-    Ok((snapshot.number, are_parts(out.as_slice(), round.wrote)))
-}
-
-/// The same of two rounds.
-fn take_rounds(
-    alloc: Global,
-    session: &mut Session,
-    number: u64,
-    first: &Round,
-    second: &Round,
-) -> Result<(u64, bool), Stop>
-    requires { (x : Publication) → number < x.number → MayTurn x session.old }
-    ensures { IfOk result (λ r. (x : Publication) → r.0 < x.number → MayTurn x session.new) }
-{
-    let (number, is_first) = take_round(alloc, session, number, first)?;
-    let (number, is_second) = take_round(alloc, session, number, second)?;
-    Ok((number, is_first && is_second))
-}
-
-/// Whether each round of a sequence writes what is due.
-fn are_rounds_due(alloc: Global, case: &Sequence) -> Result<bool, Stop> {
-    let mut session = fresh(alloc)?;
-    let (number, start) = take_rounds(alloc, &mut session, 0, &case.first, &case.second)?;
-    let (_, end) = take_rounds(alloc, &mut session, number, &case.third, &case.fourth)?;
-    Ok(start && end)
-}
-
-/// The name of the first sequence that writes something else than what is due.
-fn wrong_sequence(alloc: Global, cases: &[Sequence]) -> Result<Option<&'static str>, Stop> {
-    for case in cases {
-        if !are_rounds_due(alloc, case)? {
-            return Ok(Some(case.name));
-        }
-    }
-    Ok(None)
-}
-
-#[test]
-fn publications_are_followed(rt: HostRuntime) -> Result<(), Fail> {
-    assert_eq!(rt; wrong_sequence(rt.alloc(), &PUBLICATIONS)?, None);
-    Ok(())
-}
-
-#[test]
-fn windows_hold_bytes_back(rt: HostRuntime) -> Result<(), Fail> {
-    assert_eq!(rt; wrong_sequence(rt.alloc(), &WINDOWS)?, None);
-    Ok(())
-}
-
-#[test]
-fn second_calls_are_named_alone(rt: HostRuntime) -> Result<(), Fail> {
-    assert_eq!(rt; wrong_sequence(rt.alloc(), &CALLS)?, None);
-    Ok(())
-}
-
-#[test]
-fn tokens_are_handed_on(rt: HostRuntime) -> Result<(), Fail> {
-    assert_eq!(rt; wrong_sequence(rt.alloc(), &TOKENS)?, None);
-    Ok(())
+    let selectors = attested(rt, alloc, caller);
+    session.name(selectors, out).expect(rt, "a name");
+    assert!(rt; session.unnamed().is_none());
 }
 
 /// Bytes that come one at a time.
 #[tactic(auto, using(wl_session::proofs::TurnPublications::feeds_follow))]
-fn hear_singly(session: &mut Session, bytes: &[u8], out: &mut Octets) -> Result<(), Stop>
-    ensures keeps { OnOk result ((x : Publication) → MayTurn x session.old → MayTurn x session.new) }
+fn hear_singly(rt: &impl Abort, session: &mut Session, bytes: &[u8], out: &mut Octets)
+    ensures keeps { (x : Publication) → MayTurn x session.old → MayTurn x session.new }
 {
     for byte in bytes {
-        session.feed(&[*byte], out)?;
+        session.feed(&[*byte], out).expect(rt, "no fault");
     }
-    Ok(())
 }
 
-/// The same, and then a name for the call that they make ready.
-fn feed_singly(
+/// How bytes come.
+#[derive(Clone, Copy)]
+enum Pieces {
+    Whole,
+    Single,
+}
+
+/// Bytes come.
+#[tactic(auto, using(wl_session::proofs::TurnPublications::feeds_follow))]
+fn hear(rt: &impl Abort, session: &mut Session, bytes: &[u8], pieces: Pieces, out: &mut Octets)
+    ensures keeps { (x : Publication) → MayTurn x session.old → MayTurn x session.new }
+{
+    if matches!(pieces, Pieces::Single) {
+        hear_singly(rt, session, bytes, out);
+        return;
+    }
+    session.feed(bytes, out).expect(rt, "no fault");
+}
+
+/// Bytes, and then a name for the call that they make ready.
+fn feed(
+    rt: &impl Abort,
     alloc: Global,
     session: &mut Session,
     caller: Caller,
     parts: &[&[u8]],
+    pieces: Pieces,
     out: &mut Octets,
-) -> Result<(), Stop>
-    ensures keeps { OnOk result ((x : Publication) → MayTurn x session.old → MayTurn x session.new) }
-    ensures named { OnOk result (unnamed_in session.new ≡ None) }
+)
+    ensures keeps { (x : Publication) → MayTurn x session.old → MayTurn x session.new }
+    ensures named { unnamed_in session.new ≡ None }
 {
-    let bytes = joined(alloc, parts)?;
-    hear_singly(session, bytes.as_slice(), out)?;
-    name(alloc, session, caller, out)?;
-    all_named(session)
+    let bytes = joined(rt, alloc, parts);
+    hear(rt, session, bytes.as_slice(), pieces, out);
+    name(rt, alloc, session, caller, out);
 }
 
-/// A session of which these bytes came one at a time, and what it wrote.
-fn fed_singly(alloc: Global, caller: Caller, parts: &[&[u8]]) -> Result<(Session, Octets), Stop>
-    ensures may { IfOk result (λ p. (x : Publication) → MayTurn x p.0) }
-    ensures named { IfOk result (λ p. unnamed_in p.0 ≡ None) }
+/// A session of which the bytes of a case came, and which wrote what is due.
+fn fed(rt: &impl Abort, alloc: Global, case: &Case, pieces: Pieces) -> Session
+    ensures may { (x : Publication) → MayTurn x result }
+    ensures named { unnamed_in result ≡ None }
 {
-    let mut session = fresh(alloc)?;
+    let mut session = fresh(rt, alloc);
     let mut out = Octets::empty(alloc);
-    feed_singly(alloc, &mut session, caller, parts, &mut out)?;
-    Ok((session, out))
+    feed(
+        rt,
+        alloc,
+        &mut session,
+        case.caller,
+        case.fed,
+        pieces,
+        &mut out,
+    );
+    assert!(rt; are_parts(out.as_slice(), case.wrote), "{}", case.name);
+    session
 }
 
-/// Whether a first response is as due where its request comes byte by byte.
-fn is_single_due(alloc: Global, snapshot: &Snapshot) -> Result<bool, Stop> {
-    let (session, out) = fed_singly(alloc, Caller::First, &[OPENING, HEAD, EMPTY])?;
-    if !are_parts(out.as_slice(), &[GREETING, CREDIT_5]) {
-        return Ok(false);
-    }
-    answers(alloc, session, snapshot, &[RESPONSE_HEAD, DATA_M])
-}
-
-#[test]
-fn single_bytes(rt: HostRuntime) -> Result<(), Fail> {
-    let snapshot = publication(rt.alloc(), 1, State::Document)?;
-    assert!(rt; is_single_due(rt.alloc(), &snapshot)?);
-    Ok(())
-}
-
-/// What a session answers to these bytes, if it answers so twice.
-fn answer_to(
-    session: &mut Session,
-    bytes: &[u8],
-    out: &mut Octets,
-) -> Result<Result<(), SessionFault>, Stop> {
-    let first = session.feed(bytes, out);
-    let second = session.feed(b"", out);
-    if first == second && session.unnamed().is_none() && !session.is_done() {
-        Ok(first)
-    } else {
-        Err(Stop::Session)
-    }
-}
-
-/// The code of the fault that these bytes are, and all that was written.
-fn fault_of(alloc: Global, bytes: &[u8]) -> Result<(Option<u32>, Octets), Stop> {
-    let mut session = Session::start(alloc)?;
+/// Asserts that each of two turns writes what is due: this, and then nothing.
+#[tactic(auto, using(wl_session::proofs::TurnPublications::turns_again))]
+fn take_turns(rt: &impl Abort, alloc: Global, snapshot: &Snapshot, case: &Case, pieces: Pieces) {
+    let mut session = fed(rt, alloc, case, pieces);
     let mut out = Octets::empty(alloc);
-    match answer_to(&mut session, bytes, &mut out)? {
-        Ok(()) => Ok((None, out)),
-        Err(SessionFault::Protocol(fault)) => Ok((Some(fault.code), out)),
-        Err(SessionFault::Memory) => Err(Stop::Memory),
-    }
+    session.turn(snapshot, &mut out).expect(rt, "a turn");
+    assert!(rt; are_parts(out.as_slice(), case.answered), "{}", case.name);
+    assert!(rt; session.unnamed().is_none());
+    session.turn(snapshot, &mut out).expect(rt, "a turn");
+    assert!(rt;
+        are_parts(out.as_slice(), case.answered),
+        "{}, again",
+        case.name
+    );
 }
 
-fn push_times(all: &mut Octets, part: &[u8], times: u32) -> Result<(), Memory> {
-    for _ in 0..times {
-        all.push_slice(part)?;
-    }
-    Ok(())
+/// Asserts that a turn by the index of the entries writes what is due, and one on the same views nothing.
+#[tactic(auto, using(wl_session::proofs::TurnPublications::turns_again, wl_session::proofs::ViewFacts::turns_shown))]
+fn take_turns_by_index(rt: &impl Abort, alloc: Global, snapshot: &Snapshot, case: &Case) {
+    let mut session = fed(rt, alloc, case, Pieces::Whole);
+    let index = Index::build(alloc, snapshot.entries.part().as_slice()).expect(rt, "memory");
+    let mut out = Octets::empty(alloc);
+    session
+        .turn_by(snapshot, &index, &mut out)
+        .expect(rt, "a turn");
+    assert!(rt;
+        are_parts(out.as_slice(), case.answered),
+        "{}, by the index",
+        case.name
+    );
+    assert!(rt; session.unnamed().is_none());
+    session
+        .turn_unchanged(snapshot, &index, &mut out)
+        .expect(rt, "a turn");
+    assert!(rt;
+        are_parts(out.as_slice(), case.answered),
+        "{}, by the index again",
+        case.name
+    );
 }
 
-/// Parts, each so many times.
-fn repeated(alloc: Global, parts: &[(&[u8], u32)]) -> Result<Octets, Memory> {
-    let mut all = Octets::empty(alloc);
-    for (part, times) in parts {
-        push_times(&mut all, part, *times)?;
-    }
-    Ok(all)
-}
-
-/// Whether bytes give the fault and write what is due.
-fn is_fault_due(alloc: Global, case: &Broken) -> Result<bool, Stop> {
-    let bytes = repeated(alloc, case.fed)?;
-    let wrote = repeated(alloc, case.wrote)?;
-    let (code, out) = fault_of(alloc, bytes.as_slice())?;
-    Ok(code == case.code && out == wrote)
-}
-
-/// The name of the first case that gives another fault, or writes something else, than is due.
-fn wrong_fault(alloc: Global, cases: &[Broken]) -> Result<Option<&'static str>, Stop> {
+/// Asserts what each case writes, on the publication of the worked document.
+fn talk_all(rt: &impl Abort, alloc: Global, cases: &[Case]) {
+    let snapshot = publication(rt, alloc, 1, State::Document);
     for case in cases {
-        if !is_fault_due(alloc, case)? {
-            return Ok(Some(case.name));
-        }
+        take_turns(rt, alloc, &snapshot, case, Pieces::Whole);
+        take_turns_by_index(rt, alloc, &snapshot, case);
     }
-    Ok(None)
 }
 
 #[test]
-fn faults(rt: HostRuntime) -> Result<(), Fail> {
-    assert_eq!(rt; wrong_fault(rt.alloc(), &FAULTS)?, None);
-    Ok(())
-}
-
-/// The call that is ready after these bytes, which are parts, each so many times.
-fn ready_after(alloc: Global, parts: &[(&[u8], u32)]) -> Result<Option<u32>, Stop> {
-    let bytes = repeated(alloc, parts)?;
-    let mut session = Session::start(alloc)?;
-    session.feed(bytes.as_slice(), &mut Octets::empty(alloc))?;
-    Ok(session.unnamed())
+fn heads_are_refused(rt: HostRuntime) {
+    talk_all(&rt, rt.alloc(), &HEADS);
 }
 
 #[test]
-fn the_longest_message(rt: HostRuntime) -> Result<(), Fail> {
-    assert_eq!(rt; ready_after(rt.alloc(), LONGEST)?, Some(1));
-    Ok(())
-}
-
-/// Whether a session that heard this is done and counts no message.
-fn is_idle_and_done(alloc: Global, parts: &[&[u8]]) -> Result<(bool, bool), Stop> {
-    let mut session = Session::start(alloc)?;
-    hear(alloc, &mut session, parts, &mut Octets::empty(alloc))?;
-    Ok((session.begun() == 0, session.is_done()))
+fn requests_are_refused(rt: HostRuntime) {
+    talk_all(&rt, rt.alloc(), &REQUESTS);
 }
 
 #[test]
-fn sessions_end(rt: HostRuntime) -> Result<(), Fail> {
-    let before = is_idle_and_done(rt.alloc(), &[OPENING])?;
-    let after = is_idle_and_done(rt.alloc(), &[OPENING, GOAWAY])?;
-    assert!(rt; before == (true, false) && after == (true, true));
-    Ok(())
+fn calls_are_answered(rt: HostRuntime) {
+    talk_all(&rt, rt.alloc(), &ANSWERS);
+}
+
+#[test]
+fn health_is_told(rt: HostRuntime) {
+    talk_all(&rt, rt.alloc(), &HEALTH);
+}
+
+/// A first response is as due where its request comes byte by byte.
+#[test]
+fn single_bytes(rt: HostRuntime) {
+    let snapshot = publication(&rt, rt.alloc(), 1, State::Document);
+    take_turns(&rt, rt.alloc(), &snapshot, &FIRST_RESPONSE, Pieces::Single);
+}
+
+#[tactic(auto, using(wl_session::proofs::TurnPublications::turns_later))]
+fn turn(rt: &impl Abort, session: &mut Session, snapshot: &Snapshot, out: &mut Octets)
+    requires follows { MayTurn snapshot.now session.old }
+    requires named { unnamed_in session.old ≡ None }
+    ensures later { (x : Publication) → snapshot.now.number < x.number → MayTurn x session.new }
+{
+    session.turn(snapshot, out).expect(rt, "a turn");
 }
 
 /// Whether a session asks for a token of the worked document's entry for the audience `x`.
@@ -529,16 +245,163 @@ fn asks(session: &Session) -> bool {
     }
 }
 
-/// Whether a session of which a call for a token came asks for it after its turn.
-fn asks_after_turn(alloc: Global, snapshot: &Snapshot) -> Result<bool, Stop> {
-    let (mut session, mut out) = fed(alloc, Caller::First, &[OPENING, JWT_HEAD, AUDIENCE_X])?;
-    session.turn(snapshot, &mut out)?;
-    Ok(asks(&session))
+/// A session of which a call for a token came asks for it after its turn.
+#[test]
+fn a_token_is_asked_for(rt: HostRuntime) {
+    let snapshot = publication(&rt, rt.alloc(), 1, State::Document);
+    let mut session = fed(&rt, rt.alloc(), &ASKED, Pieces::Whole);
+    turn(&rt, &mut session, &snapshot, &mut Octets::empty(rt.alloc()));
+    assert!(rt; asks(&session));
+}
+
+/// The token `t` from 100 to 200, or that there is none.
+fn jwt_outcome(rt: &impl Abort, alloc: Global, outcome: Outcome) -> JwtOutcome {
+    match outcome {
+        Outcome::Token => JwtOutcome::Token(JwtToken {
+            token: Octets::from_slice(alloc, b"t").expect(rt, "memory"),
+            issued_at: 100,
+            expires_at: 200,
+        }),
+        Outcome::Failed => JwtOutcome::Failed,
+    }
+}
+
+/// The ask that waits, if there is one, gets this outcome.
+#[tactic(auto, using(wl_session::proofs::TurnPublications::tokens_follow))]
+fn give(rt: &impl Abort, alloc: Global, session: &mut Session, outcome: Outcome, out: &mut Octets)
+    ensures keeps { (x : Publication) → MayTurn x session.old → MayTurn x session.new }
+{
+    if session.asks().is_none() {
+        return;
+    }
+    let outcome = jwt_outcome(rt, alloc, outcome);
+    session.given(outcome, out).expect(rt, "an outcome");
+}
+
+/// Takes a round on the publication after the one of this number, and asserts that it writes what is due: the number of
+/// its publication.
+fn take_round(
+    rt: &impl Abort,
+    alloc: Global,
+    session: &mut Session,
+    number: u64,
+    name: &'static str,
+    round: &Round,
+) -> u64
+    requires { (x : Publication) → number < x.number → MayTurn x session.old }
+    ensures { (x : Publication) → result < x.number → MayTurn x session.new }
+{
+    let snapshot = following(rt, alloc, number, round.state);
+    let mut out = Octets::empty(alloc);
+    feed(
+        rt,
+        alloc,
+        session,
+        round.caller,
+        round.fed,
+        Pieces::Whole,
+        &mut out,
+    );
+    turn(rt, session, &snapshot, &mut out);
+    give(rt, alloc, session, round.outcome, &mut out);
+    assert!(rt; are_parts(out.as_slice(), round.wrote), "{name}");
+    snapshot.number
+}
+
+/// Asserts that each round of a sequence writes what is due.
+fn take_rounds(rt: &impl Abort, alloc: Global, case: &Sequence) {
+    let mut session = fresh(rt, alloc);
+    let number = take_round(rt, alloc, &mut session, 0, case.name, &case.first);
+    let number = take_round(rt, alloc, &mut session, number, case.name, &case.second);
+    let number = take_round(rt, alloc, &mut session, number, case.name, &case.third);
+    take_round(rt, alloc, &mut session, number, case.name, &case.fourth);
 }
 
 #[test]
-fn a_token_is_asked_for(rt: HostRuntime) -> Result<(), Fail> {
-    let snapshot = publication(rt.alloc(), 1, State::Document)?;
-    assert!(rt; asks_after_turn(rt.alloc(), &snapshot)?);
-    Ok(())
+fn publications_are_followed(rt: HostRuntime) {
+    for case in &PUBLICATIONS {
+        take_rounds(&rt, rt.alloc(), case);
+    }
+}
+
+#[test]
+fn windows_hold_bytes_back(rt: HostRuntime) {
+    for case in &WINDOWS {
+        take_rounds(&rt, rt.alloc(), case);
+    }
+}
+
+#[test]
+fn second_calls_are_named_alone(rt: HostRuntime) {
+    for case in &CALLS {
+        take_rounds(&rt, rt.alloc(), case);
+    }
+}
+
+#[test]
+fn tokens_are_handed_on(rt: HostRuntime) {
+    for case in &TOKENS {
+        take_rounds(&rt, rt.alloc(), case);
+    }
+}
+
+/// The code of the fault that bytes are, if they are one.
+fn code_of(rt: &impl Abort, answer: Result<(), SessionFault>) -> Option<u32> {
+    match answer {
+        Ok(()) => None,
+        Err(SessionFault::Protocol(fault)) => Some(fault.code),
+        Err(SessionFault::Memory) => panic!(rt; "memory"),
+    }
+}
+
+/// Asserts that bytes are answered so twice, and that what is due is written.
+fn is_fault(rt: &impl Abort, alloc: Global, case: &Broken) {
+    let bytes = repeated(rt, alloc, case.fed);
+    let mut session = fresh(rt, alloc);
+    let mut out = Octets::empty(alloc);
+    let first = session.feed(bytes.as_slice(), &mut out);
+    let second = session.feed(b"", &mut out);
+    assert!(rt;
+        first == second && code_of(rt, first) == case.code,
+        "{}",
+        case.name
+    );
+    assert!(rt;
+        session.unnamed().is_none() && !session.is_done(),
+        "{}",
+        case.name
+    );
+    assert!(rt; out == repeated(rt, alloc, case.wrote), "{}", case.name);
+}
+
+#[test]
+fn faults(rt: HostRuntime) {
+    for case in &FAULTS {
+        is_fault(&rt, rt.alloc(), case);
+    }
+}
+
+/// A call is ready after the longest message.
+#[test]
+fn the_longest_message(rt: HostRuntime) {
+    let bytes = repeated(&rt, rt.alloc(), LONGEST);
+    let mut session = fresh(&rt, rt.alloc());
+    let mut out = Octets::empty(rt.alloc());
+    hear(&rt, &mut session, bytes.as_slice(), Pieces::Whole, &mut out);
+    assert!(rt; session.unnamed() == Some(1));
+}
+
+/// Asserts whether a session that heard this is done. It counts no message.
+fn is_done(rt: &impl Abort, alloc: Global, parts: &[&[u8]], done: bool) {
+    let bytes = joined(rt, alloc, parts);
+    let mut session = fresh(rt, alloc);
+    let mut out = Octets::empty(alloc);
+    hear(rt, &mut session, bytes.as_slice(), Pieces::Whole, &mut out);
+    assert!(rt; session.begun() == 0 && session.is_done() == done);
+}
+
+#[test]
+fn sessions_end(rt: HostRuntime) {
+    is_done(&rt, rt.alloc(), &[OPENING], false);
+    is_done(&rt, rt.alloc(), &[OPENING, GOAWAY], true);
 }

@@ -121,6 +121,24 @@ pub const REQUESTS: [Case; 8] = [
     },
 ];
 
+/// The worked call and its response.
+pub const FIRST_RESPONSE: Case = Case {
+    name: "first_response",
+    caller: Caller::First,
+    fed: &[OPENING, HEAD, EMPTY],
+    wrote: &[GREETING, CREDIT_5],
+    answered: &[RESPONSE_HEAD, DATA_M],
+};
+
+/// A call for a token, which waits for it.
+pub const ASKED: Case = Case {
+    name: "a token is asked for",
+    caller: Caller::First,
+    fed: &[OPENING, JWT_HEAD, AUDIENCE_X],
+    wrote: &[GREETING, CREDIT_8],
+    answered: &[],
+};
+
 /// Calls that their turn answers, and what is none.
 pub const ANSWERS: [Case; 10] = [
     Case {
@@ -130,13 +148,7 @@ pub const ANSWERS: [Case; 10] = [
         wrote: &[GREETING, CREDIT_5],
         answered: &[DENIED_ONLY],
     },
-    Case {
-        name: "first_response",
-        caller: Caller::First,
-        fed: &[OPENING, HEAD, EMPTY],
-        wrote: &[GREETING, CREDIT_5],
-        answered: &[RESPONSE_HEAD, DATA_M],
-    },
+    FIRST_RESPONSE,
     Case {
         name: "small_window",
         caller: Caller::First,

@@ -1,18 +1,19 @@
 //! Publications of one entry.
 
-ghost use Rattle.std.specs.Prelude.{◌≡◌, ◌<◌, ◌∷◌, [], true, IfOk};
+ghost use Rattle.std.specs.Prelude.{◌≡◌, ◌<◌, ◌∷◌, [], true};
 ghost use Rattle.wl_entry.specs.Asks.{ask_of};
 ghost use Rattle.wl_entry.specs.Limits.{EntryWithin, SignedWithin, BundleWithin};
 
-use super::callers::{Stop, selectors};
+use super::callers::selectors;
 use sorted_blocks::SortedBlocks;
 use spiffe_id::{SpiffeId, TrustDomain};
 use std::alloc::Global;
+use std::process::Abort;
 use wl_entry::limits::{
     MAX_DNS_NAMES, MAX_FEDERATED, MAX_HINT_LEN, MAX_ID_LEN, MAX_PART_LEN, MAX_SELECTORS,
 };
 use wl_entry::{Bundle, Entry, Signed, Svid};
-use wl_octets::{Memory, Octets, Row, Shared};
+use wl_octets::{Octets, Row, Shared};
 use wl_snapshot::Snapshot;
 
 /// What a publication of one entry holds.
@@ -61,45 +62,22 @@ fn one_entry(
     }
 }
 
-fn shared<T: Drop>(alloc: Global, part: T) -> Result<Shared<T>, Memory>
-    ensures { IfOk result (λ s. s ≡ part) }
+fn shared<T: Drop>(rt: &impl Abort, alloc: Global, part: T) -> Shared<T>
+    ensures { result ≡ part }
 {
     match Shared::new(alloc, part) {
-        Ok(part) => Ok(part),
-        Err((_, Memory)) => Err(Memory),
+        Ok(part) => part,
+        Err(_) => panic!(rt; "memory"),
     }
 }
 
 /// The list of this part alone.
-fn alone<T: Drop>(alloc: Global, part: T) -> Result<Row<Shared<T>>, Memory>
-    ensures { IfOk result (λ r. r ≡ part ∷ []) }
+fn alone<T: Drop>(rt: &impl Abort, alloc: Global, part: T) -> Row<Shared<T>>
+    ensures { result ≡ part ∷ [] }
 {
     let mut items = Vec::new(alloc);
-    items.push(shared(alloc, part)?)?;
-    Ok(Row::from_vec(items))
-}
-
-/// The same, shared.
-fn alone_shared<T: Drop>(alloc: Global, part: T) -> Result<Shared<Row<Shared<T>>>, Memory>
-    ensures { IfOk result (λ r. r ≡ part ∷ []) }
-{
-    let row = alone(alloc, part)?;
-    let row = shared(alloc, row)?;
-    Ok(row)
-}
-
-fn domain(alloc: Global, text: &[u8]) -> Result<TrustDomain, Stop> {
-    match TrustDomain::parse(alloc, text) {
-        Ok(domain) => Ok(domain),
-        Err(_) => Err(Stop::Text),
-    }
-}
-
-fn spiffe_id(alloc: Global, text: &[u8]) -> Result<SpiffeId, Stop> {
-    match SpiffeId::parse(alloc, text) {
-        Ok(id) => Ok(id),
-        Err(_) => Err(Stop::Text),
-    }
+    items.push(shared(rt, alloc, part)).expect(rt, "memory");
+    Row::from_vec(items)
 }
 
 fn is_entry_within(entry: &Entry) -> bool
@@ -113,26 +91,20 @@ fn is_entry_within(entry: &Entry) -> bool
 }
 
 /// An entry of a caller with this selector.
-fn entry(alloc: Global, id: &[u8], selector: &[u8]) -> Result<Entry, Stop>
-    ensures { IfOk result EntryWithin }
+fn entry(rt: &impl Abort, alloc: Global, sample: Sample) -> Entry
+    ensures { EntryWithin result }
 {
-    let id = Octets::from_slice(alloc, id)?;
-    let spiffe_id = spiffe_id(alloc, b"spiffe://a.b/w")?;
-    let selectors = selectors(alloc, selector)?;
     let entry = Entry {
-        id,
-        spiffe_id,
-        selectors,
+        id: Octets::from_slice(alloc, sample.id).expect(rt, "memory"),
+        spiffe_id: SpiffeId::parse(alloc, b"spiffe://a.b/w").expect(rt, "an id"),
+        selectors: selectors(rt, alloc, sample.selector),
         federates_with: Row::empty(alloc),
         dns_names: Row::empty(alloc),
         ttl: 3600,
         hint: Octets::empty(alloc),
     };
-    if is_entry_within(&entry) {
-        Ok(entry)
-    } else {
-        Err(Stop::Text)
-    }
+    assert!(rt; is_entry_within(&entry));
+    entry
 }
 
 fn is_signed_within(signed: &Signed) -> bool
@@ -142,22 +114,17 @@ fn is_signed_within(signed: &Signed) -> bool
 }
 
 /// An identity from 100 to 200.
-fn signed(alloc: Global, chain: &[u8], key: &[u8]) -> Result<Signed, Stop>
-    ensures { IfOk result SignedWithin }
+fn signed(rt: &impl Abort, alloc: Global, sample: Sample) -> Signed
+    ensures { SignedWithin result }
 {
-    let chain = Octets::from_slice(alloc, chain)?;
-    let key = Octets::from_slice(alloc, key)?;
     let signed = Signed {
-        chain,
-        key,
+        chain: Octets::from_slice(alloc, sample.chain).expect(rt, "memory"),
+        key: Octets::from_slice(alloc, sample.key).expect(rt, "memory"),
         not_before: 100,
         not_after: 200,
     };
-    if is_signed_within(&signed) {
-        Ok(signed)
-    } else {
-        Err(Stop::Text)
-    }
+    assert!(rt; is_signed_within(&signed));
+    signed
 }
 
 fn is_bundle_within(bundle: &Bundle) -> bool
@@ -166,74 +133,74 @@ fn is_bundle_within(bundle: &Bundle) -> bool
     bundle.x509.len() <= MAX_PART_LEN && bundle.jwks.len() <= MAX_PART_LEN
 }
 
-fn bundle(alloc: Global) -> Result<Bundle, Stop>
-    ensures { IfOk result BundleWithin }
+fn domain(rt: &impl Abort, alloc: Global) -> TrustDomain {
+    TrustDomain::parse(alloc, b"a.b").expect(rt, "a domain")
+}
+
+fn bundle(rt: &impl Abort, alloc: Global) -> Bundle
+    ensures { BundleWithin result }
 {
-    let domain = domain(alloc, b"a.b")?;
-    let x509 = Octets::from_slice(alloc, b"\x03")?;
     let bundle = Bundle {
-        domain,
-        x509,
+        domain: domain(rt, alloc),
+        x509: Octets::from_slice(alloc, b"\x03").expect(rt, "memory"),
         jwks: Octets::empty(alloc),
     };
-    if is_bundle_within(&bundle) {
-        Ok(bundle)
-    } else {
-        Err(Stop::Text)
-    }
+    assert!(rt; is_bundle_within(&bundle));
+    bundle
 }
 
 /// The SVID of an entry, alone.
-fn svid(alloc: Global, entry: &Entry, signed: Signed) -> Result<SortedBlocks<Svid>, Memory>
-    ensures { IfOk result (λ r. r ≡ record { ask = ask_of entry.now; signed = signed } ∷ []) }
+fn svid(rt: &impl Abort, alloc: Global, entry: &Entry, signed: Signed) -> SortedBlocks<Svid>
+    ensures { result ≡ record { ask = ask_of entry.now; signed = signed } ∷ [] }
 {
-    let ask = entry.ask(alloc)?;
-    let svids = alone(alloc, Svid { ask, signed })?;
-    SortedBlocks::of(alloc, svids.as_slice())
+    let ask = entry.ask(alloc).expect(rt, "memory");
+    let svids = alone(rt, alloc, Svid { ask, signed });
+    SortedBlocks::of(alloc, svids.as_slice()).expect(rt, "memory")
 }
 
 /// A publication of an entry, its SVID and a bundle.
 fn listed(
+    rt: &impl Abort,
     alloc: Global,
     number: u64,
     entry: Entry,
     signed: Signed,
     bundle: Bundle,
-) -> Result<Snapshot, Stop>
+) -> Snapshot
     requires entry { EntryWithin entry }
     requires signed { SignedWithin signed }
     requires bundle { BundleWithin bundle }
-    ensures { IfOk result (λ s. s.number ≡ number) }
+    ensures { result.number ≡ number }
 {
-    let domain = domain(alloc, b"a.b")?;
-    let svids = svid(alloc, &entry, signed)?;
-    let entries = alone_shared(alloc, entry)?;
-    let bundles = alone_shared(alloc, bundle)?;
-    Ok(Snapshot {
+    let domain = domain(rt, alloc);
+    let svids = svid(rt, alloc, &entry, signed);
+    let entries = alone(rt, alloc, entry);
+    let entries = shared(rt, alloc, entries);
+    let bundles = alone(rt, alloc, bundle);
+    let bundles = shared(rt, alloc, bundles);
+    Snapshot {
         number,
         domain,
         entries,
         svids,
         bundles,
-    })
+    }
 }
 
-pub fn publication(alloc: Global, number: u64, state: State) -> Result<Snapshot, Stop>
-    ensures { IfOk result (λ s. s.number ≡ number) }
+pub fn publication(rt: &impl Abort, alloc: Global, number: u64, state: State) -> Snapshot
+    ensures { result.number ≡ number }
 {
     let sample = state.sample();
-    let entry = entry(alloc, sample.id, sample.selector)?;
-    let signed = signed(alloc, sample.chain, sample.key)?;
-    let bundle = bundle(alloc)?;
-    listed(alloc, number, entry, signed, bundle)
+    let entry = entry(rt, alloc, sample);
+    let signed = signed(rt, alloc, sample);
+    let bundle = bundle(rt, alloc);
+    listed(rt, alloc, number, entry, signed, bundle)
 }
 
 /// The publication after the one of this number.
-pub fn following(alloc: Global, number: u64, state: State) -> Result<Snapshot, Stop>
-    ensures { IfOk result (λ s. number < s.number) }
+pub fn following(rt: &impl Abort, alloc: Global, number: u64, state: State) -> Snapshot
+    ensures { number < result.number }
 {
-    match number.checked_add(1) {
-        Some(next) => publication(alloc, next, state),
-        None => Err(Stop::Number),
-    }
+    let next = number.checked_add(1).expect(rt, "a number");
+    publication(rt, alloc, next, state)
 }

@@ -1,5 +1,4 @@
-use Rattle.wl_session_tests.proofs.EveryAnswer.{always}
 use Rattle.wl_session_tests.proofs.tests.feed.Goals as goal
 
 pub returns-clause-keeps : goal.returns-clause-keeps
-returns-clause-keeps c = always c.all_named.result _ (λ x may. c.in_ok-name.ensures.keeps x (c.in_ok-hear.ensures.keeps x may))
+returns-clause-keeps g c = λ x may. c.name.ensures.keeps x (c.hear.ensures.keeps x may)
