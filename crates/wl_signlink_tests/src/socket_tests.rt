@@ -1,19 +1,18 @@
 //! A signer behind a socket: streams that are kept and dropped, numbers, and an answer that comes late.
 
 use crate::tests::{ask_of, list};
-use std::alloc::Global;
+use std::alloc::{AllocError, Global};
 use std::io;
 use std::io::{ErrorKind, Read, Write};
 use std::os::unix::net::UnixListener;
-use std::process::id;
+use std::process::{Abort, id};
 use std::rt::Clock;
 use std::sync::atomic::{AtomicUsize, Ordering};
-use std::test::Fail;
 use std::thread::{join, sleep};
 use std::time::Duration;
 use wl_edge::{EdgeFault, Signer};
 use wl_entry::Ask;
-use wl_octets::{Octets, Row};
+use wl_octets::{Memory, Octets, Row};
 use wl_signlink::*;
 
 /// Reads a line and drops it. False where none came.
@@ -141,11 +140,11 @@ struct Asks {
     audience: Row<Octets>,
 }
 
-fn make_asks(alloc: Global) -> Result<Asks, Fail> {
-    Ok(Asks {
-        ask: ask_of(alloc, b"e1", &[])?,
-        audience: list(alloc, &[b"x"])?,
-    })
+fn make_asks(rt: &impl Abort, alloc: Global) -> Asks {
+    Asks {
+        ask: ask_of(rt, alloc, b"e1", &[]),
+        audience: list(rt, alloc, &[b"x"]),
+    }
 }
 
 const FOUND: [Outcome; 4] = [Outcome::Due, Outcome::Due, Outcome::Failed, Outcome::Due];
@@ -153,18 +152,28 @@ const FOUND: [Outcome; 4] = [Outcome::Due, Outcome::Due, Outcome::Failed, Outcom
 const FOUND_BY_NUMBER: [Outcome; 3] = [Outcome::Due, Outcome::Failed, Outcome::Due];
 
 /// A path in the folder for temporary files that no other test uses.
-fn path_of(rt: &HostRuntime, name: &str) -> Result<String, Fail> {
+fn path_of(rt: &HostRuntime, name: &str) -> Result<String, AllocError> {
     let path = format!(in rt.alloc(); "/tmp/wl_signlink_{name}_{}.sock", id(rt.process()))?;
     let _ = std::fs::remove_file(rt, path.as_str());
     Ok(path)
 }
 
+/// A link to the signer at a path, whose exchanges may take so many milliseconds.
+fn link_within(
+    rt: &HostRuntime,
+    path: &str,
+    milliseconds: u64,
+) -> Result<SignLink<HostRuntime>, Memory> {
+    let limit = Duration::from_millis(milliseconds);
+    SignLink::start_within(rt, rt.alloc(), path.as_bytes(), limit)
+}
+
 #[test]
-fn a_signer_behind_a_socket(rt: HostRuntime) -> Result<(), Fail> {
-    let path = path_of(&rt, "asks")?;
-    let listener = UnixListener::bind(&rt, path.as_str())?;
-    let mut link = SignLink::start(&rt, rt.alloc(), path.as_bytes())?;
-    let asks = make_asks(rt.alloc())?;
+fn a_signer_behind_a_socket(rt: HostRuntime) {
+    let path = path_of(&rt, "asks").expect(&rt, "memory");
+    let listener = UnixListener::bind(&rt, path.as_str()).expect(&rt, "a listener");
+    let mut link = SignLink::start(&rt, rt.alloc(), path.as_bytes()).expect(&rt, "memory");
+    let asks = make_asks(&rt, rt.alloc());
     let audience = asks.audience.as_slice();
     let ended = AtomicUsize::new(0);
     let (served, (found, by_number)) = join(
@@ -178,7 +187,7 @@ fn a_signer_behind_a_socket(rt: HostRuntime) -> Result<(), Fail> {
     );
     let _ = std::fs::remove_file(&rt, path.as_str());
     assert!(rt; served && found == FOUND && by_number == FOUND_BY_NUMBER);
-    Ok(())
+    drop(asks);
 }
 
 /// How many milliseconds an exchange with a late signer may take.
@@ -200,16 +209,11 @@ fn answers_late(listener: &UnixListener) -> io::Result<()> {
 }
 
 #[test]
-fn a_late_answer(rt: HostRuntime) -> Result<(), Fail> {
-    let path = path_of(&rt, "late")?;
-    let listener = UnixListener::bind(&rt, path.as_str())?;
-    let mut link = SignLink::start_within(
-        &rt,
-        rt.alloc(),
-        path.as_bytes(),
-        Duration::from_millis(SHORT_LIMIT),
-    )?;
-    let asks = make_asks(rt.alloc())?;
+fn a_late_answer(rt: HostRuntime) {
+    let path = path_of(&rt, "late").expect(&rt, "memory");
+    let listener = UnixListener::bind(&rt, path.as_str()).expect(&rt, "a listener");
+    let mut link = link_within(&rt, path.as_str(), SHORT_LIMIT).expect(&rt, "memory");
+    let asks = make_asks(&rt, rt.alloc());
     let (served, found) = join(
         &rt,
         || answers_late(&listener).is_ok(),
@@ -222,7 +226,7 @@ fn a_late_answer(rt: HostRuntime) -> Result<(), Fail> {
     );
     let _ = std::fs::remove_file(&rt, path.as_str());
     assert!(rt; served && found == [Outcome::Failed, Outcome::Due]);
-    Ok(())
+    drop(asks);
 }
 
 /// Takes an ask and sends a byte every few milliseconds that never become a line, until the peer is gone.
@@ -239,12 +243,11 @@ fn answers_in_drips(rt: &impl Clock, listener: &UnixListener) -> io::Result<()> 
 }
 
 #[test]
-fn an_answer_in_drips(rt: HostRuntime) -> Result<(), Fail> {
-    let path = path_of(&rt, "drips")?;
-    let listener = UnixListener::bind(&rt, path.as_str())?;
-    let limit = Duration::from_millis(SHORT_LIMIT);
-    let mut link = SignLink::start_within(&rt, rt.alloc(), path.as_bytes(), limit)?;
-    let asks = make_asks(rt.alloc())?;
+fn an_answer_in_drips(rt: HostRuntime) {
+    let path = path_of(&rt, "drips").expect(&rt, "memory");
+    let listener = UnixListener::bind(&rt, path.as_str()).expect(&rt, "a listener");
+    let mut link = link_within(&rt, path.as_str(), SHORT_LIMIT).expect(&rt, "memory");
+    let asks = make_asks(&rt, rt.alloc());
     let (served, found) = join(
         &rt,
         || answers_in_drips(&rt, &listener).is_ok(),
@@ -252,5 +255,5 @@ fn an_answer_in_drips(rt: HostRuntime) -> Result<(), Fail> {
     );
     let _ = std::fs::remove_file(&rt, path.as_str());
     assert!(rt; served && found == Outcome::Failed);
-    Ok(())
+    drop(asks);
 }
