@@ -1,6 +1,6 @@
 //! A connection that is played on: frames go in, and what it reports and its fault stay until they are looked at.
 
-ghost use Rattle.std.specs.Prelude.{◌≡◌, ◌≤◌, ◌<◌, ◌^◌, true, length};
+ghost use Rattle.std.specs.Prelude.{◌≡◌, true};
 ghost use Rattle.h2_conn.specs.Kinds.{FitsBody};
 
 use h2_conn::{Conn, ConnError, ConnFault, Happening};

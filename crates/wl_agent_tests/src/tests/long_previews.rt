@@ -1,7 +1,7 @@
 //! Previews of megabytes, and of as many entries as a document may have.
 
 use super::{ran, source};
-use std::alloc::{AllocGlobal, Global};
+use std::alloc::AllocGlobal;
 use std::process::Abort;
 use std::string::{String, ToString};
 use std::sync::Wait;
