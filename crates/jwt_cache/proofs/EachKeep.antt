@@ -1,5 +1,5 @@
 -- What holds of each keep holds of those that stay and of the token that is found.
-use Rattle.std.specs.Prelude.{◌≡◌, ℕ, ◌&&◌, ◌-◌, zero, suc, Bool, true, false, if◌then◌else◌, List, [], ◌∷◌, ◌++◌, length, drop, filter, option_map, Option, Some, None}
+use Rattle.std.specs.Prelude.{◌≡◌, ℕ, ◌&&◌, ◌-◌, zero, suc, Bool, nat_le, true, false, if◌then◌else◌, List, [], ◌∷◌, ◌++◌, length, drop, filter, option_map, Option, Some, None}
 use Rattle.std.specs.Str.{bytes_eq}
 use Rattle.std.specs.List.{AllByRecursion, last_or}
 use Rattle.std.specs.Cmp.Lexicographic.{pointwise}
@@ -44,26 +44,26 @@ last_passes P test (x ∷ xs) before all prior = last_go P test before x (filter
 none_before : {A : Type 0} (P : A → Type 0) (test : A → Bool) → Passing P test None
 none_before P test = λ x found. cc
 
-of_use : (P : Ask → List (List ℕ) → JwtToken → Type 0) (ask : Ask) (audience : List (List ℕ)) (now : ℕ) (k : CachedToken) → P k.ask k.audience k.token → is_of_use ask audience now k ≡ true → P ask audience k.token
+of_use : (P : Ask → List (List ℕ) → JwtToken → Type 0) (ask : Ask) (audience : List (List ℕ)) (since now : ℕ) (k : CachedToken) → P k.ask k.audience k.token → is_of_use ask audience since now k ≡ true → P ask audience k.token
 unfolding is_of_use
-of_use P ask audience now k holds use_is =
-    let parts = and_parts (same_ask k.ask ask) (pointwise bytes_eq k.audience audience && is_still_fresh now k.token) use_is in
-    let second = and_parts (pointwise bytes_eq k.audience audience) (is_still_fresh now k.token) parts.1 in
+of_use P ask audience since now k holds use_is =
+    let parts = and_parts (same_ask k.ask ask) (pointwise bytes_eq k.audience audience && (nat_le since k.token.issued_at && is_still_fresh now k.token)) use_is in
+    let second = and_parts (pointwise bytes_eq k.audience audience) (nat_le since k.token.issued_at && is_still_fresh now k.token) parts.1 in
     subst (λ a. P ask a k.token) (texts_are k.audience audience second.0) (subst (λ a. P a k.audience k.token) (ask_is k.ask ask parts.0) holds)
 
-found_go : (P : Ask → List (List ℕ) → JwtToken → Type 0) (ask : Ask) (audience : List (List ℕ)) (now : ℕ) (t : JwtToken) (o : Option CachedToken)
-    → Passing (λ k. P k.ask k.audience k.token) (is_of_use ask audience now) o → option_map (λ k. k.token) o ≡ Some t → P ask audience t
-found_go P ask audience now t None passing found = cc
-found_go P ask audience now t (Some k) passing found =
+found_go : (P : Ask → List (List ℕ) → JwtToken → Type 0) (ask : Ask) (audience : List (List ℕ)) (since now : ℕ) (t : JwtToken) (o : Option CachedToken)
+    → Passing (λ k. P k.ask k.audience k.token) (is_of_use ask audience since now) o → option_map (λ k. k.token) o ≡ Some t → P ask audience t
+found_go P ask audience since now t None passing found = cc
+found_go P ask audience since now t (Some k) passing found =
     let one = passing k refl in
     let same : k.token ≡ t = cc in
-    subst (P ask audience) same (of_use P ask audience now k one.0 one.1)
+    subst (P ask audience) same (of_use P ask audience since now k one.0 one.1)
 
 -- What holds of the ask, the audiences and the token of each keep holds of a token that is found, for the ask and the
 -- audiences for which it is found.
-pub found_holds : (P : Ask → List (List ℕ) → JwtToken → Type 0) (ask : Ask) (audience : List (List ℕ)) (now : ℕ) (history : List CachedToken) (t : JwtToken)
-    → AllByRecursion (λ k. P k.ask k.audience k.token) history → find_among ask audience now history ≡ Some t → P ask audience t
+pub found_holds : (P : Ask → List (List ℕ) → JwtToken → Type 0) (ask : Ask) (audience : List (List ℕ)) (since now : ℕ) (history : List CachedToken) (t : JwtToken)
+    → AllByRecursion (λ k. P k.ask k.audience k.token) history → find_among ask audience since now history ≡ Some t → P ask audience t
 unfolding find_among
-found_holds P ask audience now history t all found =
+found_holds P ask audience since now history t all found =
     let P' : CachedToken → Type 0 = λ k. P k.ask k.audience k.token in
-    found_go P ask audience now t (newest (is_of_use ask audience now) history) (last_passes P' (is_of_use ask audience now) history None all (none_before P' (is_of_use ask audience now))) found
+    found_go P ask audience since now t (newest (is_of_use ask audience since now) history) (last_passes P' (is_of_use ask audience since now) history None all (none_before P' (is_of_use ask audience since now))) found

@@ -153,19 +153,19 @@ put_none q key es n v k is off by =
 
 -- ---- what is found
 
-pub find_none : (ask : Ask) (audience : List (List ℕ)) (now : ℕ) (es : List (Vec ℕ Global × List CachedToken)) (rings : List (List ℕ × List CachedToken)) → map (λ e. ((e.0).items, e.1)) es ≡ rings
-    → None ≡ lookup (finds ask.entry_id) es → None ≡ find_among ask audience now (tokens_for rings ask.entry_id)
+pub find_none : (ask : Ask) (audience : List (List ℕ)) (since now : ℕ) (es : List (Vec ℕ Global × List CachedToken)) (rings : List (List ℕ × List CachedToken)) → map (λ e. ((e.0).items, e.1)) es ≡ rings
+    → None ≡ lookup (finds ask.entry_id) es → None ≡ find_among ask audience since now (tokens_for rings ask.entry_id)
 unfolding find_among
-find_none ask audience now es rings view off =
+find_none ask audience since now es rings view off =
     let none : lookup (bytes_eq ask.entry_id) rings ≡ None = ap (lookup (bytes_eq ask.entry_id)) (sym view) ∙ kept_bytes ask.entry_id es ∙ sym off in
     rw none refl
 
-pub find_some : (ask : Ask) (audience wanted : List (List ℕ)) (now : ℕ) (es : List (Vec ℕ Global × List CachedToken)) (rings : List (List ℕ × List CachedToken)) (ring : List CachedToken) (o : Option CachedToken) → map (λ e. ((e.0).items, e.1)) es ≡ rings
-    → Some ring ≡ lookup (finds ask.entry_id) es → wanted ≡ audience → o ≡ newest (is_of_use ask wanted now) ring → option_map (λ k. k.token) o ≡ find_among ask audience now (tokens_for rings ask.entry_id)
+pub find_some : (ask : Ask) (audience wanted : List (List ℕ)) (since now : ℕ) (es : List (Vec ℕ Global × List CachedToken)) (rings : List (List ℕ × List CachedToken)) (ring : List CachedToken) (o : Option CachedToken) → map (λ e. ((e.0).items, e.1)) es ≡ rings
+    → Some ring ≡ lookup (finds ask.entry_id) es → wanted ≡ audience → o ≡ newest (is_of_use ask wanted since now) ring → option_map (λ k. k.token) o ≡ find_among ask audience since now (tokens_for rings ask.entry_id)
 unfolding find_among
-find_some ask audience wanted now es rings ring o view at same_audience is =
+find_some ask audience wanted since now es rings ring o view at same_audience is =
     let some : lookup (bytes_eq ask.entry_id) rings ≡ Some ring = ap (lookup (bytes_eq ask.entry_id)) (sym view) ∙ kept_bytes ask.entry_id es ∙ sym at in
-    rw some (ap (option_map (λ k. k.token)) (is ∙ ap (λ (a : List (List ℕ)). newest (is_of_use ask a now) ring) same_audience))
+    rw some (ap (option_map (λ k. k.token)) (is ∙ ap (λ (a : List (List ℕ)). newest (is_of_use ask a since now) ring) same_audience))
 
 -- ---- as the cache is seen
 
@@ -181,10 +181,10 @@ pub stands_more : (rings next : List (List ℕ × List CachedToken)) (history : 
 stands_more rings next history k step s =
     record { each = λ q. step q ∙ ap (λ (r : List CachedToken). if is_of q k then last_of 16 (r ++ k ∷ []) else r) (s.each q) ∙ ring-push history k q }
 
-pub stands_found : (rings : List (List ℕ × List CachedToken)) (history : List CachedToken) (ask : Ask) (audience : List (List ℕ)) (now : ℕ) → StandsFor rings history
-    → find_among ask audience now (tokens_for rings ask.entry_id) ≡ find_in history ask audience now
+pub stands_found : (rings : List (List ℕ × List CachedToken)) (history : List CachedToken) (ask : Ask) (audience : List (List ℕ)) (since now : ℕ) → StandsFor rings history
+    → find_among ask audience since now (tokens_for rings ask.entry_id) ≡ find_in history ask audience since now
 unfolding find_in
-stands_found rings history ask audience now s = ap (find_among ask audience now) (s.each ask.entry_id)
+stands_found rings history ask audience since now s = ap (find_among ask audience since now) (s.each ask.entry_id)
 
 -- ---- without an entry
 

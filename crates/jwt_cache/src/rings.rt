@@ -22,12 +22,16 @@ pub struct CachedToken {
 }
 
 impl CachedToken {
-    /// Whether the token is for this ask and these audiences, and less than half of its time has passed.
+    /// Whether the token is for this ask and these audiences, was issued since the second `renew_before` and at this
+    /// time at the latest, and less than half of its time has passed.
     #[tactic(auto, unfolding(crate::specs::History::is_of_use))]
-    fn is_of_use(&self, ask: &Ask, audience: &Row<Octets>, now: u64) -> bool
-        ensures { result ≡ is_of_use ask.now audience.now now self.now }
+    fn is_of_use(&self, ask: &Ask, audience: &Row<Octets>, renew_before: u64, now: u64) -> bool
+        ensures { result ≡ is_of_use ask.now audience.now renew_before now self.now }
     {
-        self.ask == *ask && self.audience == *audience && self.token.is_fresh(now)
+        self.ask == *ask
+            && self.audience == *audience
+            && renew_before <= self.token.issued_at
+            && self.token.is_fresh(now)
     }
 }
 
@@ -66,13 +70,20 @@ impl Ring {
     }
 
     /// The newest of those that are of use.
-    pub fn newest(&self, ask: &Ask, audience: &Row<Octets>, now: u64) -> Option<&CachedToken>
-        ensures { option_map (λ k. k.now) result ≡ newest (is_of_use ask.now audience.now now) self.now }
+    pub fn newest(
+        &self,
+        ask: &Ask,
+        audience: &Row<Octets>,
+        renew_before: u64,
+        now: u64,
+    ) -> Option<&CachedToken>
+        ensures { option_map (λ k. k.now) result
+            ≡ newest (is_of_use ask.now audience.now renew_before now) self.now }
     {
         let mut found: Option<&CachedToken> = None;
         for i in 0..self.items.len() {
             if let Some(kept) = self.items.get(i) {
-                if kept.is_of_use(ask, audience, now) {
+                if kept.is_of_use(ask, audience, renew_before, now) {
                     found = Some(kept);
                 }
             }

@@ -64,23 +64,25 @@ impl Tokens {
     }
 
     /// The newest token that is kept for this ask and these audiences, in whatever order and however often each is
-    /// named, of which less than half of the time has passed.
+    /// named, and is of use.
     fn find_kept(
         &self,
         alloc: Global,
         ask: &Ask,
         audience: &[Octets],
+        renew_before: u64,
         now: u64,
     ) -> Result<Option<JwtToken>, Memory>
         ensures { IfOk result
             (λ t. t
-            ≡ find_among ask.now (sorted_texts audience.now) now (tokens_for self.now ask.now.entry_id)) }
+            ≡ find_among ask.now (sorted_texts audience.now) renew_before now
+            (tokens_for self.now ask.now.entry_id)) }
     {
         let Some(ring) = self.rings.get(ask.entry_id.as_slice()) else {
             return Ok(None);
         };
         let wanted = sort_audience(alloc, audience)?;
-        match ring.newest(ask, &wanted, now) {
+        match ring.newest(ask, &wanted, renew_before, now) {
             Some(kept) => Ok(Some(kept.token.copy(alloc)?)),
             None => Ok(None),
         }
@@ -109,23 +111,26 @@ impl Tokens {
         Ok(())
     }
 
-    /// The newest token that is kept for this ask and these audiences, of which less than half of the time has passed. In
-    /// what order and how often the audiences are named is all the same.
+    /// The newest token that is kept for this ask and these audiences, was issued since the second `renew_before` and at
+    /// this time at the latest, and of which less than half of the time has passed. In what order and how often the
+    /// audiences are named is all the same. Times are Unix seconds.
     pub fn find(
         &self,
         alloc: Global,
         ask: &Ask,
         audience: &[Octets],
+        renew_before: u64,
         now: u64,
     ) -> Result<Option<JwtToken>, Memory>
         ensures found { IfOk result
             (λ t. t
-            ≡ find_among ask.now (sorted_texts audience.now) now (tokens_for self.now ask.now.entry_id)) }
+            ≡ find_among ask.now (sorted_texts audience.now) renew_before now
+            (tokens_for self.now ask.now.entry_id)) }
         // Where the cache holds what a history leaves, it is the one that is found in them.
         ensures history { (history : List CachedToken) → StandsFor self.now history
-            → IfOk result (λ t. t ≡ find_in history ask.now (sorted_texts audience.now) now) }
+            → IfOk result (λ t. t ≡ find_in history ask.now (sorted_texts audience.now) renew_before now) }
     {
-        let token = self.find_kept(alloc, ask, audience, now)?;
+        let token = self.find_kept(alloc, ask, audience, renew_before, now)?;
         Ok(token)
     }
 

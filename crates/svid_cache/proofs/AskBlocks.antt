@@ -1,5 +1,5 @@
 -- Blocks of asks and the seconds before which none of a block is due.
-use Rattle.std.specs.Prelude.{◌≡◌, ◌++◌, ℕ, ◌+◌, ◌<◌, ◌≤◌, nat_le, nat_lt, Bool, true, false, if◌then◌else◌, List, [], ◌∷◌, map, filter, find, take, drop, get_or, set, length, Option, Some, None, unwrap_or, option_map}
+use Rattle.std.specs.Prelude.{◌≡◌, ◌++◌, ℕ, ◌+◌, ◌<◌, ◌≤◌, ◌||◌, nat_le, nat_lt, not, Bool, true, false, if◌then◌else◌, List, [], ◌∷◌, map, filter, find, take, drop, get_or, set, length, Option, Some, None, unwrap_or, option_map}
 use Rattle.std.specs.Str.{bytes_eq}
 use Rattle.std.specs.List.{AllByRecursion}
 use Rattle.std.specs.List.Sorted.{IsStrictlySortedBy}
@@ -12,7 +12,7 @@ use Rattle.std.proofs.lemmas.List.{take-append-drop, drop_more, take_all, drop_a
 use Rattle.std.proofs.lemmas.List.Edits.{map_over_more}
 use Rattle.std.proofs.lemmas.List.Elements.{filter-append}
 use Rattle.list_laws.specs.Lists.{Rises}
-use Rattle.wl_entry.specs.Fitness.{is_half_over}
+use Rattle.wl_entry.specs.Fitness.{is_half_over, is_wanted}
 use Rattle.wl_entry.specs.Keys.{ask_key}
 use Rattle.wl_entry.specs.Same.{same_ask}
 use Rattle.wl_entry.specs.declared.asks.Ask.{Ask}
@@ -22,8 +22,21 @@ use Rattle.list_laws.proofs.Elements.{all_such}
 use Rattle.list_laws.proofs.Equality.{same_bytes}
 use Rattle.list_laws.proofs.Order.{order}
 use Rattle.svid_cache.proofs.CacheFacts.{same_entry_id}
-use Rattle.svid_cache.specs.Caches.{kept_for, is_due, lasts, is_below, is_above, with_svid}
-use Rattle.svid_cache.specs.Queue.{half_second, first_second, NotBefore, OthersNotBefore, Filed, NoneBelow, clear_second}
+use Rattle.svid_cache.specs.Caches.{kept_for, is_to_be_replaced, is_due, lasts, is_below, is_above, with_svid}
+use Rattle.svid_cache.specs.Queue.{half_second, due_second, first_second, NotBefore, OthersNotBefore, AllBegunBy, Filed, NoneBelow, clear_second}
+
+-- ---- what is found has what all have
+
+pub some_is : {X : Type 0} (x y : X) → Some x ≡ Some y → x ≡ y
+some_is x y is = cc
+
+pub found_go : {X : Type 0} (t : X → Bool) (P : X → Type 0) (y : X) (ys : List X) (x : X) (b : Bool) → P y → (find t ys ≡ Some x → P x) → (if b then Some y else find t ys) ≡ Some x → P x
+found_go t P y ys x true here there found = subst P (some_is y x found) here
+found_go t P y ys x false here there found = there found
+
+found_such : {X : Type 0} (t : X → Bool) (P : X → Type 0) (xs : List X) (x : X) → AllByRecursion P xs → find t xs ≡ Some x → P x
+found_such t P [] x all found = cc
+found_such t P (y ∷ ys) x all found = found_go t P y ys x (t y) all.0 (λ there. found_such t P ys x all.1 there) found
 
 -- ---- the first second
 
@@ -31,27 +44,36 @@ use Rattle.svid_cache.specs.Queue.{half_second, first_second, NotBefore, OthersN
 half_come : (g : Signed) (now : ℕ) → now < half_second g → is_half_over now g ≡ false
 half_come g now before = grind (arith, nat_tests, before)
 
-not_due_go : (now first : ℕ) (o : Option Svid) → first ≤ unwrap_or (option_map (λ s. half_second s.signed) o) 0 → now < first → unwrap_or (option_map (λ s. is_half_over now s.signed) o) true ≡ false
-not_due_go now first None from before = absurd (omega (arith, from, before))
-not_due_go now first (Some s) from before = half_come s.signed now (omega (arith, from, before))
+-- an SVID that has begun is not to be replaced before that second
+stays_go : (renew now first : ℕ) (g : Signed) (b : Bool) → nat_lt g.not_before renew ≡ b → g.not_before ≤ now → first ≤ (if b then 0 else half_second g) → now < first → is_to_be_replaced renew now g ≡ false
+stays_go renew now first g true is begun from before = absurd (omega (arith, from, before))
+stays_go renew now first g false is begun from before =
+    let half = half_come g now (omega (arith, from, before)) in
+    let wanted : is_wanted renew now g ≡ true = grind (arith, nat_tests, is, begun) in
+    λ i. not (wanted i) || half i
 
-not_due : (now first : ℕ) (svids : List Svid) (a : Ask) → NotBefore svids first a → now < first → is_due now svids a ≡ false
-unfolding is_due first_second
-not_due now first svids a from before = not_due_go now first (kept_for svids a) from before
+not_due_go : (renew now first : ℕ) (o : Option Svid) → ((s : Svid) → o ≡ Some s → s.signed.not_before ≤ now) → first ≤ unwrap_or (option_map (λ s. due_second renew s.signed) o) 0 → now < first → unwrap_or (option_map (λ s. is_to_be_replaced renew now s.signed) o) true ≡ false
+not_due_go renew now first None begun from before = absurd (omega (arith, from, before))
+not_due_go renew now first (Some s) begun from before = stays_go renew now first s.signed (nat_lt s.signed.not_before renew) refl (begun s refl) from before
 
--- none of a block is due before its second
-pub none_due : (now first : ℕ) (svids : List Svid) (asks : List Ask) → AllByRecursion (NotBefore svids first) asks → now < first → filter (is_due now svids) asks ≡ []
-none_due now first svids [] all before = refl
-none_due now first svids (a ∷ more) all before = rw (not_due now first svids a all.0 before) (none_due now first svids more all.1 before)
+not_due : (renew now first : ℕ) (svids : List Svid) (a : Ask) → AllBegunBy now svids → NotBefore renew svids first a → now < first → is_due renew now svids a ≡ false
+unfolding is_due first_second kept_for
+not_due renew now first svids a begun from before =
+    not_due_go renew now first (kept_for svids a) (λ s found. found_such (λ k. same_ask k.ask a) (λ k. k.signed.not_before ≤ now) svids s begun found) from before
+
+-- none of a block is due before its second, where all SVIDs have begun
+pub none_due : (renew now first : ℕ) (svids : List Svid) (asks : List Ask) → AllBegunBy now svids → AllByRecursion (NotBefore renew svids first) asks → now < first → filter (is_due renew now svids) asks ≡ []
+none_due renew now first svids [] begun all before = refl
+none_due renew now first svids (a ∷ more) begun all before = rw (not_due renew now first svids a begun all.0 before) (none_due renew now first svids more begun all.1 before)
 
 -- nor any ask before the least of the seconds
-pub none_filed : (now next size : ℕ) (svids : List Svid) (firsts : List ℕ) (asks : List Ask) → Filed (NotBefore svids) size firsts asks → NoneBelow next firsts → now < next → filter (is_due now svids) asks ≡ []
+pub none_filed : (renew now next size : ℕ) (svids : List Svid) (firsts : List ℕ) (asks : List Ask) → AllBegunBy now svids → Filed (NotBefore renew svids) size firsts asks → NoneBelow next firsts → now < next → filter (is_due renew now svids) asks ≡ []
 unfolding Filed
-none_filed now next size svids [] asks filed all before = ap (filter (is_due now svids)) filed
-none_filed now next size svids (f ∷ fs) asks filed all before =
-    ap (filter (is_due now svids)) (sym (take-append-drop size asks))
-    ∙ (filter-append (is_due now svids) (take size asks) (drop size asks)
-    ∙ (λ i. none_due now f svids (take size asks) filed.0 (omega (arith, before, all.0)) i ++ none_filed now next size svids fs (drop size asks) filed.1 all.1 before i))
+none_filed renew now next size svids [] asks begun filed all before = ap (filter (is_due renew now svids)) filed
+none_filed renew now next size svids (f ∷ fs) asks begun filed all before =
+    ap (filter (is_due renew now svids)) (sym (take-append-drop size asks))
+    ∙ (filter-append (is_due renew now svids) (take size asks) (drop size asks)
+    ∙ (λ i. none_due renew now f svids (take size asks) begun filed.0 (omega (arith, before, all.0)) i ++ none_filed renew now next size svids fs (drop size asks) begun filed.1 all.1 before i))
 
 pub no_seconds : (least : ℕ) (firsts : List ℕ) → firsts ≡ [] → NoneBelow least firsts
 no_seconds least firsts empty = subst (NoneBelow least) (sym empty) tt
@@ -201,20 +223,31 @@ written new old n same long =
 pub write_more : (f : ℕ → ℕ) (xs ys : List ℕ) (i y : ℕ) → i < length xs → i < length ys → ys ≡ map f (take i xs) ++ drop i xs → y ≡ f (get_or ys i 0) → set ys i y ≡ map f (take (i + 1) xs) ++ drop (i + 1) xs
 write_more f xs ys i y below long so_far is = ap (set ys i) is ∙ map_over_more f xs ys i (get_or ys i 0) below so_far (get_or_default ys i 0 (get_or ys i 0) long)
 
-swept_go : (now first : ℕ) (svids : List Svid) (a : Ask) (b : Bool) (o : Option Svid) → nat_le first now ≡ b → kept_for svids a ≡ o → first ≤ unwrap_or (option_map (λ s. half_second s.signed) o) 0 → (if b then 0 else first) ≤ unwrap_or (option_map (λ s. half_second s.signed) (kept_for (filter (lasts now) svids) a)) 0
+due_go : (renew : ℕ) (g : Signed) (b : Bool) → (if b then 0 else half_second g) ≤ g.not_after
+due_go renew g true = omega arith
+due_go renew g false = omega arith
+
+-- no SVID comes due after its end
+due_ends : (renew : ℕ) (g : Signed) → due_second renew g ≤ g.not_after
+due_ends renew g = due_go renew g (nat_lt g.not_before renew)
+
+swept_go : (renew now first : ℕ) (svids : List Svid) (a : Ask) (b : Bool) (o : Option Svid) → nat_le first now ≡ b → kept_for svids a ≡ o → first ≤ unwrap_or (option_map (λ s. due_second renew s.signed) o) 0 → (if b then 0 else first) ≤ unwrap_or (option_map (λ s. due_second renew s.signed) (kept_for (filter (lasts now) svids) a)) 0
 unfolding kept_for
-swept_go now first svids a true o come kept from = omega arith
-swept_go now first svids a false None come kept from = absurd (grind (arith, nat_tests, come, from))
-swept_go now first svids a false (Some s) come kept from =
-    let ends : nat_lt now s.signed.not_after ≡ true = grind (arith, nat_tests, come, from) in
+swept_go renew now first svids a true o come kept from = omega arith
+swept_go renew now first svids a false None come kept from = absurd (grind (arith, nat_tests, come, from))
+swept_go renew now first svids a false (Some s) come kept from =
+    let within = due_ends renew s.signed in
+    let after : now < first = grind (arith, nat_tests, come) in
+    let lasting : now < s.signed.not_after = omega (arith, after, from, within) in
+    let ends : nat_lt now s.signed.not_after ≡ true = grind (arith, nat_tests, lasting) in
     rw (find_passing (λ k. same_ask k.ask a) (lasts now) svids s kept ends) from
 
-swept_fits : (now first : ℕ) (svids : List Svid) (a : Ask) → NotBefore svids first a → NotBefore (filter (lasts now) svids) (clear_second now first) a
+swept_fits : (renew now first : ℕ) (svids : List Svid) (a : Ask) → NotBefore renew svids first a → NotBefore renew (filter (lasts now) svids) (clear_second now first) a
 unfolding first_second
-swept_fits now first svids a from = swept_go now first svids a (nat_le first now) (kept_for svids a) refl refl from
+swept_fits renew now first svids a from = swept_go renew now first svids a (nat_le first now) (kept_for svids a) refl refl from
 
-pub filed_swept : (now size : ℕ) (svids : List Svid) (firsts : List ℕ) (asks : List Ask) → Filed (NotBefore svids) size firsts asks → Filed (NotBefore (filter (lasts now) svids)) size (map (clear_second now) firsts) asks
-filed_swept now size svids firsts asks filed = filed_such (NotBefore svids) (NotBefore (filter (lasts now) svids)) (clear_second now) (λ first a from. swept_fits now first svids a from) size firsts asks filed
+pub filed_swept : (renew now size : ℕ) (svids : List Svid) (firsts : List ℕ) (asks : List Ask) → Filed (NotBefore renew svids) size firsts asks → Filed (NotBefore renew (filter (lasts now) svids)) size (map (clear_second now) firsts) asks
+filed_swept renew now size svids firsts asks filed = filed_such (NotBefore renew svids) (NotBefore renew (filter (lasts now) svids)) (clear_second now) (λ first a from. swept_fits renew now first svids a from) size firsts asks filed
 
 -- ---- a new SVID
 
@@ -246,16 +279,16 @@ put_other : (s : Svid) (svids : List Svid) (a : Ask) → bytes_eq a.entry_id s.a
 unfolding kept_for
 put_other s svids a other = find_put s svids (λ k. same_ask k.ask a) a.entry_id (λ k same. same_entry_id k.ask a same) other
 
-put_fits : (s : Svid) (svids : List Svid) (first : ℕ) (a : Ask) → NotBefore svids first a → OthersNotBefore s.ask.entry_id (with_svid s svids) first a
+put_fits : (renew : ℕ) (s : Svid) (svids : List Svid) (first : ℕ) (a : Ask) → NotBefore renew svids first a → OthersNotBefore renew s.ask.entry_id (with_svid s svids) first a
 unfolding first_second
-put_fits s svids first a from = λ other. subst (λ o. first ≤ unwrap_or (option_map (λ k. half_second k.signed) o) 0) (sym (put_other s svids a other)) from
+put_fits renew s svids first a from = λ other. subst (λ o. first ≤ unwrap_or (option_map (λ k. due_second renew k.signed) o) 0) (sym (put_other s svids a other)) from
 
-pub filed_put : (s : Svid) (size : ℕ) (svids : List Svid) (firsts : List ℕ) (asks : List Ask) → Filed (NotBefore svids) size firsts asks → Filed (OthersNotBefore s.ask.entry_id (with_svid s svids)) size firsts asks
-filed_put s size svids firsts asks filed = filed_same (NotBefore svids) (OthersNotBefore s.ask.entry_id (with_svid s svids)) (λ first a from. put_fits s svids first a from) size firsts asks filed
+pub filed_put : (renew : ℕ) (s : Svid) (size : ℕ) (svids : List Svid) (firsts : List ℕ) (asks : List Ask) → Filed (NotBefore renew svids) size firsts asks → Filed (OthersNotBefore renew s.ask.entry_id (with_svid s svids)) size firsts asks
+filed_put renew s size svids firsts asks filed = filed_same (NotBefore renew svids) (OthersNotBefore renew s.ask.entry_id (with_svid s svids)) (λ first a from. put_fits renew s svids first a from) size firsts asks filed
 
-pub others_at : (size : ℕ) (id id' : List ℕ) (svids svids' : List Svid) (firsts firsts' : List ℕ) (asks asks' : List Ask) → id ≡ id' → svids ≡ svids' → firsts ≡ firsts' → asks ≡ asks' → Filed (OthersNotBefore id' svids') size firsts' asks' → Filed (OthersNotBefore id svids) size firsts asks
-others_at size id id' svids svids' firsts firsts' asks asks' same_id same_svids same_firsts same_asks filed =
-    subst (λ x. Filed (OthersNotBefore x svids) size firsts asks) (sym same_id)
-    (subst (λ x. Filed (OthersNotBefore id' x) size firsts asks) (sym same_svids)
-    (subst (λ x. Filed (OthersNotBefore id' svids') size x asks) (sym same_firsts)
-    (subst (λ x. Filed (OthersNotBefore id' svids') size firsts' x) (sym same_asks) filed)))
+pub others_at : (renew size : ℕ) (id id' : List ℕ) (svids svids' : List Svid) (firsts firsts' : List ℕ) (asks asks' : List Ask) → id ≡ id' → svids ≡ svids' → firsts ≡ firsts' → asks ≡ asks' → Filed (OthersNotBefore renew id' svids') size firsts' asks' → Filed (OthersNotBefore renew id svids) size firsts asks
+others_at renew size id id' svids svids' firsts firsts' asks asks' same_id same_svids same_firsts same_asks filed =
+    subst (λ x. Filed (OthersNotBefore renew x svids) size firsts asks) (sym same_id)
+    (subst (λ x. Filed (OthersNotBefore renew id' x) size firsts asks) (sym same_svids)
+    (subst (λ x. Filed (OthersNotBefore renew id' svids') size x asks) (sym same_firsts)
+    (subst (λ x. Filed (OthersNotBefore renew id' svids') size firsts' x) (sym same_asks) filed)))

@@ -96,43 +96,43 @@ place_later id (suc n) p (a ∷ more) le at = later_go id n p a more le (λ q fe
 
 -- ---- blocks
 
-others_all : (id : List ℕ) (svids : List Svid) (first : ℕ) (asks : List Ask) → Absent id asks → AllByRecursion (OthersNotBefore id svids first) asks → AllByRecursion (NotBefore svids first) asks
-others_all id svids first [] none all = tt
-others_all id svids first (a ∷ more) none all = (all.0 none.0, others_all id svids first more none.1 all.1)
+others_all : (renew : ℕ) (id : List ℕ) (svids : List Svid) (first : ℕ) (asks : List Ask) → Absent id asks → AllByRecursion (OthersNotBefore renew id svids first) asks → AllByRecursion (NotBefore renew svids first) asks
+others_all renew id svids first [] none all = tt
+others_all renew id svids first (a ∷ more) none all = (all.0 none.0, others_all renew id svids first more none.1 all.1)
 
-filed_absent : (id : List ℕ) (svids : List Svid) (size : ℕ) (firsts : List ℕ) (asks : List Ask) → Absent id asks → Filed (OthersNotBefore id svids) size firsts asks → Filed (NotBefore svids) size firsts asks
+filed_absent : (renew : ℕ) (id : List ℕ) (svids : List Svid) (size : ℕ) (firsts : List ℕ) (asks : List Ask) → Absent id asks → Filed (OthersNotBefore renew id svids) size firsts asks → Filed (NotBefore renew svids) size firsts asks
 unfolding Filed
-filed_absent id svids size [] asks none filed = filed
-filed_absent id svids size (f ∷ fs) asks none filed =
-    (others_all id svids f (take size asks) (absent_take id size asks none) filed.0, filed_absent id svids size fs (drop size asks) (absent_drop id size asks none) filed.1)
+filed_absent renew id svids size [] asks none filed = filed
+filed_absent renew id svids size (f ∷ fs) asks none filed =
+    (others_all renew id svids f (take size asks) (absent_take id size asks none) filed.0, filed_absent renew id svids size fs (drop size asks) (absent_drop id size asks none) filed.1)
 
 -- where no ask is the entry's each block has its second
-pub filed_without : (id : List ℕ) (svids : List Svid) (size : ℕ) (firsts : List ℕ) (asks : List Ask) → place_at ask_key asks id ≡ None → Filed (OthersNotBefore id svids) size firsts asks → Filed (NotBefore svids) size firsts asks
-filed_without id svids size firsts asks none filed = filed_absent id svids size firsts asks (absent_of id asks none) filed
+pub filed_without : (renew : ℕ) (id : List ℕ) (svids : List Svid) (size : ℕ) (firsts : List ℕ) (asks : List Ask) → place_at ask_key asks id ≡ None → Filed (OthersNotBefore renew id svids) size firsts asks → Filed (NotBefore renew svids) size firsts asks
+filed_without renew id svids size firsts asks none filed = filed_absent renew id svids size firsts asks (absent_of id asks none) filed
 
 no_place : (id : List ℕ) (asks : List Ask) (p : ℕ) → asks ≡ [] → place_at ask_key asks id ≡ Some p → None ≡ Some p
 unfolding place_at
 no_place id asks p none at = ap (λ l. place_at ask_key l id) (sym none) ∙ at
 
-filed_set : (id : List ℕ) (svids : List Svid) (size b r f p : ℕ) (firsts : List ℕ) (asks : List Ask) → p ≡ b * size + r → r < size → Rises (map ask_key asks) → place_at ask_key asks id ≡ Some p
-    → Filed (OthersNotBefore id svids) size firsts asks → AllByRecursion (NotBefore svids f) (take size (drop (b * size) asks)) → Filed (NotBefore svids) size (set firsts b f) asks
+filed_set : (renew : ℕ) (id : List ℕ) (svids : List Svid) (size b r f p : ℕ) (firsts : List ℕ) (asks : List Ask) → p ≡ b * size + r → r < size → Rises (map ask_key asks) → place_at ask_key asks id ≡ Some p
+    → Filed (OthersNotBefore renew id svids) size firsts asks → AllByRecursion (NotBefore renew svids f) (take size (drop (b * size) asks)) → Filed (NotBefore renew svids) size (set firsts b f) asks
 unfolding Filed
-filed_set id svids size b r f p [] asks is less rises at filed all = let no = no_place id asks p filed at in cc no
-filed_set id svids size zero r f p (x ∷ fs) asks is less rises at filed all =
-    (subst (λ n. AllByRecursion (NotBefore svids f) (take size (drop n asks))) (let none : 0 * size ≡ 0 = omega arith in none) all, filed_absent id svids size fs (drop size asks) (absent_after id size p asks rises (omega (arith, is, less)) at) filed.1)
-filed_set id svids size (suc b) r f p (x ∷ fs) asks is less rises at filed all =
+filed_set renew id svids size b r f p [] asks is less rises at filed all = let no = no_place id asks p filed at in cc no
+filed_set renew id svids size zero r f p (x ∷ fs) asks is less rises at filed all =
+    (subst (λ n. AllByRecursion (NotBefore renew svids f) (take size (drop n asks))) (let none : 0 * size ≡ 0 = omega arith in none) all, filed_absent renew id svids size fs (drop size asks) (absent_after id size p asks rises (omega (arith, is, less)) at) filed.1)
+filed_set renew id svids size (suc b) r f p (x ∷ fs) asks is less rises at filed all =
     let le : size ≤ p = omega (arith, is) in
     let rest : p - size ≡ b * size + r = omega (arith, is) in
-    let all' : AllByRecursion (NotBefore svids f) (take size (drop (b * size) (drop size asks))) = subst (λ l. AllByRecursion (NotBefore svids f) (take size l)) (sym (drop-drop (b * size) size asks)) (subst (λ n. AllByRecursion (NotBefore svids f) (take size (drop n asks))) (let sum : suc b * size ≡ size + b * size = omega arith in sum) all) in (
-      others_all id svids x (take size asks) (absent_before id size p asks le at) filed.0,
-      filed_set id svids size b r f (p - size) fs (drop size asks) rest less (rises_drop size asks rises) (place_later id size p asks le at) filed.1 all',
+    let all' : AllByRecursion (NotBefore renew svids f) (take size (drop (b * size) (drop size asks))) = subst (λ l. AllByRecursion (NotBefore renew svids f) (take size l)) (sym (drop-drop (b * size) size asks)) (subst (λ n. AllByRecursion (NotBefore renew svids f) (take size (drop n asks))) (let sum : suc b * size ≡ size + b * size = omega arith in sum) all) in (
+      others_all renew id svids x (take size asks) (absent_before id size p asks le at) filed.0,
+      filed_set renew id svids size b r f (p - size) fs (drop size asks) rest less (rises_drop size asks rises) (place_later id size p asks le at) filed.1 all',
     )
 
 -- a new second is written for the block of the entry's ask
-pub filed_anew : (id : List ℕ) (svids : List Svid) (size f p : ℕ) (firsts : List ℕ) (asks : List Ask) → 0 < size → Rises (map ask_key asks) → place_at ask_key asks id ≡ Some p
-    → Filed (OthersNotBefore id svids) size firsts asks → AllByRecursion (NotBefore svids f) (take size (drop (p / size * size) asks)) → Filed (NotBefore svids) size (set firsts (p / size) f) asks
-filed_anew id svids size f p firsts asks some rises at filed all =
-    filed_set id svids size (p / size) (p % size) f p firsts asks (sym (div-add-mod' p size)) (mod_below p size some) rises at filed all
+pub filed_anew : (renew : ℕ) (id : List ℕ) (svids : List Svid) (size f p : ℕ) (firsts : List ℕ) (asks : List Ask) → 0 < size → Rises (map ask_key asks) → place_at ask_key asks id ≡ Some p
+    → Filed (OthersNotBefore renew id svids) size firsts asks → AllByRecursion (NotBefore renew svids f) (take size (drop (p / size * size) asks)) → Filed (NotBefore renew svids) size (set firsts (p / size) f) asks
+filed_anew renew id svids size f p firsts asks some rises at filed all =
+    filed_set renew id svids size (p / size) (p % size) f p firsts asks (sym (div-add-mod' p size)) (mod_below p size some) rises at filed all
 
 -- the blocks hold all asks
 filed_long : (Fits : ℕ → Ask → Type 0) (size : ℕ) (firsts : List ℕ) (asks : List Ask) → Filed Fits size firsts asks → length asks ≤ length firsts * size

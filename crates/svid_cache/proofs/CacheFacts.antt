@@ -42,17 +42,17 @@ all_pass p (x ∷ xs) = passes_go p x (filter p xs) (p x) refl (all_pass p xs)
 
 -- ---- no SVIDs, fewer SVIDs, other asks
 
-pub empty_cached : (svids : List Svid) → svids ≡ [] → IsCached (record { asks = []; svids = svids })
+pub empty_cached : (renew : ℕ) (svids : List Svid) → svids ≡ [] → IsCached (record { asks = []; svids = svids; renew_before = renew })
 unfolding IsStrictlySortedBy
-empty_cached svids none = subst (λ l. IsCached (record { asks = []; svids = l })) (sym none) (record { asks = tt; svids = tt; listed = tt; within = tt; few = omega arith })
+empty_cached renew svids none = subst (λ l. IsCached (record { asks = []; svids = l; renew_before = renew })) (sym none) (record { asks = tt; svids = tt; listed = tt; within = tt; few = omega arith })
 
 -- one ask rises
 pub alone_rises : (a : Ask) → Rises (map ask_key (a ∷ []))
 unfolding IsStrictlySortedBy
 alone_rises a = (tt, tt)
 
-pub synced_cached : (asks : List Ask) (old : List Ask) (svids : List Svid) → IsCached (record { asks = old; svids = svids }) → Rises (map ask_key asks) → length asks < 2 ^ 32 → IsCached (record { asks = asks; svids = filter (λ s. is_listed asks s.ask) svids })
-synced_cached asks old svids is rises few =
+pub synced_cached : (renew before : ℕ) (asks : List Ask) (old : List Ask) (svids : List Svid) → IsCached (record { asks = old; svids = svids; renew_before = before }) → Rises (map ask_key asks) → length asks < 2 ^ 32 → IsCached (record { asks = asks; svids = filter (λ s. is_listed asks s.ask) svids; renew_before = renew })
+synced_cached renew before asks old svids is rises few =
     record {
       asks = rises;
       svids = rises_filter svid_key (λ s. is_listed asks s.ask) svids is.svids;
@@ -61,8 +61,8 @@ synced_cached asks old svids is rises few =
       few = few;
     }
 
-pub swept_cached : (now : ℕ) (asks : List Ask) (svids : List Svid) → IsCached (record { asks = asks; svids = svids }) → IsCached (record { asks = asks; svids = filter (lasts now) svids })
-swept_cached now asks svids is =
+pub swept_cached : (renew now : ℕ) (asks : List Ask) (svids : List Svid) → IsCached (record { asks = asks; svids = svids; renew_before = renew }) → IsCached (record { asks = asks; svids = filter (lasts now) svids; renew_before = renew })
+swept_cached renew now asks svids is =
     record {
       asks = is.asks;
       svids = rises_filter svid_key (lasts now) svids is.svids;
@@ -73,9 +73,9 @@ swept_cached now asks svids is =
 
 -- ---- a new SVID
 
-pub put_cached : (s : Svid) (asks : List Ask) (svids : List Svid) → IsCached (record { asks = asks; svids = svids }) → is_listed asks s.ask ≡ true → SignedWithin s.signed → IsCached (record { asks = asks; svids = with_svid s svids })
+pub put_cached : (renew : ℕ) (s : Svid) (asks : List Ask) (svids : List Svid) → IsCached (record { asks = asks; svids = svids; renew_before = renew }) → is_listed asks s.ask ≡ true → SignedWithin s.signed → IsCached (record { asks = asks; svids = with_svid s svids; renew_before = renew })
 unfolding with_svid
-put_cached s asks svids is listed within =
+put_cached renew s asks svids is listed within =
     let id = s.ask.entry_id in
     let L : Svid → Type 0 = λ k. is_listed asks k.ask ≡ true in
     let W : Svid → Type 0 = λ k. SignedWithin k.signed in
@@ -172,4 +172,4 @@ fits now g fit =
 
 pub install_within : (now : ℕ) (s : Svid) (c : Cached) → install now s c ≡ installed.Kept → SignedWithin s.signed
 unfolding install
-install_within now s c kept = fits now s.signed (fit_kept (is_listed c.asks s.ask) (signed_unfit now s.signed) (unless_older s.signed (kept_for c.svids s.ask)) kept)
+install_within now s c kept = fits now s.signed (fit_kept (is_listed c.asks s.ask) (signed_unfit now s.signed) (unless_older c.renew_before now s.signed (kept_for c.svids s.ask)) kept)

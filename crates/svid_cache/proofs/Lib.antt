@@ -4,3 +4,5 @@ pub mod KeyTests
 pub mod CacheFacts
 pub mod Latest
 pub mod Expiries
+pub mod Begins
+pub mod KeptAlready

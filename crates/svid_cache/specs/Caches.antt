@@ -1,12 +1,12 @@
 -- Asks and the SVIDs that are kept for them (own rules after the SPIRE agent).
-use Rattle.std.specs.Prelude.{◌≡◌, ℕ, ◌<◌, ◌^◌, Bool, true, false, not, nat_lt, nat_le, if◌then◌else◌, List, map, filter, find, length, Option, Some, None, unwrap_or, option_map}
+use Rattle.std.specs.Prelude.{◌≡◌, ℕ, ◌<◌, ◌^◌, ◌&&◌, ◌||◌, Bool, true, false, not, nat_lt, nat_le, if◌then◌else◌, List, map, filter, find, length, Option, Some, None, unwrap_or, option_map}
 use Rattle.std.specs.List.{list_any, AllByRecursion}
 use Rattle.list_laws.specs.Lists.{Rises}
 use Rattle.sorted_blocks.specs.Blocks as blocks
-use Rattle.wl_entry.specs.Fitness.{signed_unfit, is_half_over}
+use Rattle.wl_entry.specs.Fitness.{signed_unfit, is_half_over, is_wanted}
 use Rattle.wl_entry.specs.Keys.{ask_key, svid_key}
 use Rattle.wl_entry.specs.Limits.{SignedWithin}
-use Rattle.wl_entry.specs.Same.{same_ask}
+use Rattle.wl_entry.specs.Same.{same_ask, same_signed}
 use Rattle.wl_entry.specs.declared.asks.Ask.{Ask}
 use Rattle.wl_entry.specs.declared.signing.Signed.{Signed}
 use Rattle.wl_entry.specs.declared.signing.Svid.{Svid}
@@ -14,10 +14,12 @@ use Rattle.wl_entry.specs.declared.unfit.Unfit.{Unfit}
 use Rattle.svid_cache.specs.declared.install.Installed.{Installed}
 use Rattle.svid_cache.specs.declared.install.Installed.TheVariants as installed
 
--- what a cache has: the asks by ascending entry id, and the kept SVIDs by ascending entry id
+-- what a cache has: the asks by ascending entry id, the kept SVIDs by ascending entry id, and the second since which an
+-- SVID has to be signed, or else it is to be replaced
 pub record Cached : Type 0 where
   pub asks : List Ask
   pub svids : List Svid
+  pub renew_before : ℕ
 
 -- the ask is among these
 unfoldable pub is_listed : List Ask → Ask → Bool
@@ -34,19 +36,23 @@ kept_for svids a = find (λ s. same_ask s.ask a) svids
 
 -- ---- what is due
 
--- no SVID is kept for the ask, or half of the time of the kept one has passed
-unfoldable pub is_due : ℕ → List Svid → Ask → Bool
-is_due now svids a = unwrap_or (option_map (λ s. is_half_over now s.signed) (kept_for svids a)) true
+-- a kept SVID is to be replaced: it was signed before `renew_before`, or begins after now, or half of its time has passed
+abbrev pub is_to_be_replaced : ℕ → ℕ → Signed → Bool
+is_to_be_replaced renew_before now g = not (is_wanted renew_before now g) || is_half_over now g
+
+-- no SVID is kept for the ask, or the kept one is to be replaced
+unfoldable pub is_due : ℕ → ℕ → List Svid → Ask → Bool
+is_due renew_before now svids a = unwrap_or (option_map (λ s. is_to_be_replaced renew_before now s.signed) (kept_for svids a)) true
 
 -- the asks that are due at a time
 abbrev pub due_asks : ℕ → Cached → List Ask
-due_asks now c = filter (is_due now c.svids) c.asks
+due_asks now c = filter (is_due c.renew_before now c.svids) c.asks
 
 -- ---- what changes
 
--- other asks: the SVIDs stay whose ask is among them
-abbrev pub with_asks : List Ask → Cached → Cached
-with_asks asks c = record { asks = asks; svids = filter (λ s. is_listed asks s.ask) c.svids }
+-- other asks and another `renew_before`: the SVIDs stay whose ask is among them
+abbrev pub with_asks : List Ask → ℕ → Cached → Cached
+with_asks asks renew_before c = record { asks = asks; svids = filter (λ s. is_listed asks s.ask) c.svids; renew_before = renew_before }
 
 -- the SVID is not over
 abbrev pub lasts : ℕ → Svid → Bool
@@ -58,7 +64,7 @@ has_ended now c = list_any (λ s. not (lasts now s)) c.svids
 
 -- the SVIDs stay that are not over
 abbrev pub without_ended : ℕ → Cached → Cached
-without_ended now c = record { asks = c.asks; svids = filter (lasts now) c.svids }
+without_ended now c = record { asks = c.asks; svids = filter (lasts now) c.svids; renew_before = c.renew_before }
 
 -- the SVID is that of an entry below this one, or above it
 abbrev pub is_below : List ℕ → Svid → Bool
@@ -67,16 +73,22 @@ is_below id s = blocks.is_below svid_key id s
 abbrev pub is_above : List ℕ → Svid → Bool
 is_above id s = blocks.is_above svid_key id s
 
+-- this very SVID is kept already
+unfoldable pub keeps : List Svid → Svid → Bool
+keeps svids s = unwrap_or (option_map (λ k. same_signed k.signed s.signed) (kept_for svids s.ask)) false
+
 -- the SVID takes the place of its entry's one
 unfoldable pub with_svid : Svid → List Svid → List Svid
 with_svid s svids = blocks.with_item svid_key s svids
 
 -- ---- Install: the first reason against a new SVID, or else it is kept
 
--- the kept one ends no earlier
-abbrev pub unless_older : Signed → Option Svid → Installed
-unless_older g None = installed.Kept
-unless_older g (Some k) = if nat_le g.not_after k.signed.not_after then installed.Older k.signed.not_after else installed.Kept
+-- the kept one is still wanted, and ends no earlier: one that was signed before `renew_before` or begins after now gives
+-- way to any new one
+abbrev pub unless_older : ℕ → ℕ → Signed → Option Svid → Installed
+unless_older renew_before now g None = installed.Kept
+unless_older renew_before now g (Some k) =
+    if is_wanted renew_before now k.signed && nat_le g.not_after k.signed.not_after then installed.Older k.signed.not_after else installed.Kept
 
 -- it is of no use
 abbrev pub unless_unfit : Option Unfit → Installed → Installed
@@ -85,12 +97,12 @@ unless_unfit None rest = rest
 
 unfoldable pub install : ℕ → Svid → Cached → Installed
 install now s c =
-    if is_listed c.asks s.ask then unless_unfit (signed_unfit now s.signed) (unless_older s.signed (kept_for c.svids s.ask))
+    if is_listed c.asks s.ask then unless_unfit (signed_unfit now s.signed) (unless_older c.renew_before now s.signed (kept_for c.svids s.ask))
     else installed.NoSuchAsk
 
 -- what the answer makes of the cache
 abbrev pub after_install : Installed → Svid → Cached → Cached
-after_install installed.Kept s c = record { asks = c.asks; svids = with_svid s c.svids }
+after_install installed.Kept s c = record { asks = c.asks; svids = with_svid s c.svids; renew_before = c.renew_before }
 after_install _ s c = c
 
 -- it was not kept

@@ -38,7 +38,7 @@ impl Model for Cache {
 impl Cache {
     /// A cache without asks. It takes no memory.
     pub fn start(alloc: Global) -> Cache
-        ensures { result ≡ record { asks = []; svids = [] } }
+        ensures { result ≡ record { asks = []; svids = []; renew_before = 0 } }
     {
         Cache {
             table: Timetable::start(alloc),
@@ -94,24 +94,34 @@ impl Cache {
         self.table.lists(ask)
     }
 
-    /// The cache with other asks. The SVIDs stay whose ask is among them.
-    pub fn prepare_sync(&self, alloc: Global, asks: Row<Ask>) -> Result<Cache, Memory>
+    /// The cache with other asks and another second since which an SVID has to be signed. The SVIDs stay whose ask is
+    /// among the asks.
+    pub fn prepare_sync(
+        &self,
+        alloc: Global,
+        asks: Row<Ask>,
+        renew_before: u64,
+    ) -> Result<Cache, Memory>
         requires rises { Rises (map ask_key asks) }
         requires at_most { length asks < 2 ^ 32 }
-        ensures { IfOk result (λ c. c ≡ with_asks asks self.now) }
+        ensures { IfOk result (λ c. c ≡ with_asks asks renew_before self.now) }
     {
         let svids = self.blocks(alloc)?;
-        Cache::of(alloc, self.table.prepare_sync(alloc, &svids, asks)?)
+        Cache::of(
+            alloc,
+            self.table.prepare_sync(alloc, &svids, asks, renew_before)?,
+        )
     }
 
-    /// Takes other asks. The SVIDs stay whose ask is among them.
-    pub fn sync(&mut self, alloc: Global, asks: Row<Ask>) -> Result<(), Memory>
+    /// Takes other asks and another second since which an SVID has to be signed. The SVIDs stay whose ask is among the
+    /// asks.
+    pub fn sync(&mut self, alloc: Global, asks: Row<Ask>, renew_before: u64) -> Result<(), Memory>
         requires rises { Rises (map ask_key asks) }
         requires at_most { length asks < 2 ^ 32 }
-        ensures ok { OnOk result (self.new ≡ with_asks asks self.old) }
+        ensures ok { OnOk result (self.new ≡ with_asks asks renew_before self.old) }
         ensures err { OnErr result (self.new ≡ self.old) }
     {
-        *self = self.prepare_sync(alloc, asks)?;
+        *self = self.prepare_sync(alloc, asks, renew_before)?;
         Ok(())
     }
 

@@ -11,7 +11,7 @@ pub enum Installed {
     NoSuchAsk,
     /// It is of no use, for this reason.
     Unfit(Unfit),
-    /// The kept one ends at this second, in Unix time, and the new one not later.
+    /// The kept one is still wanted and ends at this second, in Unix time, and the new one not later.
     Older(u64),
     /// Its ticket is not in flight. A cache never answers this.
     Spent,

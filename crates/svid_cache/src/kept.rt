@@ -6,8 +6,8 @@ ghost use Rattle.list_laws.specs.Lists.{Rises};
 ghost use Rattle.wl_entry.specs.Keys.{ask_key, svid_key};
 ghost use Rattle.wl_entry.specs.Same.{same_ask};
 ghost use Rattle.sorted_blocks.specs.Blocks.{join};
-ghost use Rattle.svid_cache.specs.Caches.{only, is_listed, kept_for, is_due, lasts, unless_older};
-ghost use Rattle.svid_cache.specs.Queue.{NoneEndsBefore, IsLatest, last_second};
+ghost use Rattle.svid_cache.specs.Caches.{only, is_listed, kept_for, keeps, is_due, lasts, unless_older};
+ghost use Rattle.svid_cache.specs.Queue.{NoneEndsBefore, AllBegunBy, IsLatest, IsEarliest, last_second};
 
 use crate::asks::lists;
 use crate::install::Installed;
@@ -39,14 +39,29 @@ pub(crate) fn find_kept<'a>(svids: &'a SortedBlocks<Svid>, ask: &Ask) -> Option<
     }
 }
 
+/// Whether this very SVID is kept already.
+#[tactic(auto, unfolding(crate::specs::Caches::keeps))]
+pub(crate) fn keeps(svids: &SortedBlocks<Svid>, svid: &Svid) -> bool
+    requires { Rises (map svid_key svids.now) }
+    ensures { result ≡ keeps svids.now svid.now }
+{
+    match find_kept(svids, &svid.ask) {
+        Some(kept) => kept.part().signed == svid.signed,
+        None => false,
+    }
+}
+
 /// Whether an ask is due.
 #[tactic(auto, unfolding(crate::specs::Caches::is_due))]
-pub(crate) fn due_at(svids: &SortedBlocks<Svid>, ask: &Ask, now: u64) -> bool
+pub(crate) fn due_at(svids: &SortedBlocks<Svid>, ask: &Ask, renew_before: u64, now: u64) -> bool
     requires { Rises (map svid_key svids.now) }
-    ensures { result ≡ is_due now svids.now ask.now }
+    ensures { result ≡ is_due renew_before now svids.now ask.now }
 {
     match find_kept(svids, ask) {
-        Some(svid) => svid.part().signed.is_due(now),
+        Some(svid) => {
+            let signed = &svid.part().signed;
+            !signed.is_wanted(renew_before, now) || signed.is_due(now)
+        }
         None => true,
     }
 }
@@ -127,14 +142,49 @@ pub(crate) fn first_end_in(blocks: &[Shared<Row<Shared<Svid>>>]) -> u64
     first
 }
 
-/// Whether the kept one ends later, or at the same second.
-pub(crate) fn judge_end(kept: Option<&Shared<Svid>>, signed: &Signed) -> Installed
-    ensures { result ≡ unless_older signed.now (option_copied kept.entry) }
+/// The last second at which one of the SVIDs begins, or this one if it is later.
+fn last_begin(svids: &[Shared<Svid>], other: u64) -> u64
+    ensures begun { AllBegunBy result svids.now }
+    ensures other { other ≤ result }
+    ensures exact { IsEarliest other (λ s. AllBegunBy s svids.now) result }
 {
-    match kept {
-        Some(kept) if signed.not_after <= kept.part().signed.not_after => {
-            Installed::Older(kept.part().signed.not_after)
-        }
-        _ => Installed::Kept,
+    let mut last = other;
+    for svid in svids {
+        last = last.max(svid.part().signed.not_before);
+    }
+    last
+}
+
+/// The last second at which one of the SVIDs in these blocks begins.
+pub(crate) fn last_begin_in(blocks: &[Shared<Row<Shared<Svid>>>]) -> u64
+    ensures begun { AllBegunBy result (join blocks.now) }
+    ensures exact { IsEarliest 0 (λ s. AllBegunBy s (join blocks.now)) result }
+{
+    let mut last = 0;
+    for block in blocks {
+        last = last_begin(block.part().as_slice(), last);
+    }
+    last
+}
+
+/// Whether the kept one is still wanted, and ends later or at the same second. One that was signed before the second
+/// `renew_before` or begins after now gives way to any new one, also to one that ends earlier: else each new one would
+/// be refused while the kept one is asked for again.
+pub(crate) fn judge_end(
+    kept: Option<&Shared<Svid>>,
+    signed: &Signed,
+    renew_before: u64,
+    now: u64,
+) -> Installed
+    ensures { result ≡ unless_older renew_before now signed.now (option_copied kept.entry) }
+{
+    let Some(kept) = kept else {
+        return Installed::Kept;
+    };
+    let kept = &kept.part().signed;
+    if kept.is_wanted(renew_before, now) && signed.not_after <= kept.not_after {
+        Installed::Older(kept.not_after)
+    } else {
+        Installed::Kept
     }
 }

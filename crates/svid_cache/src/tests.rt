@@ -4,6 +4,7 @@ ghost use Rattle.std.specs.Prelude.{◌<◌, ◌^◌, length, map, IfOk};
 ghost use Rattle.list_laws.specs.Lists.{Rises};
 ghost use Rattle.wl_entry.specs.Keys.{ask_key};
 
+use crate::kept::last_begin_in;
 use crate::queue::{due_of, file_all};
 use crate::{Cache, Installed, KeptSvids, Timetable};
 use sorted_blocks::SortedBlocks;
@@ -37,7 +38,7 @@ fn alone(alloc: Global, ask: Ask) -> Result<Row<Ask>, Memory>
 fn cache(alloc: Global) -> Result<Cache, Fail> {
     let mut cache = Cache::start(alloc);
     let asks = alone(alloc, ask(alloc, b"e1")?)?;
-    cache.sync(alloc, asks)?;
+    cache.sync(alloc, asks, 0)?;
     Ok(cache)
 }
 
@@ -123,14 +124,27 @@ fn first_end(rt: HostRuntime) -> Result<(), Fail> {
     Ok(())
 }
 
-/// How many asks of the entries `e1` and `e2` are due, in blocks of this size.
+/// How many asks of the entries `e1` and `e2` are due, in blocks of this size; 0 while an SVID has not begun.
 fn count_in_blocks(alloc: Global, size: usize, cache: &Cache, now: u64) -> Result<usize, Fail>
     requires { 0 < size }
 {
     let svids = SortedBlocks::of(alloc, cache.svids())?;
+    let begins = last_begin_in(svids.blocks());
+    if now < begins {
+        return Ok(0);
+    }
     let asks = vec![in alloc; ask(alloc, b"e1")?, ask(alloc, b"e2")?]?;
-    let firsts = file_all(alloc, size, asks.as_slice(), &svids)?;
-    Ok(due_of(alloc, size, firsts.as_slice(), asks.as_slice(), &svids, now)?.len())
+    let firsts = file_all(alloc, size, asks.as_slice(), &svids, 0)?;
+    Ok(due_of(
+        alloc,
+        size,
+        firsts.as_slice(),
+        asks.as_slice(),
+        &svids,
+        0,
+        now,
+    )?
+    .len())
 }
 
 #[test]
@@ -158,7 +172,7 @@ fn change(alloc: Global, cache: &mut Cache) -> Result<(), Fail> {
     let mut changed = ask(alloc, b"e1")?;
     changed.ttl = 60;
     let asks = alone(alloc, changed)?;
-    Ok(cache.sync(alloc, asks)?)
+    Ok(cache.sync(alloc, asks, 0)?)
 }
 
 /// How many SVIDs and asks a cache has, and whether it lists the first ask of the entry.
@@ -177,6 +191,156 @@ fn other_asks(rt: HostRuntime) -> Result<(), Fail> {
     Ok(())
 }
 
+/// An identity that is kept, from its first second to its end; the `renew_before` of the document that comes then; and
+/// an identity that is offered at a time. What is due and what is said.
+#[derive(Clone, Copy)]
+struct Renewal {
+    kept: (u64, u64),
+    renew_before: u64,
+    now: u64,
+    is_due: bool,
+    offered: (u64, u64),
+    is_taken: bool,
+    is_due_after: bool,
+}
+
+/// Renewals of a row, in its order.
+const RENEWED_ROOT: [Renewal; 5] = [
+    // signed at the very second, or after it: nothing is to be renewed
+    Renewal {
+        kept: (100, 300),
+        renew_before: 100,
+        now: 150,
+        is_due: false,
+        offered: (150, 250),
+        is_taken: false,
+        is_due_after: false,
+    },
+    Renewal {
+        kept: (100, 300),
+        renew_before: 0,
+        now: 150,
+        is_due: false,
+        offered: (150, 301),
+        is_taken: true,
+        is_due_after: false,
+    },
+    // signed before it: due, and replaced by one that ends earlier
+    Renewal {
+        kept: (100, 300),
+        renew_before: 150,
+        now: 150,
+        is_due: true,
+        offered: (150, 250),
+        is_taken: true,
+        is_due_after: false,
+    },
+    // the signer still dates it back: taken, and due again
+    Renewal {
+        kept: (100, 300),
+        renew_before: 150,
+        now: 150,
+        is_due: true,
+        offered: (149, 299),
+        is_taken: true,
+        is_due_after: true,
+    },
+    // the very same
+    Renewal {
+        kept: (100, 300),
+        renew_before: 101,
+        now: 150,
+        is_due: true,
+        offered: (100, 300),
+        is_taken: true,
+        is_due_after: true,
+    },
+];
+
+/// Renewals after the clock was two hours ahead.
+const CLOCK_WENT_BACK: [Renewal; 4] = [
+    // signed while it was ahead: due at once, and replaced by one that ends earlier
+    Renewal {
+        kept: (7300, 7500),
+        renew_before: 0,
+        now: 100,
+        is_due: true,
+        offered: (100, 300),
+        is_taken: true,
+        is_due_after: false,
+    },
+    // the last second before it begins, and the first of it
+    Renewal {
+        kept: (101, 301),
+        renew_before: 0,
+        now: 100,
+        is_due: true,
+        offered: (100, 300),
+        is_taken: true,
+        is_due_after: false,
+    },
+    Renewal {
+        kept: (100, 300),
+        renew_before: 0,
+        now: 100,
+        is_due: false,
+        offered: (100, 300),
+        is_taken: false,
+        is_due_after: false,
+    },
+    // the signer's clock is ahead by a second: taken, and due again
+    Renewal {
+        kept: (7300, 7500),
+        renew_before: 0,
+        now: 100,
+        is_due: true,
+        offered: (101, 301),
+        is_taken: true,
+        is_due_after: true,
+    },
+];
+
+/// Whether a renewal goes as it says, and the identity that was offered is kept where it is taken, else the first.
+fn goes_as_said(alloc: Global, row: &Renewal) -> Result<bool, Fail> {
+    let mut cache = cache(alloc)?;
+    let kept = svid(alloc, b"e1", row.kept.0, row.kept.1)?;
+    let _ = cache.install(alloc, kept, row.kept.0)?;
+    let asks = alone(alloc, ask(alloc, b"e1")?)?;
+    cache.sync(alloc, asks, row.renew_before)?;
+    let due = count_due(alloc, &cache, row.now)?;
+    let offered = svid(alloc, b"e1", row.offered.0, row.offered.1)?;
+    let said = cache.install(alloc, offered, row.now)?;
+    let after = count_due(alloc, &cache, row.now)?;
+    let stays = if row.is_taken { row.offered } else { row.kept };
+    let last = svid(alloc, b"e1", stays.0, stays.1)?;
+    let is_kept = match cache.svids() {
+        [one] => *one.part() == last,
+        _ => false,
+    };
+    Ok(
+        (said == Installed::Kept) == row.is_taken
+            && (due == 1) == row.is_due
+            && (after == 1) == row.is_due_after
+            && is_kept,
+    )
+}
+
+#[test]
+fn renewed_root(rt: HostRuntime) -> Result<(), Fail> {
+    for row in RENEWED_ROOT {
+        assert!(rt; goes_as_said(rt.alloc(), &row)?);
+    }
+    Ok(())
+}
+
+#[test]
+fn clock_went_back(rt: HostRuntime) -> Result<(), Fail> {
+    for row in CLOCK_WENT_BACK {
+        assert!(rt; goes_as_said(rt.alloc(), &row)?);
+    }
+    Ok(())
+}
+
 /// A cache, and a timetable that is to keep the same SVIDs for the same asks.
 #[derive(Drop)]
 struct Both {
@@ -189,16 +353,19 @@ fn start_both(alloc: Global) -> Result<Both, Memory> {
     let none = SortedBlocks::empty(alloc);
     Ok(Both {
         cache: Cache::start(alloc),
-        kept: Timetable::start(alloc).prepare_sync(alloc, &none, Row::empty(alloc))?,
+        kept: Timetable::start(alloc).prepare_sync(alloc, &none, Row::empty(alloc), 0)?,
     })
 }
 
-/// Both take the one ask.
-fn sync_both(alloc: Global, both: &mut Both) -> Result<(), Fail> {
+/// Both take the one ask, and the second since which its SVID has to be signed.
+fn sync_both(alloc: Global, both: &mut Both, renew_before: u64) -> Result<(), Fail> {
     let asks = alone(alloc, ask(alloc, b"e1")?)?;
     let same = alone(alloc, ask(alloc, b"e1")?)?;
-    both.cache.sync(alloc, asks)?;
-    both.kept = both.kept.table.prepare_sync(alloc, &both.kept.svids, same)?;
+    both.cache.sync(alloc, asks, renew_before)?;
+    both.kept = both
+        .kept
+        .table
+        .prepare_sync(alloc, &both.kept.svids, same, renew_before)?;
     Ok(())
 }
 
@@ -235,11 +402,13 @@ fn are_same(alloc: Global, both: &Both, now: u64) -> Result<bool, Fail> {
 #[test]
 fn a_timetable_keeps_what_a_cache_does(rt: HostRuntime) -> Result<(), Fail> {
     let mut both = start_both(rt.alloc())?;
-    sync_both(rt.alloc(), &mut both)?;
+    sync_both(rt.alloc(), &mut both, 0)?;
     for (until, now) in [(200, 100), (150, 100), (300, 120), (300, 300)] {
         assert!(rt; install_both(rt.alloc(), &mut both, until, now)?);
         assert!(rt; are_same(rt.alloc(), &both, now)? && are_same(rt.alloc(), &both, 200)?);
     }
+    sync_both(rt.alloc(), &mut both, 101)?;
+    assert!(rt; are_same(rt.alloc(), &both, 99)? && are_same(rt.alloc(), &both, 120)?);
     sweep_both(rt.alloc(), &mut both, 300)?;
     assert!(rt; are_same(rt.alloc(), &both, 300)? && both.cache.svids().is_empty());
     Ok(())

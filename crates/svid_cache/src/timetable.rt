@@ -9,8 +9,8 @@ ghost use Rattle.svid_cache.specs.Caches.{is_listed, due_asks, lasts, has_ended,
 ghost use Rattle.svid_cache.specs.Timetables.{cached_by, IsAbout};
 
 use crate::asks::lists;
-use crate::kept::{any_ended_in, first_end_in};
-use crate::queue::{clear_until, due_of, file_all, least};
+use crate::kept::{any_ended_in, first_end_in, last_begin_in};
+use crate::queue::{clear_until, due_among, due_of, file_all, least};
 use sorted_blocks::SortedBlocks;
 use std::alloc::Global;
 use std::marker::Model;
@@ -26,12 +26,16 @@ pub(crate) const BLOCK: usize = 64;
 pub struct Timetable {
     /// None before the first are reported.
     pub(crate) asks: Option<Shared<Row<Ask>>>,
-    /// A second for each block of asks, before which none of them is due.
+    /// A second for each block of asks, before which none of them is due once the SVIDs have begun.
     pub(crate) firsts: Vec<u64>,
-    /// None of the asks is due before this second.
+    /// None of the asks is due before this second once the SVIDs have begun.
     pub(crate) next: u64,
     /// None of the SVIDs has expired before this second.
     pub(crate) end: u64,
+    /// All of the SVIDs have begun at this second. Before it one may have been signed while a clock was ahead.
+    pub(crate) begins: u64,
+    /// An SVID that begins before this second is to be replaced.
+    pub(crate) renew_before: u64,
 }
 
 impl Model for Timetable {
@@ -40,13 +44,14 @@ impl Model for Timetable {
 
     ghost Value = { Times };
 
-    ghost view = { λ t. record { asks = asks_in t.asks; firsts = t.firsts.items; next = t.next; end = t.end } };
+    ghost view = { λ t. record { asks = asks_in t.asks; firsts = t.firsts.items; next = t.next; end = t.end; begins = t.begins; renew_before = t.renew_before } };
 }
 
 impl Timetable {
     /// A timetable of no asks and no SVIDs. It takes no memory.
     pub fn start(alloc: Global) -> Timetable
         ensures asks { result.asks ≡ [] }
+        ensures renew_before { result.renew_before ≡ 0 }
         ensures about { IsAbout result [] }
     {
         Timetable {
@@ -54,6 +59,8 @@ impl Timetable {
             firsts: Vec::new(alloc),
             next: u64::MAX,
             end: u64::MAX,
+            begins: 0,
+            renew_before: 0,
         }
     }
 
@@ -61,18 +68,22 @@ impl Timetable {
     pub(crate) fn of(
         alloc: Global,
         asks: Row<Ask>,
+        renew_before: u64,
         svids: &SortedBlocks<Svid>,
     ) -> Result<Timetable, Memory>
-        requires { IsCached (record { asks = asks; svids = svids.now }) }
+        requires { IsCached (record { asks = asks; svids = svids.now; renew_before = renew_before }) }
         ensures asks { IfOk result (λ t. t.asks ≡ asks) }
+        ensures renew_before { IfOk result (λ t. t.renew_before ≡ renew_before) }
         ensures about { IfOk result (λ t. IsAbout t svids.now) }
     {
-        let firsts = file_all(alloc, BLOCK, asks.as_slice(), svids)?;
+        let firsts = file_all(alloc, BLOCK, asks.as_slice(), svids, renew_before)?;
         Ok(Timetable {
             asks: Some(Shared::new(alloc, asks)?),
             next: least(firsts.as_slice()),
             firsts,
             end: first_end_in(svids.blocks()),
+            begins: last_begin_in(svids.blocks()),
+            renew_before,
         })
     }
 
@@ -85,6 +96,8 @@ impl Timetable {
             firsts: Vec::from_slice(alloc, self.firsts.as_slice())?,
             next: self.next,
             end: self.end,
+            begins: self.begins,
+            renew_before: self.renew_before,
         })
     }
 
@@ -106,6 +119,13 @@ impl Timetable {
             Some(asks) => asks.part().as_slice(),
             None => &[],
         }
+    }
+
+    /// The second since which an SVID has to be signed, or else it is to be replaced.
+    pub fn renew_before(&self) -> u64
+        ensures { result ≡ self.now.renew_before }
+    {
+        self.renew_before
     }
 
     /// Whether the ask is one of the asks.
@@ -136,13 +156,14 @@ impl Timetable {
     /// Lets go of the times of the SVIDs that have expired. It takes no memory.
     pub(crate) fn sweep(&mut self, now: u64)
         ensures asks { self.new.asks ≡ self.old.asks }
+        ensures renew_before { self.new.renew_before ≡ self.old.renew_before }
         ensures about { (svids : List Svid) → IsAbout self.old svids → IsAbout self.new (filter (lasts now) svids) }
     {
         clear_until(self.firsts.as_mut_slice(), now);
         self.next = least(self.firsts.as_slice());
     }
 
-    /// The asks that are due, by ascending entry id.
+    /// The asks that are due, by ascending entry id. Each ask is looked at only while an SVID may begin after now.
     pub fn due(
         &self,
         alloc: Global,
@@ -152,6 +173,9 @@ impl Timetable {
         requires { IsAbout self.now svids.now }
         ensures { IfOk result (λ r. r ≡ due_asks now (cached_by self.now svids.now)) }
     {
+        if now < self.begins {
+            return due_among(alloc, self.asks(), svids, self.renew_before, now);
+        }
         if now < self.next {
             return Ok(Row::empty(alloc));
         }
@@ -161,6 +185,7 @@ impl Timetable {
             self.firsts.as_slice(),
             self.asks(),
             svids,
+            self.renew_before,
             now,
         )
     }

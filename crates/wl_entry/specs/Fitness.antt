@@ -23,9 +23,14 @@ signed_unfit now s =
 abbrev pub is_half_over : ℕ → Signed → Bool
 is_half_over now s = nat_le (s.not_before + s.not_after) (2 * now)
 
--- Less than half of its time has passed: 2 * (now - issued_at) < expires_at - issued_at in whole numbers.
+-- It was signed since the second `renew_before`, and has begun.
+abbrev pub is_wanted : ℕ → ℕ → Signed → Bool
+is_wanted renew_before now s = nat_le renew_before s.not_before && nat_le s.not_before now
+
+-- It was issued at this time at the latest, and less than half of its time has passed:
+-- 2 * (now - issued_at) < expires_at - issued_at in whole numbers.
 abbrev pub is_still_fresh : ℕ → JwtToken → Bool
-is_still_fresh now t = nat_lt (2 * now) (t.issued_at + t.expires_at)
+is_still_fresh now t = nat_le t.issued_at now && nat_lt (2 * now) (t.issued_at + t.expires_at)
 
 -- `A-Z a-z 0-9 - _ .`
 abbrev pub is_token_byte : ℕ → Bool

@@ -1,7 +1,7 @@
 //! Signed identities.
 
 ghost use Rattle.std.specs.Prelude.{◌≡◌, IfOk};
-ghost use Rattle.wl_entry.specs.Fitness.{signed_unfit, is_half_over};
+ghost use Rattle.wl_entry.specs.Fitness.{signed_unfit, is_half_over, is_wanted};
 
 use crate::asks::Ask;
 use crate::limits::MAX_SIGNED_LEN;
@@ -50,6 +50,14 @@ impl Signed {
         ensures { result ≡ is_half_over now self.now }
     {
         self.not_before as u128 + self.not_after as u128 <= 2 * now as u128
+    }
+
+    /// Whether it was signed since the second `renew_before`, and has begun. An identity that begins after now was
+    /// signed while a clock was ahead.
+    pub fn is_wanted(&self, renew_before: u64, now: u64) -> bool
+        ensures { result ≡ is_wanted renew_before now self.now }
+    {
+        renew_before <= self.not_before && self.not_before <= now
     }
 
     /// A copy of the identity.

@@ -53,11 +53,12 @@ impl JwtToken {
         }
     }
 
-    /// Whether less than half of its time has passed.
+    /// Whether it was issued at this time at the latest, and less than half of its time has passed.
     pub fn is_fresh(&self, now: u64) -> bool
         ensures { result ≡ is_still_fresh now self.now }
     {
-        (2 * now as u128) < self.issued_at as u128 + self.expires_at as u128
+        self.issued_at <= now
+            && (2 * now as u128) < self.issued_at as u128 + self.expires_at as u128
     }
 
     /// A copy of the token.

@@ -5,6 +5,6 @@ use Rattle.svid_cache.proofs.queue.block_time.Given as goal
 
 abbrev pub invariant-loop-ask : goal.invariant-loop-ask
 invariant-loop-ask l = record {
-  fits : AllByRecursion (NotBefore l.svids l.first) (take l.ask-index l.asks);
-  exact : IsLatest last_second (λ s. AllByRecursion (NotBefore l.svids s) (take l.ask-index l.asks)) l.first;
+  fits : AllByRecursion (NotBefore l.renew_before l.svids l.first) (take l.ask-index l.asks);
+  exact : IsLatest last_second (λ s. AllByRecursion (NotBefore l.renew_before l.svids s) (take l.ask-index l.asks)) l.first;
 }

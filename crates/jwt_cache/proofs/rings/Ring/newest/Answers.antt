@@ -7,7 +7,7 @@ use Rattle.jwt_cache.proofs.rings.Ring.newest.Goals.{in-Some+then-is_of_use, in-
 pub loop-i-preserved : goal.loop-i-preserved
 loop-i-preserved c =
     let xs = c.self.inside.items.items in
-    let test = is_of_use c.args.ask.now c.args.audience.now c.args.now in
+    let test = is_of_use c.args.ask.now c.args.audience.now c.args.renew_before c.args.now in
     elim c.match-get.branch [
       | in-Some+then-is_of_use w ↦
           let s = newest_step test xs c.loop-i.i w.in-Some.kept.now (option_map (λ k. k.now) c.loop-i.found) (newest test xs) (sym w.in-Some.ensures) c.loop-i.invariant in

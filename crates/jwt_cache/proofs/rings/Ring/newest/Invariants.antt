@@ -6,5 +6,5 @@ use Rattle.jwt_cache.proofs.rings.Ring.newest.Given as goal
 
 abbrev pub invariant-loop-i : goal.invariant-loop-i
 invariant-loop-i l =
-    last_or (option_map (λ k. k.now) l.found) (filter (is_of_use l.ask l.audience l.now) (drop l.i l.self-inside.items.items))
-    ≡ newest (is_of_use l.ask l.audience l.now) l.self-inside.items.items
+    last_or (option_map (λ k. k.now) l.found) (filter (is_of_use l.ask l.audience l.renew_before l.now) (drop l.i l.self-inside.items.items))
+    ≡ newest (is_of_use l.ask l.audience l.renew_before l.now) l.self-inside.items.items

@@ -13,7 +13,7 @@ invariant_of-self c =
 pub returns-clause-swept : goal.returns-clause-swept
 returns-clause-swept c =
     let same : c.retain.new.self.items ≡ filter (lasts c.args.now) c.self.inside.svids.items = filter_same _ _ _ (λ x b f' k. search rules) _ _ c.retain.ensures.filtered in
-    (λ i. record { asks = c.sweep.ensures.asks i; svids = same i }) ∙ ap (without_ended c.args.now) c.self.view_is
+    (λ i. record { asks = c.sweep.ensures.asks i; svids = same i; renew_before = c.sweep.ensures.renew_before i }) ∙ ap (without_ended c.args.now) c.self.view_is
 
 pub overflow_cast-result : goal.overflow_cast-result
 overflow_cast-result c =

@@ -17,8 +17,9 @@ returns-clause-about c = λ svids is.
     let firsts : take c.self.inside.firsts.len (c.clear_until.new.firsts ++ drop (length c.clear_until.new.firsts) c.self.inside.firsts.items) ≡ map (clear_second c.args.now) c.self.inside.firsts.items =
     written c.clear_until.new.firsts c.self.inside.firsts.items c.self.inside.firsts.len long all ∙ mapped in
     record {
-      cached = swept_cached c.args.now (asks_in c.self.inside.asks) svids about.cached;
-      filed = subst (λ f. Filed (NotBefore (filter (lasts c.args.now) svids)) 64 f (asks_in c.self.inside.asks)) (sym firsts) (filed_swept c.args.now 64 svids c.self.inside.firsts.items (asks_in c.self.inside.asks) about.filed);
+      cached = swept_cached c.self.inside.renew_before c.args.now (asks_in c.self.inside.asks) svids about.cached;
+      filed = subst (λ f. Filed (NotBefore c.self.inside.renew_before (filter (lasts c.args.now) svids)) 64 f (asks_in c.self.inside.asks)) (sym firsts) (filed_swept c.self.inside.renew_before c.args.now 64 svids c.self.inside.firsts.items (asks_in c.self.inside.asks) about.filed);
       none_below = subst (NoneBelow c.least-self-inside.result) c.as_slice.ensures.value c.least-self-inside.ensures.fits;
       ends = all_filter (λ s. c.self.inside.end ≤ svid_end s) (lasts c.args.now) svids about.ends;
+      begun = all_filter (λ s. s.signed.not_before ≤ c.self.inside.begins) (lasts c.args.now) svids about.begun;
     }
