@@ -182,6 +182,14 @@ impl<V: Voucher> Desk<V> {
         self.manager.lists(ask)
     }
 
+    /// The second, in Unix time, since which identities and tokens have to be signed: that of the last document. It takes
+    /// no memory.
+    pub fn renew_before(&self) -> u64
+        ensures { result ≡ self.now.managed.stored.store.renew_before }
+    {
+        self.manager.renew_before()
+    }
+
     /// Takes back a ticket without an identity. Nothing changes where it was not in flight. It takes no memory.
     pub fn failed(&mut self, ticket: Ticket)
         ensures stored { SpentIn ticket.number ticket.ask self.old.managed.stored self.new.managed.stored }

@@ -16,7 +16,8 @@ use wl_manager::Keeping;
 use wl_octets::{Memory, Octets};
 
 impl<V: Voucher> Desk<V> {
-    /// The newest kept token for this ask and these audiences, of which less than half of the time has passed.
+    /// The newest kept token for this ask and these audiences that was issued since the last document's `renew_before` and
+    /// at this time at the latest, and of which less than half of the time has passed.
     pub fn token(
         &self,
         alloc: Global,
@@ -25,7 +26,8 @@ impl<V: Voucher> Desk<V> {
         now: u64,
     ) -> Result<Option<JwtToken>, Memory>
         ensures history { (history : List CachedToken) → StandsFor self.now.managed.tokens history
-            → IfOk result (λ t. t ≡ find_in history ask.now (sorted_texts audience.now) now) }
+            → IfOk result (λ t. t
+            ≡ find_in history ask.now (sorted_texts audience.now) self.now.managed.stored.store.renew_before now) }
         ensures vouched { IfOk result (λ t. IfSome t (V.token ask.now (sorted_texts audience.now))) }
     {
         let token = self.manager.token(alloc, ask, audience, now)?;

@@ -215,7 +215,7 @@ via_values {X = X} {C = C} r s f g is same = by r ∙ ap (λ (t : Result (List X
 pub state_same : (own : Option (List ℕ)) (d : Data) → kept_state own d ≡ state_of own d
 unfolding kept_state state_of
 state_same own d =
-    let made : Top → List Bundle → List Entry → List DocSvid → Result State DocFault = λ top bundles entries svids. Ok (record { domain = top.domain; bundles = bundles; entries = entries; svids = svids }) in
+    let made : Top → List Bundle → List Entry → List DocSvid → Result State DocFault = λ top bundles entries svids. Ok (record { domain = top.domain; bundles = bundles; entries = entries; svids = svids; renew_before = top.renew_before }) in
     ap (λ (rest : Top → Result State DocFault). top_of own d >>= rest)
     (λ i top. via_values (kept_own_bundles top.domain top.bundles) (own_bundles_of top.domain top.bundles)
     (λ bundles. kept_entries top.domain top.version top.entries >>= λ entries. kept_svids top.svids >>= λ svids. made top bundles (values_of entries) (values_of svids))

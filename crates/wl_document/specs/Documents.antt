@@ -9,7 +9,7 @@ use Rattle.wl_entry.specs.declared.limits.TheConstants.{MAX_ENTRIES, MAX_BUNDLES
 use Rattle.json_members.specs.Members.{or_fault, object_at}
 use Rattle.json_members.specs.Texts.{value_of}
 use Rattle.wl_document.specs.Places.{at_top}
-use Rattle.wl_document.specs.Members.{number_of, domain_of, list_of, list_or_empty}
+use Rattle.wl_document.specs.Members.{number_of, number_or_zero, domain_of, list_of, list_or_empty}
 use Rattle.wl_document.specs.Bundles.{bundles_of}
 use Rattle.sorted_lists.specs.Keys.{item_at}
 use Rattle.wl_entry.specs.Keys.{bundle_key}
@@ -51,6 +51,10 @@ lists_of d = do
   svids ← list_or_empty MAX_SVIDS (at_top 5) (codes "svids") d
   Ok (record { bundles = bundles; entries = entries; svids = svids })
 
+-- the second since which identities and tokens have to be signed
+unfoldable pub renew_before_of : Data → Result ℕ DocFault
+renew_before_of d = number_or_zero (at_top 6) (codes "renew_before") d
+
 -- the own domain has an X.509 bundle that is not empty
 abbrev pub has_x509 : Option Bundle → Bool
 has_x509 None = false
@@ -68,6 +72,7 @@ pub record Top : Type 0 where
   pub bundles : List Data
   pub entries : List Data
   pub svids : List Data
+  pub renew_before : ℕ
 
 unfoldable pub top_of : Option (List ℕ) → Data → Result Top DocFault
 top_of own d = do
@@ -75,7 +80,8 @@ top_of own d = do
   version ← version_of d
   domain ← own_domain_of own d
   lists ← lists_of d
-  Ok (record { version = version; domain = domain; bundles = lists.bundles; entries = lists.entries; svids = lists.svids })
+  renew_before ← renew_before_of d
+  Ok (record { version = version; domain = domain; bundles = lists.bundles; entries = lists.entries; svids = lists.svids; renew_before = renew_before })
 
 -- the state that a value's members name
 unfoldable pub state_of : Option (List ℕ) → Data → Result State DocFault
@@ -84,7 +90,7 @@ state_of own d = do
   bundles ← own_bundles_of top.domain top.bundles
   entries ← entries_of top.domain top.version top.entries
   svids ← svids_of top.svids
-  Ok (record { domain = top.domain; bundles = bundles; entries = entries; svids = svids })
+  Ok (record { domain = top.domain; bundles = bundles; entries = entries; svids = svids; renew_before = top.renew_before })
 
 -- the state of a document, where an own domain may be given
 unfoldable pub document_state : Option (List ℕ) → List ℕ → Result State DocFault

@@ -24,6 +24,10 @@ text_of p name d = required (Missing p) name d >>= text_at (Kind p)
 unfoldable pub number_of : Place → List ℕ → Data → Result ℕ DocFault
 number_of p name d = required (Missing p) name d >>= number_at (Kind p)
 
+-- a whole number below 2^64, 0 where it is absent
+unfoldable pub number_or_zero : Place → List ℕ → Data → Result ℕ DocFault
+number_or_zero p name d = optional (number_at (Kind p)) 0 (get name d)
+
 -- an array of at most n items
 unfoldable pub list_at : ℕ → Place → Data → Result (List Data) DocFault
 list_at n p d = do

@@ -3,7 +3,8 @@
 use Rattle.std.specs.Prelude.{ℕ}
 use Rattle.wl_document.specs.declared.fault.Place.{Place}
 
--- part 0, the document itself: 0 the whole, 1 `version`, 2 `trust_domain`, 3 `bundles`, 4 `entries`, 5 `svids`
+-- part 0, the document itself: 0 the whole, 1 `version`, 2 `trust_domain`, 3 `bundles`, 4 `entries`, 5 `svids`,
+-- 6 `renew_before`
 abbrev pub at_top : ℕ → Place
 at_top field = record { part = 0; index = 0; field = field; item = 0 }
 

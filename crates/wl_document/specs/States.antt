@@ -11,11 +11,13 @@ use Rattle.wl_document.specs.declared.limits.TheConstants.{MAX_SVIDS}
 use Rattle.wl_document.specs.Svids.{doc_svid_key}
 use Rattle.wl_document.specs.declared.state.DocSvid.{DocSvid}
 
+-- `renew_before` is the second since which identities and tokens have to be signed, or else they are replaced
 pub record State : Type 0 where
   pub domain : List ℕ
   pub bundles : List Bundle
   pub entries : List Entry
   pub svids : List DocSvid
+  pub renew_before : ℕ
 
 -- a signed identity is named by an entry's id
 pub record SvidWithin (s : DocSvid) : Type 0 where

@@ -54,4 +54,4 @@ kept_state own d = do
   bundles ← kept_own_bundles top.domain top.bundles
   entries ← kept_entries top.domain top.version top.entries
   svids ← kept_svids top.svids
-  Ok (record { domain = top.domain; bundles = values_of bundles; entries = values_of entries; svids = values_of svids })
+  Ok (record { domain = top.domain; bundles = values_of bundles; entries = values_of entries; svids = values_of svids; renew_before = top.renew_before })

@@ -3,7 +3,7 @@
 ghost use Rattle.std.specs.Prelude.{◌≡◌, ℕ, ◌≤◌, length, map, IfOk};
 ghost use Rattle.serde_json.specs.View.{view};
 ghost use Rattle.wl_document.specs.Checks.{Gives};
-ghost use Rattle.wl_document.specs.Members.{text_of, number_of, list_at, list_of, list_or_empty};
+ghost use Rattle.wl_document.specs.Members.{text_of, number_of, number_or_zero, list_at, list_of, list_or_empty};
 
 use crate::fault::{DocFault, Place};
 use json_members::{array_at, number_at, required, text_at};
@@ -29,6 +29,20 @@ pub(crate) fn number_of(place: Place, name: &str, value: &Value) -> Result<u64, 
         DocFault::Kind(place),
         required(DocFault::Missing(place), name, value)?,
     )
+}
+
+/// A whole number, 0 where it is absent.
+#[tactic(auto, unfolding(crate::specs::Members::number_or_zero))]
+pub(crate) fn number_or_zero(place: Place, name: &str, value: &Value) -> Result<u64, DocFault>
+    ensures { Gives (λ n. n) result (number_or_zero place name.now (view value.now)) }
+{
+    match value.get(name) {
+        Some(member) => {
+            let number = number_at(DocFault::Kind(place), member)?;
+            Ok(number)
+        }
+        None => Ok(0),
+    }
 }
 
 /// An array of at most so many items.

@@ -86,7 +86,14 @@ fn state_inner(
     let bundles = own_bundles(alloc, &head.domain, head.arrays.bundles)?;
     let entries = entries(alloc, &head.domain, head.version, head.arrays.entries)?;
     let svids = svids(alloc, head.arrays.svids)?;
-    state_from(alloc, head.domain, bundles, entries, svids)
+    state_from(
+        alloc,
+        head.domain,
+        bundles,
+        entries,
+        svids,
+        head.renew_before,
+    )
 }
 
 /// The state that a value's members name.
@@ -107,6 +114,7 @@ fn state_from(
     bundles: BTreeMap<Octets, Bundle>,
     entries: BTreeMap<Octets, Entry>,
     svids: BTreeMap<Octets, DocSvid>,
+    renew_before: u64,
 ) -> Result<AuthorityState, DocFault>
     requires bundles { KeptWithin bundle_key BundleWithin MAX_BUNDLES bundles.entries }
     requires entries { KeptWithin entry_key EntryWithin MAX_ENTRIES entries.entries }
@@ -116,6 +124,7 @@ fn state_from(
       bundles = values_of bundles.entries;
       entries = values_of entries.entries;
       svids = values_of svids.entries;
+      renew_before = renew_before;
     }) }
     ensures err { IfErr result (λ e. e ≡ Memory) }
 {
@@ -127,6 +136,7 @@ fn state_from(
         bundles: Row::from_vec(bundles),
         entries: Row::from_vec(entries),
         svids: Row::from_vec(svids),
+        renew_before,
     })
 }
 

@@ -52,6 +52,9 @@ pub struct AuthorityState {
     pub bundles: Row<Bundle>,
     pub entries: Row<Entry>,
     pub svids: Row<DocSvid>,
+    /// The second, in Unix time, since which identities and tokens have to be signed, or else they are replaced; 0
+    /// where the document names none.
+    pub renew_before: u64,
 }
 
 impl Model for AuthorityState {
@@ -59,9 +62,9 @@ impl Model for AuthorityState {
 
     ghost Value = { State };
 
-    ghost view = { λ s. record { domain = s.domain; bundles = s.bundles; entries = s.entries; svids = s.svids } };
+    ghost view = { λ s. record { domain = s.domain; bundles = s.bundles; entries = s.entries; svids = s.svids; renew_before = s.renew_before } };
 
-    ghost invariant = { λ s. Within (record { domain = s.domain; bundles = s.bundles; entries = s.entries; svids = s.svids }) };
+    ghost invariant = { λ s. Within (record { domain = s.domain; bundles = s.bundles; entries = s.entries; svids = s.svids; renew_before = s.renew_before }) };
 }
 
 impl AuthorityState {
@@ -78,6 +81,7 @@ impl AuthorityState {
             bundles,
             entries,
             svids,
+            renew_before: self.renew_before,
         })
     }
 }

@@ -6,11 +6,11 @@ ghost use Rattle.serde_json.specs.View.{view};
 ghost use Rattle.wl_entry.specs.declared.limits.TheConstants.{MAX_ENTRIES, MAX_BUNDLES};
 ghost use Rattle.wl_document.specs.declared.limits.TheConstants.{MAX_SVIDS};
 ghost use Rattle.wl_document.specs.Checks.{Gives};
-ghost use Rattle.wl_document.specs.Documents.{version_of, is_own, top_domain_of, own_domain_of, lists_of, top_of};
+ghost use Rattle.wl_document.specs.Documents.{version_of, is_own, top_domain_of, own_domain_of, lists_of, renew_before_of, top_of};
 
 use crate::fault::{DocFault, Place};
 use crate::limits::MAX_SVIDS;
-use crate::members::{list_of, list_or_empty, number_of};
+use crate::members::{list_of, list_or_empty, number_of, number_or_zero};
 use crate::names::{domain_of, same_bytes};
 use json_members::object_at;
 use serde_json::Value;
@@ -96,12 +96,21 @@ fn arrays_of(value: &Value) -> Result<Arrays, DocFault>
     })
 }
 
+/// The second since which identities and tokens have to be signed.
+#[tactic(auto, unfolding(crate::specs::Documents::renew_before_of))]
+fn renew_before_of(value: &Value) -> Result<u64, DocFault>
+    ensures { Gives (λ n. n) result (renew_before_of (view value.now)) }
+{
+    number_or_zero(Place::top(6), "renew_before", value)
+}
+
 /// The members of the top.
 #[derive(Drop)]
 pub(crate) struct Head<'a> {
     pub version: u64,
     pub domain: TrustDomain,
     pub arrays: Arrays<'a>,
+    pub renew_before: u64,
 }
 
 /// The members of the top.
@@ -117,6 +126,7 @@ pub(crate) fn head_of<'a>(
       bundles = map view h.arrays.bundles.now;
       entries = map view h.arrays.entries.now;
       svids = map view h.arrays.svids.now;
+      renew_before = h.renew_before;
     }) result (top_of (option_copied own.entry) (view value.now)) }
     ensures bundles { IfOk result (λ h. length h.arrays.bundles.now ≤ MAX_BUNDLES) }
     ensures entries { IfOk result (λ h. length h.arrays.entries.now ≤ MAX_ENTRIES) }
@@ -126,9 +136,11 @@ pub(crate) fn head_of<'a>(
     let version = version(value)?;
     let domain = own_domain(alloc, own, value)?;
     let arrays = arrays_of(value)?;
+    let renew_before = renew_before_of(value)?;
     Ok(Head {
         version,
         domain,
         arrays,
+        renew_before,
     })
 }

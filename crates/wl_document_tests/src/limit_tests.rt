@@ -70,6 +70,29 @@ fn state_of_document(rt: HostRuntime) {
     drop(state);
 }
 
+/// Asserts the second since which identities have to be signed, in a document that ends with these members.
+fn is_renewed_before(rt: &impl Abort, alloc: Global, members: &str, wanted: u64) {
+    let front =
+        r#"{"version":1,"trust_domain":"a.b","bundles":[{"trust_domain":"a.b","x509":"Aw=="}],"entries":[]"#;
+    let document = format!(in alloc; "{front}{members}").expect(rt, "memory");
+    let state = state_of(rt, alloc, document.as_str());
+    assert_eq!(rt; state.renew_before, wanted);
+    drop(state);
+}
+
+#[test]
+fn renewals(rt: HostRuntime) {
+    for (members, wanted) in [
+        ("}", 0),
+        (r#","renew_before":0}"#, 0),
+        (r#","renew_before":1700000000}"#, 1700000000),
+        (r#","renew_before":18446744073709551615}"#, u64::MAX),
+        (r#","renew_before":7,"renew_before":8}"#, 8),
+    ] {
+        is_renewed_before(&rt, rt.alloc(), members, wanted);
+    }
+}
+
 fn is_of(rt: &impl Abort, alloc: Global, own: &str, wanted: [usize; 7]) {
     let own = TrustDomain::parse(alloc, own.as_bytes()).expect(rt, "a domain");
     let found = outcome(rt, alloc, DOCUMENT.as_bytes(), Some(&own));
@@ -89,7 +112,7 @@ fn own_domains(rt: HostRuntime) {
 
 /// The same state, by ascending keys, with what may be left out.
 static ORDERED: &str =
-    r#"{"version":2,"trust_domain":"b","bundles":[{"trust_domain":"a","x509":"","jwks":""},{"trust_domain":"b","x509":"Aw==","jwks":""},{"trust_domain":"c","x509":"","jwks":"{}"}],"entries":[{"id":"e10","spiffe_id":"spiffe://b/w","selectors":["u:1"],"federates_with":[],"dns_names":[],"ttl":3600,"hint":""},{"id":"e2","spiffe_id":"spiffe://b","selectors":["u:1","u:2"],"federates_with":["c","a"],"dns_names":["y","x"],"ttl":60,"hint":"h"}],"svids":[{"entry":"e2","chain":"","key":"","not_before":0,"not_after":0},{"entry":"z","chain":"AQ==","key":"Ag==","not_before":1,"not_after":2}]}"#;
+    r#"{"version":2,"trust_domain":"b","bundles":[{"trust_domain":"a","x509":"","jwks":""},{"trust_domain":"b","x509":"Aw==","jwks":""},{"trust_domain":"c","x509":"","jwks":"{}"}],"entries":[{"id":"e10","spiffe_id":"spiffe://b/w","selectors":["u:1"],"federates_with":[],"dns_names":[],"ttl":3600,"hint":""},{"id":"e2","spiffe_id":"spiffe://b","selectors":["u:1","u:2"],"federates_with":["c","a"],"dns_names":["y","x"],"ttl":60,"hint":"h"}],"svids":[{"entry":"e2","chain":"","key":"","not_before":0,"not_after":0},{"entry":"z","chain":"AQ==","key":"Ag==","not_before":1,"not_after":2}],"renew_before":0}"#;
 
 static UNORDERED: &str =
     r#"{"version":2,"trust_domain":"b","bundles":[{"trust_domain":"c","jwks":"{}"},{"trust_domain":"b","x509":"Aw=="},{"trust_domain":"a"}],"entries":[{"id":"e2","spiffe_id":"spiffe://b","selectors":["u:2","u:1","u:2"],"federates_with":["c","a"],"dns_names":["y","x"],"ttl":60,"hint":"h"},{"id":"e10","spiffe_id":"spiffe://b/w","selectors":["u:1"]}],"svids":[{"entry":"z","chain":"AQ==","key":"Ag==","not_before":1,"not_after":2},{"entry":"e2","chain":"","key":"","not_before":0,"not_after":0}]}"#;
@@ -99,6 +122,7 @@ fn are_same(rt: &impl Abort, state: &AuthorityState, other: &AuthorityState) {
     assert!(rt; state.bundles == other.bundles);
     assert!(rt; state.entries == other.entries);
     assert!(rt; state.svids == other.svids);
+    assert_eq!(rt; state.renew_before, other.renew_before);
 }
 
 #[test]

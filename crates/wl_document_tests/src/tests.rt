@@ -144,6 +144,13 @@ const TOPS: &str = r#"
 [4, 0, 0, 4, 0, 0, 0]:{"version":1,"trust_domain":"a.b","bundles":[],"entries":null}
 [4, 0, 0, 5, 0, 0, 0]:{"version":1,"trust_domain":"a.b","bundles":[],"entries":[],"svids":null}
 [4, 0, 0, 5, 0, 0, 0]:{"version":1,"trust_domain":"a.b","bundles":[],"entries":[],"svids":"x"}
+[4, 0, 0, 5, 0, 0, 0]:{"version":1,"trust_domain":"a.b","renew_before":null,"bundles":[],"entries":[],"svids":null}
+[4, 0, 0, 6, 0, 0, 0]:{"version":1,"trust_domain":"a.b","bundles":[5],"entries":[5],"svids":[5],"renew_before":null}
+[4, 0, 0, 6, 0, 0, 0]:{"version":2,"trust_domain":"a.b","bundles":[],"entries":[],"renew_before":"1"}
+[4, 0, 0, 6, 0, 0, 0]:{"version":2,"trust_domain":"a.b","bundles":[],"entries":[],"renew_before":1.0}
+[4, 0, 0, 6, 0, 0, 0]:{"version":2,"trust_domain":"a.b","bundles":[],"entries":[],"renew_before":-1}
+[4, 0, 0, 6, 0, 0, 0]:{"version":2,"trust_domain":"a.b","bundles":[],"entries":[],"renew_before":18446744073709551616}
+[11, 0, 0, 0, 0, 0, 0]:{"version":1,"trust_domain":"a.b","bundles":[],"entries":[],"renew_before":18446744073709551615}
 [11, 0, 0, 0, 0, 0, 0]:{"version":1,"trust_domain":"a.b","bundles":[],"entries":[]}
 [11, 0, 0, 0, 0, 0, 0]:{"version":1,"trust_domain":"a.b","bundles":[],"entries":[5]}
 [0, 0, 0, 0, 0, 0, 0]:{"version":1,"trust_domain":"a.b","bundles":[{"trust_domain":"a.b","x509":"Aw=="}],"entries":[]}

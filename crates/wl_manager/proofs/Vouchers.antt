@@ -32,7 +32,7 @@ more_vouched token ask audience t rings next step one all =
     λ q. subst (AllByRecursion (Vouched token)) (sym (step q)) (one_or (Vouched token) (is_of q (cached_token_of ask audience t)) (tokens_for rings q) (cached_token_of ask audience t) (all q) one)
 
 -- a token that is found
-pub found_vouched : (token : Ask → List (List ℕ) → JwtToken → Type 0) (rings : List (List ℕ × List CachedToken)) (ask : Ask) (audience : List (List ℕ)) (now : ℕ) (found : Option JwtToken)
-    → AllVouched token rings → found ≡ find_among ask audience now (tokens_for rings ask.entry_id) → IfSome found (token ask audience)
-found_vouched token rings ask audience now None all is = tt
-found_vouched token rings ask audience now (Some t) all is = found_holds token ask audience now (tokens_for rings ask.entry_id) t (all ask.entry_id) (sym is)
+pub found_vouched : (token : Ask → List (List ℕ) → JwtToken → Type 0) (rings : List (List ℕ × List CachedToken)) (ask : Ask) (audience : List (List ℕ)) (since now : ℕ) (found : Option JwtToken)
+    → AllVouched token rings → found ≡ find_among ask audience since now (tokens_for rings ask.entry_id) → IfSome found (token ask audience)
+found_vouched token rings ask audience since now None all is = tt
+found_vouched token rings ask audience since now (Some t) all is = found_holds token ask audience since now (tokens_for rings ask.entry_id) t (all ask.entry_id) (sym is)

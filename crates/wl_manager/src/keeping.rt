@@ -43,8 +43,9 @@ fn size_of(audience: &[Octets]) -> u64
 }
 
 impl<V: Voucher> Manager<V> {
-    /// The newest token that is kept for this ask and these audiences, of which less than half of the time has passed. In
-    /// what order and how often the audiences are named is all the same.
+    /// The newest token that is kept for this ask and these audiences, was issued since the store's `renew_before` and at
+    /// this time at the latest, and of which less than half of the time has passed. In what order and how often the
+    /// audiences are named is all the same.
     pub fn token(
         &self,
         alloc: Global,
@@ -54,13 +55,15 @@ impl<V: Voucher> Manager<V> {
     ) -> Result<Option<JwtToken>, Memory>
         ensures found { IfOk result
             (λ t. t
-            ≡ find_among ask.now (sorted_texts audience.now) now
+            ≡ find_among ask.now (sorted_texts audience.now) self.now.stored.store.renew_before now
             (tokens_for self.now.tokens ask.now.entry_id)) }
         ensures history { (history : List CachedToken) → StandsFor self.now.tokens history
-            → IfOk result (λ t. t ≡ find_in history ask.now (sorted_texts audience.now) now) }
+            → IfOk result
+            (λ t. t ≡ find_in history ask.now (sorted_texts audience.now) self.now.stored.store.renew_before now) }
         ensures vouched { IfOk result (λ t. IfSome t (V.token ask.now (sorted_texts audience.now))) }
     {
-        let token = self.tokens.find(alloc, ask, audience, now)?;
+        let renew_before = self.store.renew_before();
+        let token = self.tokens.find(alloc, ask, audience, renew_before, now)?;
         Ok(token)
     }
 

@@ -125,6 +125,14 @@ impl<V: Voucher> Manager<V> {
         self.store.lists(ask)
     }
 
+    /// The second, in Unix time, since which identities and tokens have to be signed: that of the last document. It takes
+    /// no memory.
+    pub fn renew_before(&self) -> u64
+        ensures { result ≡ self.now.stored.store.renew_before }
+    {
+        self.store.renew_before()
+    }
+
     /// Takes back a ticket without an identity: it is in flight no more. Nothing changes where it was not in flight.
     /// It takes no memory.
     pub fn failed(&mut self, ticket: Ticket)

@@ -12,7 +12,7 @@ use documents::DOC;
 use replay::take_events;
 use std::alloc::{AllocGlobal, Global};
 use std::process::Abort;
-use transcripts::{DOCUMENTS, STRICT, TICKETS, Transcript};
+use transcripts::{DOCUMENTS, RENEWALS, STRICT, TICKETS, Transcript};
 use wl_entry::Free;
 use wl_manager::Manager;
 use wl_selector::{Selector, Selectors};
@@ -41,6 +41,11 @@ fn documents_change_entries(rt: HostRuntime) {
 #[test]
 fn tickets_come_back(rt: HostRuntime) {
     take_all(&rt, rt.alloc(), &TICKETS);
+}
+
+#[test]
+fn identities_are_renewed(rt: HostRuntime) {
+    take_all(&rt, rt.alloc(), &RENEWALS);
 }
 
 #[test]

@@ -18,7 +18,7 @@ pub use asks::{Answer, ask_jwt, ask_x509};
 pub use exchanges::{Reply, exchange, read_line};
 pub use fault::LineFault;
 pub use limits::{EXCHANGE_SECONDS, REPLY_LIMIT};
-pub use link::SignLink;
+pub use link::{AskFault, SignLink};
 pub use replies::{read_signed, read_token};
 pub use requests::{put_jwt, put_x509};
 pub use texts::{are_texts, is_text_ask};

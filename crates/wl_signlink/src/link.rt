@@ -22,7 +22,7 @@ use std::net::Net;
 use std::os::unix::net::UnixStream;
 use std::rt::Clock;
 use std::time::{Duration, Instant};
-use timed_stream::{TimedStream, connect, deadline_after};
+use timed_stream::{Spare, TimedStream, deadline_after, time_left};
 use wl_edge::{EdgeFault, RealSink, RealSource, Signer};
 use wl_entry::{Ask, JwtToken, Signed};
 use wl_octets::{Memory, Octets};
@@ -35,8 +35,19 @@ struct OpenStream {
     next: u64,
 }
 
+/// Why an ask failed.
+#[derive(Clone, Copy, Debug, Drop, PartialEq, Eq)]
+pub enum AskFault {
+    /// No stream could be opened.
+    NotReached,
+    /// No answer had come when the exchange had to end.
+    TimedOut,
+    /// The stream was closed, or what came is no answer to the ask.
+    NotAnAnswer,
+}
+
 /// A signer that answers over the stream of a Unix socket, which is opened at the first ask and after each fault. It
-/// counts its faults and tells no calls.
+/// counts its faults and tells no calls. It holds back one descriptor, which it gives up for a stream where none is left.
 #[derive(Drop)]
 pub struct SignLink<R> {
     rt: R,
@@ -45,6 +56,10 @@ pub struct SignLink<R> {
     /// How long an exchange may take, from connecting to the last byte of the reply's line.
     limit: Duration,
     open: Option<OpenStream>,
+    /// What is given up for a stream that finds no descriptor.
+    spare: Spare,
+    /// Why the last ask that failed did.
+    fault: Option<AskFault>,
     faults: u64,
 }
 
@@ -60,12 +75,12 @@ impl<R> Model for SignLink<R> {
 }
 
 /// Opens a stream, without waiting for the signer.
-fn open(net: &impl Net, path: &[u8]) -> io::Result<OpenStream>
+fn open(net: &impl Net, spare: &mut Spare, path: &[u8]) -> io::Result<OpenStream>
     ensures { IfOk result (λ o. o.next ≡ 1) }
 {
     match str::from_utf8(path) {
         Ok(path) => Ok(OpenStream {
-            stream: connect(net, path)?,
+            stream: spare.connect(net, path)?,
             next: 1,
         }),
         Err(_) => Err(io::Error::from(ErrorKind::InvalidInput)),
@@ -151,14 +166,30 @@ impl<R: Net + Clock + Clone + Drop> SignLink<R> {
     {
         let path = Octets::from_slice(alloc, path)?;
         let rt = rt.clone()?;
+        let spare = Spare::hold(&rt);
         Ok(SignLink {
             rt,
             alloc,
             path,
             limit,
             open: None,
+            spare,
+            fault: None,
             faults: 0,
         })
+    }
+
+    /// Why the last ask that failed did.
+    pub fn last_fault(&self) -> Option<AskFault> {
+        self.fault
+    }
+
+    /// Why an exchange failed that had to end by this deadline.
+    fn fault_of(&self, deadline: Instant) -> AskFault {
+        match Instant::now(&self.rt) {
+            Ok(now) if time_left(deadline, now).is_none() => AskFault::TimedOut,
+            _ => AskFault::NotAnAnswer,
+        }
     }
 
     /// The stream that is open, or a new one, with the moment by which the exchange ends that begins now. The link has
@@ -176,7 +207,7 @@ impl<R: Net + Clock + Clone + Drop> SignLink<R> {
                 return Some((open, deadline));
             }
         }
-        let open = open(&self.rt, self.path.as_slice()).ok()?;
+        let open = open(&self.rt, &mut self.spare, self.path.as_slice()).ok()?;
         Some((open, deadline))
     }
 
@@ -185,6 +216,7 @@ impl<R: Net + Clock + Clone + Drop> SignLink<R> {
     fn settle<T: Drop>(
         &mut self,
         asked: OpenStream,
+        deadline: Instant,
         answer: Option<Answer<T>>,
     ) -> Result<T, EdgeFault>
         requires closed { self.old.next ≡ None }
@@ -201,18 +233,24 @@ impl<R: Net + Clock + Clone + Drop> SignLink<R> {
                 }
                 Ok(answer.value)
             }
-            None => Err(self.failed()),
+            None => {
+                drop(asked);
+                let fault = self.fault_of(deadline);
+                Err(self.failed(fault))
+            }
         }
     }
 
     /// Counts a fault, after which no stream is open.
-    fn failed(&mut self) -> EdgeFault
+    fn failed(&mut self, fault: AskFault) -> EdgeFault
         ensures fault { result ≡ EdgeFault.Failed }
         ensures counted { Rose self.old.faults self.new.faults }
         ensures later { self.old.faults ≤ self.new.faults }
         ensures closed { self.new.next ≡ None }
     {
         self.open = None;
+        self.fault = Some(fault);
+        self.spare.hold_again(&self.rt);
         self.faults = self.faults.saturating_add(1);
         EdgeFault::Failed
     }
@@ -234,13 +272,13 @@ impl<R: Net + Clock + Clone + Drop> Signer for SignLink<R> {
         ensures numbers { IsOk result → NumbersOn self.old.next self.new.next }
     {
         if !is_text_ask(ask) {
-            return Err(self.failed());
+            return Err(self.failed(AskFault::NotAnAnswer));
         }
         let Some((asked, deadline)) = self.begin() else {
-            return Err(self.failed());
+            return Err(self.failed(AskFault::NotReached));
         };
         let answer = x509_over(&self.rt, self.alloc, &asked, deadline, ask)?;
-        self.settle(asked, answer)
+        self.settle(asked, deadline, answer)
     }
 
     fn sign_jwt(&mut self, ask: &Ask, audience: &[Octets]) -> Result<JwtToken, EdgeFault>
@@ -252,12 +290,12 @@ impl<R: Net + Clock + Clone + Drop> Signer for SignLink<R> {
         ensures numbers { IsOk result → NumbersOn self.old.next self.new.next }
     {
         if !is_text_ask(ask) || !are_texts(audience) {
-            return Err(self.failed());
+            return Err(self.failed(AskFault::NotAnAnswer));
         }
         let Some((asked, deadline)) = self.begin() else {
-            return Err(self.failed());
+            return Err(self.failed(AskFault::NotReached));
         };
         let answer = jwt_over(&self.rt, self.alloc, &asked, deadline, ask, audience)?;
-        self.settle(asked, answer)
+        self.settle(asked, deadline, answer)
     }
 }

@@ -7,14 +7,14 @@ use Rattle.std.specs.Cmp.Lexicographic.{slice_cmp}
 use Rattle.std.proofs.lemmas.Slice.Eq.{bytes_eq-Decides}
 use Rattle.std.proofs.lemmas.Bool.Decides.{nat_tests}
 use Rattle.list_laws.proofs.Order.{level_self}
-use Rattle.wl_entry.specs.Fitness.{signed_unfit}
+use Rattle.wl_entry.specs.Fitness.{signed_unfit, is_wanted}
 use Rattle.wl_entry.specs.declared.unfit.Unfit.{Unfit}
 use Rattle.svid_cache.specs.Caches as caches
 use Rattle.svid_cache.specs.declared.install.Installed.{Installed}
 use Rattle.svid_cache.specs.declared.install.Installed.TheVariants as installed
 use Rattle.std.specs.Cmp.Lexicographic.{pointwise}
 use Rattle.std.proofs.Common.{arith, refl, sym, ◌∙◌, ap, subst}
-use Rattle.wl_entry.specs.Same.{same_ask, same_entry, same_svid, same_bundle}
+use Rattle.wl_entry.specs.Same.{same_ask, same_entry, same_signed, same_svid, same_bundle}
 use Rattle.list_laws.proofs.Elements.{all_filter, length_filter}
 use Rattle.wl_entry.specs.declared.asks.Ask.{Ask}
 use Rattle.wl_entry.specs.declared.signing.Signed.{Signed}
@@ -32,16 +32,16 @@ use Rattle.wl_entry.proofs.Sames.{entries_are, svids_are, bundles_are, ask_self,
 use Rattle.wl_store.proofs.Sames.{shows_itself}
 
 -- where the last publication shows what is kept
-pub settled_same : (s : Store) (m : Stored) → shows_parts m.published s.entries s.svids s.bundles ≡ true → stored_of s.strict m.published s.in_flight s.last_ticket ≡ stored_after s m
+pub settled_same : (s : Store) (m : Stored) → shows_parts m.published s.entries s.svids s.bundles ≡ true → stored_of s.strict m.published s.renew_before s.in_flight s.last_ticket ≡ stored_after s m
 unfolding shows
 settled_same s m is =
     let entries = and_parts (pointwise same_entry m.published.entries s.entries) _ is in
     let parts = and_parts (pointwise same_svid m.published.svids s.svids) (pointwise same_bundle m.published.bundles s.bundles) entries.1 in
-    (λ i. record { store = record { strict = s.strict; entries = entries_are m.published.entries s.entries entries.0 i; bundles = bundles_are m.published.bundles s.bundles parts.1 i; svids = svids_are m.published.svids s.svids parts.0 i; in_flight = s.in_flight; last_ticket = s.last_ticket }; published = m.published })
+    (λ i. record { store = record { strict = s.strict; entries = entries_are m.published.entries s.entries entries.0 i; bundles = bundles_are m.published.bundles s.bundles parts.1 i; svids = svids_are m.published.svids s.svids parts.0 i; renew_before = s.renew_before; in_flight = s.in_flight; last_ticket = s.last_ticket }; published = m.published })
     ∙ (λ i. record { store = s; published = if sym is i then m.published else publish (m.published.number + 1) m.published.domain s })
 
 -- where it does not
-pub settled_new : (s : Store) (m : Stored) → shows_parts m.published s.entries s.svids s.bundles ≡ false → stored_of s.strict (publish (m.published.number + 1) m.published.domain s) s.in_flight s.last_ticket ≡ stored_after s m
+pub settled_new : (s : Store) (m : Stored) → shows_parts m.published s.entries s.svids s.bundles ≡ false → stored_of s.strict (publish (m.published.number + 1) m.published.domain s) s.renew_before s.in_flight s.last_ticket ≡ stored_after s m
 unfolding shows
 settled_new s m is = λ i. record { store = s; published = if sym is i then m.published else publish (m.published.number + 1) m.published.domain s }
 
@@ -53,14 +53,17 @@ pub change_new : (s : Store) (m : Stored) → shows_parts m.published s.entries 
 unfolding shows
 change_new s m is = λ i. if sym is i then change.Same else change.New
 
--- a cache of what the last publication shows
-pub shown_cached : (p : Publication) (entries : List Entry) (bundles : List Bundle) (c : Cached) → shows_parts p entries c.svids bundles ≡ true → c.asks ≡ asks_of entries → c ≡ record { asks = asks_of p.entries; svids = p.svids }
-shown_cached p entries bundles c is are =
+-- what the last publication shows has its SVIDs and the asks of its entries
+pub shown_svids : (p : Publication) (entries : List Entry) (bundles : List Bundle) (svids : List Svid) → shows_parts p entries svids bundles ≡ true → svids ≡ p.svids
+shown_svids p entries bundles svids is =
     let front = and_parts (pointwise same_entry p.entries entries) _ is in
-    let parts = and_parts (pointwise same_svid p.svids c.svids) (pointwise same_bundle p.bundles bundles) front.1 in
-    let asks = are ∙ ap asks_of (sym (entries_are p.entries entries front.0)) in
-    let svids = sym (svids_are p.svids c.svids parts.0) in
-    λ i. record { asks = asks i; svids = svids i }
+    let parts = and_parts (pointwise same_svid p.svids svids) (pointwise same_bundle p.bundles bundles) front.1 in
+    sym (svids_are p.svids svids parts.0)
+
+pub shown_asks : (p : Publication) (entries : List Entry) (bundles : List Bundle) (svids : List Svid) (asks : List Ask) → shows_parts p entries svids bundles ≡ true → asks ≡ asks_of entries → asks ≡ asks_of p.entries
+shown_asks p entries bundles svids asks is are =
+    let front = and_parts (pointwise same_entry p.entries entries) _ is in
+    are ∙ ap asks_of (sym (entries_are p.entries entries front.0))
 
 -- those of a cache that are still there are trusted as they were
 pub still_trusted : (signed : Ask → Signed → Type 0) (strict : Bool) (keep : Svid → Bool) (svids : List Svid) → AllTrusted signed strict svids → AllTrusted signed strict (filter keep svids)
@@ -93,43 +96,6 @@ other_length t (x ∷ xs) (y ∷ ys) less = and_false (t x y) (pointwise t xs ys
 
 -- ---- a new SVID
 
-below_other : (id key : List ℕ) → is_lt (slice_cmp nat_cmp key id) ≡ true → (b : Bool) → b ≡ bytes_eq key id → b ≡ false
-below_other id key less false is = refl
-below_other id key less true is =
-    let at : is_lt (slice_cmp nat_cmp id id) ≡ true = subst (λ k. is_lt (slice_cmp nat_cmp k id) ≡ true) ((bytes_eq-Decides key id).0 (sym is)) less in
-    grind (arith, ap is_lt (sym (level_self id)) ∙ at)
-
-find_go : (id : List ℕ) (v : Svid) (a : Ask) (rest : List Svid) (s : Svid) (ss : List Svid) → a.entry_id ≡ id → (b : Bool) → b ≡ is_below id s → find (λ k. same_ask k.ask a) (filter (is_below id) ss ++ v ∷ rest) ≡ Some v → find (λ k. same_ask k.ask a) ((if b then s ∷ filter (is_below id) ss else filter (is_below id) ss) ++ v ∷ rest) ≡ Some v
-find_go id v a rest s ss own false below later = later
-find_go id v a rest s ss own true below later =
-    let other : bytes_eq s.ask.entry_id a.entry_id ≡ false = subst (λ k. bytes_eq s.ask.entry_id k ≡ false) (sym own) (below_other id s.ask.entry_id (sym below) (bytes_eq s.ask.entry_id id) refl) in
-    rw other later
-
-find_last : (id : List ℕ) (v : Svid) (a : Ask) (rest svids : List Svid) → a.entry_id ≡ id → same_ask v.ask a ≡ true → find (λ s. same_ask s.ask a) (filter (is_below id) svids ++ v ∷ rest) ≡ Some v
-find_last id v a rest [] own same = rw same refl
-find_last id v a rest (s ∷ ss) own same = find_go id v a rest s ss own (is_below id s) refl (find_last id v a rest ss own same)
-
--- the new one is kept for its ask
-put_kept : (v : Svid) (svids : List Svid) → kept_for (with_svid v svids) v.ask ≡ Some v
-unfolding with_svid kept_for
-put_kept v svids = find_last v.ask.entry_id v v.ask (filter (is_above v.ask.entry_id) svids) svids refl (ask_self v.ask)
-
-le_self : (n : ℕ) → nat_le n n ≡ true
-le_self n = grind (arith, nat_tests)
-
-newer : (n : ℕ) (k : ℕ) → (if nat_le n n then installed.Older k else installed.Kept) ≡ installed.Kept → false ≡ true
-newer n k is = grind (arith, is, le_self n)
-
-differs : (v : Svid) (svids : List Svid) → unless_older v.signed (kept_for svids v.ask) ≡ installed.Kept → (b : Bool) → b ≡ pointwise same_svid svids (with_svid v svids) → b ≡ false
-differs v svids kept false is = refl
-differs v svids kept true is =
-    let found : kept_for svids v.ask ≡ Some v = ap (λ l. kept_for l v.ask) (svids_are svids (with_svid v svids) (sym is)) ∙ put_kept v svids in
-    sym (newer v.signed.not_after v.signed.not_after (ap (unless_older v.signed) (sym found) ∙ kept))
-
--- a new SVID that is kept changes the list
-pub put_differs : (v : Svid) (svids : List Svid) → unless_older v.signed (kept_for svids v.ask) ≡ installed.Kept → pointwise same_svid svids (with_svid v svids) ≡ false
-put_differs v svids kept = differs v svids kept (pointwise same_svid svids (with_svid v svids)) refl
-
 all_join : {X : Type 0} (P : X → Type 0) (xs ys : List X) → AllByRecursion P xs → AllByRecursion P ys → AllByRecursion P (xs ++ ys)
 all_join P [] ys a b = b
 all_join P (x ∷ xs) ys a b = (a.0, all_join P xs ys a.1 b)
@@ -152,13 +118,13 @@ pub cache_installs : (now : ℕ) (v : Svid) (s : Store) → refusal now v.ask v.
 unfolding refusal install caches.install
 cache_installs now v s none =
     let parts = refused_go (is_listed (asks_of s.entries) v.ask) (signed_unfit now v.signed) (leaf_judged s.strict v.ask v.signed) none in
-    (λ i. if parts.0 i then unless_unfit (parts.1 i) (unless_older v.signed (kept_for s.svids v.ask)) else installed.NoSuchAsk)
-    ∙ (λ i. unwrap_or (sym none i) (unless_older v.signed (kept_for s.svids v.ask)))
+    (λ i. if parts.0 i then unless_unfit (parts.1 i) (unless_older s.renew_before now v.signed (kept_for s.svids v.ask)) else installed.NoSuchAsk)
+    ∙ (λ i. unwrap_or (sym none i) (unless_older s.renew_before now v.signed (kept_for s.svids v.ask)))
 
 -- what is refused is the answer
 pub refusal_installs : (now : ℕ) (a : Ask) (g : Signed) (s : Store) (r : Installed) → refusal now a g s ≡ Some r → install now a g s ≡ r
 unfolding install
-refusal_installs now a g s r is = λ i. unwrap_or (is i) (unless_older g (kept_for s.svids a))
+refusal_installs now a g s r is = λ i. unwrap_or (is i) (unless_older s.renew_before now g (kept_for s.svids a))
 
 refusal_go : (b : Bool) (u l : Option Unfit) (r : Installed) → (if b then as_unfit u (as_unfit l None) else Some installed.NoSuchAsk) ≡ Some r → is_refused r ≡ true
 refusal_go true None None r is = grind (arith, is)
@@ -178,29 +144,22 @@ stays (installed.Unfit u) v svids away = refl
 stays (installed.Older x) v svids away = refl
 stays installed.Spent v svids away = refl
 
-self_same : (svids : List Svid) (other : List Svid) (i : Installed) → is_refused i ≡ true → other ≡ svids → is_refused i ≡ pointwise same_svid svids other
-self_same svids other i away same = away ∙ sym (subst (λ l. pointwise same_svid svids l ≡ true) (sym same) (list_self same_svid svid_self svids))
-
 pub refusal_gives : (signed : Ask → Signed → Type 0) (now : ℕ) (s : Store) (v : Svid) (r : Installed) (c : Cached) → AllTrusted signed s.strict s.svids → refusal now v.ask v.signed s ≡ Some r → c ≡ cached_of s → IsInstalled signed s v r c
 refusal_gives signed now s v r c trusted is same =
     let away : is_refused r ≡ true = refusal_is now v.ask v.signed s r is in
     subst (λ k. IsInstalled signed s v r k) (sym same)
-    (record { asks = refl; svids = sym (stays r v s.svids away); trusted = trusted; same = self_same s.svids s.svids r away refl })
+    (record { asks = refl; svids = sym (stays r v s.svids away); renew_before = refl; trusted = trusted })
 
-gives_go : (signed : Ask → Signed → Type 0) (s : Store) (v : Svid) → AllTrusted signed s.strict s.svids → Trusted signed s.strict v.ask v.signed → (i : Installed) → (i ≡ installed.Kept → unless_older v.signed (kept_for s.svids v.ask) ≡ installed.Kept) → IsInstalled signed s v i (caches.after_install i v (cached_of s))
-gives_go signed s v trusted one installed.Kept kept = record { asks = refl; svids = refl; trusted = put_trusted signed s.strict v s.svids trusted one; same = sym (put_differs v s.svids (kept refl)) }
-gives_go signed s v trusted one installed.NoSuchAsk kept = record { asks = refl; svids = refl; trusted = trusted; same = self_same s.svids s.svids installed.NoSuchAsk refl refl }
-gives_go signed s v trusted one (installed.Unfit u) kept = record { asks = refl; svids = refl; trusted = trusted; same = self_same s.svids s.svids (installed.Unfit u) refl refl }
-gives_go signed s v trusted one (installed.Older x) kept = record { asks = refl; svids = refl; trusted = trusted; same = self_same s.svids s.svids (installed.Older x) refl refl }
-gives_go signed s v trusted one installed.Spent kept = record { asks = refl; svids = refl; trusted = trusted; same = self_same s.svids s.svids installed.Spent refl refl }
+gives_go : (signed : Ask → Signed → Type 0) (s : Store) (v : Svid) → AllTrusted signed s.strict s.svids → Trusted signed s.strict v.ask v.signed → (i : Installed) → IsInstalled signed s v i (caches.after_install i v (cached_of s))
+gives_go signed s v trusted one installed.Kept = record { asks = refl; svids = refl; renew_before = refl; trusted = put_trusted signed s.strict v s.svids trusted one }
+gives_go signed s v trusted one installed.NoSuchAsk = record { asks = refl; svids = refl; renew_before = refl; trusted = trusted }
+gives_go signed s v trusted one (installed.Unfit u) = record { asks = refl; svids = refl; renew_before = refl; trusted = trusted }
+gives_go signed s v trusted one (installed.Older x) = record { asks = refl; svids = refl; renew_before = refl; trusted = trusted }
+gives_go signed s v trusted one installed.Spent = record { asks = refl; svids = refl; renew_before = refl; trusted = trusted }
 
-older_kept : (now : ℕ) (v : Svid) (s : Store) → refusal now v.ask v.signed s ≡ None → install now v.ask v.signed s ≡ unless_older v.signed (kept_for s.svids v.ask)
-unfolding install
-older_kept now v s none = λ i. unwrap_or (none i) (unless_older v.signed (kept_for s.svids v.ask))
-
-pub install_gives : (signed : Ask → Signed → Type 0) (now : ℕ) (s : Store) (v : Svid) (i : Installed) (c : Cached) → AllTrusted signed s.strict s.svids → Trusted signed s.strict v.ask v.signed → refusal now v.ask v.signed s ≡ None → i ≡ install now v.ask v.signed s → c ≡ caches.after_install i v (cached_of s) → IsInstalled signed s v i c
-install_gives signed now s v i c trusted one none is same =
-    subst (λ k. IsInstalled signed s v i k) (sym same) (gives_go signed s v trusted one i (λ kept. sym (older_kept now v s none) ∙ (sym is ∙ kept)))
+pub install_gives : (signed : Ask → Signed → Type 0) (s : Store) (v : Svid) (i : Installed) (c : Cached) → AllTrusted signed s.strict s.svids → Trusted signed s.strict v.ask v.signed → c ≡ caches.after_install i v (cached_of s) → IsInstalled signed s v i c
+install_gives signed s v i c trusted one same =
+    subst (λ k. IsInstalled signed s v i k) (sym same) (gives_go signed s v trusted one i)
 
 -- ---- a sweep
 
@@ -215,14 +174,14 @@ all_same svids left same = subst (λ l. pointwise same_svid svids l ≡ true) (s
 
 -- ---- the parts of a step are those of its definition
 
-pub signed_parts : (now n : ℕ) (s : Store) (v : Svid) (i : Installed) (entries : List Entry) (bundles : List Bundle) (svids : List Svid) (in_flight : List Flight) (last : ℕ) → entries ≡ s.entries → bundles ≡ s.bundles → svids ≡ svids_after i v s.svids → i ≡ install now v.ask v.signed s → in_flight ≡ without_flight n s.in_flight → last ≡ s.last_ticket
-    → with_parts entries bundles svids in_flight last s ≡ after_signed now n v.ask v.signed s
+pub signed_parts : (now n : ℕ) (s : Store) (v : Svid) (i : Installed) (entries : List Entry) (bundles : List Bundle) (kept : Cached) (in_flight : List Flight) (last : ℕ) → entries ≡ s.entries → bundles ≡ s.bundles → kept.svids ≡ svids_after i v s.svids → kept.renew_before ≡ s.renew_before → i ≡ install now v.ask v.signed s → in_flight ≡ without_flight n s.in_flight → last ≡ s.last_ticket
+    → with_parts entries bundles kept in_flight last s ≡ after_signed now n v.ask v.signed s
 unfolding after_signed
-signed_parts now n s v i entries bundles svids in_flight last es bs left is flights number =
-    λ j. record { strict = s.strict; entries = es j; bundles = bs j; svids = (left ∙ ap (λ r. svids_after r v s.svids) is) j; in_flight = flights j; last_ticket = number j }
+signed_parts now n s v i entries bundles kept in_flight last es bs left renew is flights number =
+    λ j. record { strict = s.strict; entries = es j; bundles = bs j; svids = (left ∙ ap (λ r. svids_after r v s.svids) is) j; renew_before = renew j; in_flight = flights j; last_ticket = number j }
 
-pub synced_parts : (s : Store) (entries given : List Entry) (bundles also : List Bundle) (svids : List Svid) (in_flight : List Flight) (last : ℕ) → entries ≡ given → bundles ≡ also → svids ≡ (caches.with_asks (asks_of given) (cached_of s)).svids → in_flight ≡ s.in_flight → last ≡ s.last_ticket
-    → with_parts entries bundles svids in_flight last s ≡ with_entries given also s
+pub synced_parts : (renew : ℕ) (s : Store) (entries given : List Entry) (bundles also : List Bundle) (kept : Cached) (in_flight : List Flight) (last : ℕ) → entries ≡ given → bundles ≡ also → kept ≡ caches.with_asks (asks_of given) renew (cached_of s) → in_flight ≡ s.in_flight → last ≡ s.last_ticket
+    → with_parts entries bundles kept in_flight last s ≡ with_entries given also renew s
 unfolding with_entries
-synced_parts s entries given bundles also svids in_flight last es bs left flights number =
-    λ j. record { strict = s.strict; entries = es j; bundles = bs j; svids = left j; in_flight = flights j; last_ticket = number j }
+synced_parts renew s entries given bundles also kept in_flight last es bs left flights number =
+    λ j. record { strict = s.strict; entries = es j; bundles = bs j; svids = (left j).svids; renew_before = (left j).renew_before; in_flight = flights j; last_ticket = number j }

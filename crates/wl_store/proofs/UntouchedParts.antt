@@ -2,6 +2,7 @@
 use Rattle.std.specs.Prelude.{◌≡◌, ◌||◌, ℕ, Bool, true, false, not, if◌then◌else◌, List, [], ◌∷◌, ◌+◌, ◌++◌, map, filter, find, is_some, option_map, IfSome, IsSomeAnd, Option, Some, None}
 use Rattle.std.specs.Str.{bytes_eq}
 use Rattle.std.specs.List.{list_any}
+use Rattle.std.specs.Cmp.Lexicographic.{pointwise}
 use Rattle.std.proofs.Common.{refl, sym, ◌∙◌, ap, subst}
 use Rattle.std.proofs.lemmas.Bool.{or_parts}
 use Rattle.list_laws.specs.Lists.{Rises}
@@ -11,11 +12,11 @@ use Rattle.list_laws.proofs.Keys.{found_has}
 use Rattle.wl_selector.specs.Selectors.{has_text}
 use Rattle.wl_entry.specs.Asks.{ask_of, is_ask_of}
 use Rattle.wl_entry.specs.Keys.{entry_key, svid_key}
-use Rattle.wl_entry.specs.Same.{same_ask}
+use Rattle.wl_entry.specs.Same.{same_ask, same_svid}
 use Rattle.wl_entry.specs.declared.asks.Ask.{Ask}
 use Rattle.wl_entry.specs.declared.entries.Entry.{Entry}
 use Rattle.wl_entry.specs.declared.signing.Svid.{Svid}
-use Rattle.wl_entry.proofs.Sames.{entry_is}
+use Rattle.wl_entry.proofs.Sames.{entry_is, svids_are}
 use Rattle.wl_snapshot.specs.Snapshots.{Publication, IsPublication, IsAsked}
 use Rattle.svid_cache.specs.Caches.{is_listed, is_refused, lasts, has_ended, with_svid, Cached}
 use Rattle.svid_cache.proofs.AskBlocks.{find_put}
@@ -188,14 +189,26 @@ claim_touches now ids p svids s entries own left are =
 kept_at : (ids : List (List ℕ)) (p : Publication) (svids : List Svid) (s : Store) → s.entries ≡ p.entries → svids ≡ p.svids → s.svids ≡ svids → SameBut ids p (next_publication p s)
 kept_at ids p svids s entries own same = next_but ids p s (λ id out. entry_at s.entries p.entries entries id) (λ id out. ap (λ l. item_at svid_key l id) (same ∙ own))
 
-pub signed_touches : (i : Installed) (v : Svid) (ids : List (List ℕ)) (p : Publication) (svids : List Svid) (s : Store) → s.entries ≡ p.entries → svids ≡ p.svids → s.svids ≡ svids_after i v svids → ids ≡ (if is_refused i then [] else v.ask.entry_id ∷ []) → SameBut ids p (next_publication p s)
-signed_touches installed.Kept v ids p svids s entries own left are =
+pub is_turned : (a b : Bool) → a ≡ not b → b ≡ not a
+is_turned true true is = is
+is_turned true false is = refl
+is_turned false true is = refl
+is_turned false false is = is
+
+put_touches : (i : Installed) (v : Svid) (ids : List (List ℕ)) (p : Publication) (svids : List Svid) (s : Store) → s.entries ≡ p.entries → svids ≡ p.svids → s.svids ≡ svids_after i v svids → ids ≡ v.ask.entry_id ∷ [] → SameBut ids p (next_publication p s)
+put_touches installed.Kept v ids p svids s entries own left are =
     next_but ids p s (λ id out. entry_at s.entries p.entries entries id)
     (λ id out. ap (λ l. item_at svid_key l id) left ∙ (svid_put v svids id (subst (λ l. has_text l id ≡ false) are out) ∙ ap (λ l. item_at svid_key l id) own))
-signed_touches installed.NoSuchAsk v ids p svids s entries own left are = kept_at ids p svids s entries own left
-signed_touches (installed.Unfit u) v ids p svids s entries own left are = kept_at ids p svids s entries own left
-signed_touches (installed.Older x) v ids p svids s entries own left are = kept_at ids p svids s entries own left
-signed_touches installed.Spent v ids p svids s entries own left are = kept_at ids p svids s entries own left
+put_touches installed.NoSuchAsk v ids p svids s entries own left are = kept_at ids p svids s entries own left
+put_touches (installed.Unfit u) v ids p svids s entries own left are = kept_at ids p svids s entries own left
+put_touches (installed.Older x) v ids p svids s entries own left are = kept_at ids p svids s entries own left
+put_touches installed.Spent v ids p svids s entries own left are = kept_at ids p svids s entries own left
+
+-- an SVID touches its entry, or none where the SVIDs stay
+pub signed_touches : (i : Installed) (v : Svid) (ids : List (List ℕ)) (p : Publication) (svids : List Svid) (s : Store) (b : Bool) → s.entries ≡ p.entries → svids ≡ p.svids → s.svids ≡ svids_after i v svids → b ≡ pointwise same_svid svids s.svids
+    → ids ≡ (if b then [] else v.ask.entry_id ∷ []) → SameBut ids p (next_publication p s)
+signed_touches i v ids p svids s true entries own left same are = kept_at ids p svids s entries own (sym (svids_are svids s.svids (sym same)))
+signed_touches i v ids p svids s false entries own left same are = put_touches i v ids p svids s entries own left are
 
 pub sync_touches : (ids : List (List ℕ)) (p : Publication) (svids : List Svid) (s : Store) (listed : List Entry) → svids ≡ p.svids → s.entries ≡ listed → s.svids ≡ filter (λ v. is_listed (asks_of listed) v.ask) svids
     → ((id : List ℕ) → has_text ids id ≡ false → item_at entry_key listed id ≡ item_at entry_key p.entries id)

@@ -12,10 +12,8 @@ use Rattle.wl_entry.specs.declared.signing.Svid.{Svid}
 use Rattle.wl_x509.specs.Leaves.{NamesAsk}
 use Rattle.wl_document.specs.States.{State}
 use Rattle.wl_snapshot.specs.Snapshots.{Publication}
-use Rattle.std.specs.Cmp.Lexicographic.{pointwise}
-use Rattle.wl_entry.specs.Same.{same_svid}
 use Rattle.svid_cache.specs.declared.install.Installed.{Installed}
-use Rattle.svid_cache.specs.Caches.{Cached, is_refused}
+use Rattle.svid_cache.specs.Caches.{Cached}
 use Rattle.svid_cache.specs.Timetables.{Times, IsAbout}
 use Rattle.wl_store.specs.declared.tickets.Change.{Change}
 use Rattle.wl_store.specs.declared.tickets.Change.TheVariants as change
@@ -28,7 +26,8 @@ pub record Stored : Type 0 where
 
 -- a store that begins with a document's state
 abbrev pub first_stored : Bool → State → Stored
-first_stored strict d = record { store = first_store strict d.entries d.bundles; published = publish 0 d.domain (first_store strict d.entries d.bundles) }
+first_stored strict d =
+    record { store = first_store strict d.entries d.bundles d.renew_before; published = publish 0 d.domain (first_store strict d.entries d.bundles d.renew_before) }
 
 -- this is kept now, and published where it differs from the last publication
 abbrev pub stored_after : Store → Stored → Stored
@@ -40,7 +39,7 @@ change_to s m = if shows m.published s then change.Same else change.New
 
 -- a document was read
 abbrev pub after_sync : State → Stored → Store
-after_sync d m = with_entries d.entries d.bundles m.store
+after_sync d m = with_entries d.entries d.bundles d.renew_before m.store
 
 -- a ticket is spent, and nothing else changes
 abbrev pub after_failed : ℕ → Stored → Stored
@@ -76,13 +75,13 @@ pub record IsKept (signed : Ask → Signed → Type 0) (strict : Bool) (p : Publ
 abbrev pub kept_after : Option Cached → Store → Cached
 kept_after c s = unwrap_or c (cached_of s)
 
--- the cache after Install has answered: its asks stay, its SVIDs are those that Install leaves and are trusted; they
--- are the same exactly where the SVID is not kept
+-- the cache after Install has answered: its asks and its `renew_before` stay, its SVIDs are those that Install leaves and
+-- are trusted
 pub record IsInstalled (signed : Ask → Signed → Type 0) (s : Store) (v : Svid) (i : Installed) (c : Cached) : Type 0 where
   pub asks : c.asks ≡ asks_of s.entries
   pub svids : c.svids ≡ svids_after i v s.svids
+  pub renew_before : c.renew_before ≡ s.renew_before
   pub trusted : AllTrusted signed s.strict c.svids
-  pub same : is_refused i ≡ pointwise same_svid s.svids c.svids
 
 -- ---- what the calls answer
 
@@ -92,9 +91,14 @@ news change.Same p = None
 news change.New p = Some p
 
 -- what is kept with these parts in place of the old ones
-abbrev pub with_parts : List Entry → List Bundle → List Svid → List Flight → ℕ → Store → Store
-with_parts entries bundles svids in_flight last_ticket s = record { strict = s.strict; entries = entries; bundles = bundles; svids = svids; in_flight = in_flight; last_ticket = last_ticket }
+abbrev pub with_parts : List Entry → List Bundle → Cached → List Flight → ℕ → Store → Store
+with_parts entries bundles c in_flight last_ticket s =
+    record { strict = s.strict; entries = entries; bundles = bundles; svids = c.svids; renew_before = c.renew_before; in_flight = in_flight; last_ticket = last_ticket }
 
 -- what the fields of a store are
-abbrev pub stored_of : Bool → Publication → List Flight → ℕ → Stored
-stored_of strict p in_flight last_ticket = record { store = record { strict = strict; entries = p.entries; bundles = p.bundles; svids = p.svids; in_flight = in_flight; last_ticket = last_ticket }; published = p }
+abbrev pub stored_of : Bool → Publication → ℕ → List Flight → ℕ → Stored
+stored_of strict p renew_before in_flight last_ticket =
+    record {
+      store = record { strict = strict; entries = p.entries; bundles = p.bundles; svids = p.svids; renew_before = renew_before; in_flight = in_flight; last_ticket = last_ticket };
+      published = p;
+    }

@@ -18,13 +18,14 @@ use Rattle.svid_cache.specs.declared.install.Installed.{Installed}
 use Rattle.svid_cache.specs.declared.install.Installed.TheVariants as installed
 use Rattle.wl_store.specs.declared.tickets.Flight.{Flight}
 
--- what is kept: whether leaves are judged, the entries, the bundles, the SVIDs, the tickets in flight and the number
--- of the last one
+-- what is kept: whether leaves are judged, the entries, the bundles, the SVIDs, the second since which these have to be
+-- signed, the tickets in flight and the number of the last one
 pub record Store : Type 0 where
   pub strict : Bool
   pub entries : List Entry
   pub bundles : List Bundle
   pub svids : List Svid
+  pub renew_before : ℕ
   pub in_flight : List Flight
   pub last_ticket : ℕ
 
@@ -32,20 +33,28 @@ pub record Store : Type 0 where
 abbrev pub asks_of : List Entry → List Ask
 asks_of entries = map ask_of entries
 
--- the asks and the SVIDs
+-- the asks and the SVIDs, and the second since which these have to be signed
 abbrev pub cached_of : Store → Cached
-cached_of s = record { asks = asks_of s.entries; svids = s.svids }
+cached_of s = record { asks = asks_of s.entries; svids = s.svids; renew_before = s.renew_before }
 
 -- what is kept at first
-abbrev pub first_store : Bool → List Entry → List Bundle → Store
-first_store strict entries bundles = record { strict = strict; entries = entries; bundles = bundles; svids = []; in_flight = []; last_ticket = 0 }
+abbrev pub first_store : Bool → List Entry → List Bundle → ℕ → Store
+first_store strict entries bundles renew_before = record { strict = strict; entries = entries; bundles = bundles; svids = []; renew_before = renew_before; in_flight = []; last_ticket = 0 }
 
 -- ---- a document was read
 
--- its entries and bundles; the SVIDs stay whose ask is one of its entries'
-unfoldable pub with_entries : List Entry → List Bundle → Store → Store
-with_entries entries bundles s =
-    record { strict = s.strict; entries = entries; bundles = bundles; svids = (with_asks (asks_of entries) (cached_of s)).svids; in_flight = s.in_flight; last_ticket = s.last_ticket }
+-- its entries, bundles and `renew_before`; the SVIDs stay whose ask is one of its entries'
+unfoldable pub with_entries : List Entry → List Bundle → ℕ → Store → Store
+with_entries entries bundles renew_before s =
+    record {
+      strict = s.strict;
+      entries = entries;
+      bundles = bundles;
+      svids = (with_asks (asks_of entries) renew_before (cached_of s)).svids;
+      renew_before = renew_before;
+      in_flight = s.in_flight;
+      last_ticket = s.last_ticket;
+    }
 
 -- ---- tickets are claimed
 
@@ -69,6 +78,7 @@ after_claim now s =
       entries = s.entries;
       bundles = s.bundles;
       svids = (without_ended now (cached_of s)).svids;
+      renew_before = s.renew_before;
       in_flight = s.in_flight ++ flights_from s.last_ticket (asks_to_claim now s);
       last_ticket = s.last_ticket + length (asks_to_claim now s);
     }
@@ -86,7 +96,7 @@ without_flight n (f ∷ fs) = if f.number == n then fs else f ∷ without_flight
 
 -- it is spent
 unfoldable pub without_ticket : ℕ → Store → Store
-without_ticket n s = record { strict = s.strict; entries = s.entries; bundles = s.bundles; svids = s.svids; in_flight = without_flight n s.in_flight; last_ticket = s.last_ticket }
+without_ticket n s = record { strict = s.strict; entries = s.entries; bundles = s.bundles; svids = s.svids; renew_before = s.renew_before; in_flight = without_flight n s.in_flight; last_ticket = s.last_ticket }
 
 -- a leaf is judged in a strict store alone
 abbrev pub leaf_judged : Bool → Ask → Signed → Option Unfit
@@ -103,9 +113,9 @@ refusal now a g s =
     if is_listed (asks_of s.entries) a then as_unfit (signed_unfit now g) (as_unfit (leaf_judged s.strict a g) None)
     else Some installed.NoSuchAsk
 
--- Install: that reason, or that the kept one ends no earlier, or else it is kept
+-- Install: that reason, or that the kept one is still wanted and ends no earlier, or else it is kept
 unfoldable pub install : ℕ → Ask → Signed → Store → Installed
-install now a g s = unwrap_or (refusal now a g s) (unless_older g (kept_for s.svids a))
+install now a g s = unwrap_or (refusal now a g s) (unless_older s.renew_before now g (kept_for s.svids a))
 
 -- the SVIDs after that
 abbrev pub svids_after : Installed → Svid → List Svid → List Svid
@@ -120,6 +130,7 @@ after_signed now n a g s =
       entries = s.entries;
       bundles = s.bundles;
       svids = svids_after (install now a g s) (record { ask = a; signed = g }) s.svids;
+      renew_before = s.renew_before;
       in_flight = without_flight n s.in_flight;
       last_ticket = s.last_ticket;
     }

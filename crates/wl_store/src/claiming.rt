@@ -117,12 +117,12 @@ impl<V: Voucher> Store<V> {
         requires trusted { AllTrusted V.signed self.now.store.strict (kept_after cache self.now.store).svids }
         requires same { is_none cache ≡ pointwise same_svid self.now.store.svids (kept_after cache self.now.store).svids }
         ensures next { IfOk result
-            (λ p. p.next ≡ stored_after (with_parts self.now.store.entries self.now.store.bundles (kept_after cache self.now.store).svids
+            (λ p. p.next ≡ stored_after (with_parts self.now.store.entries self.now.store.bundles (kept_after cache self.now.store)
             (self.now.store.in_flight ++ flights_from self.now.store.last_ticket asks.now)
             (self.now.store.last_ticket + length asks.now) self.now.store) self.now) }
         ensures change { IfOk result
             (λ p. p.answer.change
-            ≡ change_to (with_parts self.now.store.entries self.now.store.bundles (kept_after cache self.now.store).svids
+            ≡ change_to (with_parts self.now.store.entries self.now.store.bundles (kept_after cache self.now.store)
             (self.now.store.in_flight ++ flights_from self.now.store.last_ticket asks.now)
             (self.now.store.last_ticket + length asks.now) self.now.store) self.now) }
         ensures tickets { IfOk result

@@ -104,15 +104,21 @@ pub(crate) fn index_of(alloc: Global, entries: &[Shared<Entry>]) -> Result<Share
     Ok(Shared::new(alloc, index)?)
 }
 
-/// The timetable of the asks of these entries, without SVIDs.
-pub(crate) fn table_of(alloc: Global, entries: &[Entry]) -> Result<Shared<Timetable>, Memory>
+/// The timetable of the asks of these entries and of this `renew_before`, without SVIDs.
+pub(crate) fn table_of(
+    alloc: Global,
+    entries: &[Entry],
+    renew_before: u64,
+) -> Result<Shared<Timetable>, Memory>
     requires rises { Rises (map entry_key entries.now) }
     requires at_most { length entries.now ≤ 10000 }
     ensures asks { IfOk result (λ t. t.asks ≡ asks_of entries.now) }
+    ensures renew_before { IfOk result (λ t. t.renew_before ≡ renew_before) }
     ensures about { IfOk result (λ t. IsAbout t []) }
 {
     let asks = asks_for(alloc, entries)?;
-    let cache = Timetable::start(alloc).prepare_sync(alloc, &SortedBlocks::empty(alloc), asks)?;
+    let none = SortedBlocks::empty(alloc);
+    let cache = Timetable::start(alloc).prepare_sync(alloc, &none, asks, renew_before)?;
     let (table, _) = cache.into_parts();
     Ok(Shared::new(alloc, table)?)
 }

@@ -50,13 +50,39 @@ impl<V: Voucher> Store<V> {
         last_ticket: u64,
     ) -> Result<Store<V>, Memory>
         ensures { IfOk result
-            (λ m. m ≡ stored_of self.now.store.strict self.now.published in_flight last_ticket) }
+            (λ m. m ≡ stored_of self.now.store.strict self.now.published self.now.store.renew_before
+            in_flight last_ticket) }
     {
         Ok(Store {
             strict: self.strict,
             published: self.published.share()?,
             index: self.index.share()?,
             table: self.table.share()?,
+            in_flight,
+            last_ticket,
+            of: PhantomData,
+        })
+    }
+
+    /// The store with the timetable of this cache, where the last publication shows its SVIDs and stays.
+    fn retime(
+        &self,
+        alloc: Global,
+        cache: KeptSvids,
+        in_flight: InFlight,
+        last_ticket: u64,
+    ) -> Result<Store<V>, Memory>
+        requires asks { cache.asks ≡ asks_of self.now.published.entries }
+        requires svids { cache.svids ≡ self.now.published.svids }
+        ensures { IfOk result
+            (λ m. m ≡ stored_of self.now.store.strict self.now.published cache.renew_before in_flight last_ticket) }
+    {
+        let (table, _) = cache.into_parts();
+        Ok(Store {
+            strict: self.strict,
+            published: self.published.share()?,
+            index: self.index.share()?,
+            table: Shared::new(alloc, table)?,
             in_flight,
             last_ticket,
             of: PhantomData,
@@ -78,7 +104,8 @@ impl<V: Voucher> Store<V> {
         requires trusted { AllTrusted V.signed self.now.store.strict cache.svids }
         ensures { IfOk result (λ m. m ≡ stored_of self.now.store.strict
             (publish (self.now.published.number + 1) self.now.published.domain
-            (with_parts stock.entries stock.bundles cache.svids in_flight last_ticket self.now.store)) in_flight last_ticket) }
+            (with_parts stock.entries stock.bundles cache in_flight last_ticket self.now.store))
+            cache.renew_before in_flight last_ticket) }
     {
         let old = self.published.part();
         if old.number == u64::MAX {
@@ -120,9 +147,9 @@ impl<V: Voucher> Store<V> {
         requires same { is_none cache
             ≡ shows_parts self.now.published stock.entries (kept_after cache self.now.store).svids stock.bundles }
         ensures next { IfOk result (λ r. r.0 ≡ stored_after
-            (with_parts stock.entries stock.bundles (kept_after cache self.now.store).svids in_flight last_ticket self.now.store) self.now) }
+            (with_parts stock.entries stock.bundles (kept_after cache self.now.store) in_flight last_ticket self.now.store) self.now) }
         ensures change { IfOk result (λ r. r.1 ≡ change_to
-            (with_parts stock.entries stock.bundles (kept_after cache self.now.store).svids in_flight last_ticket self.now.store) self.now) }
+            (with_parts stock.entries stock.bundles (kept_after cache self.now.store) in_flight last_ticket self.now.store) self.now) }
     {
         match cache {
             None => {
@@ -134,6 +161,35 @@ impl<V: Voucher> Store<V> {
                 Ok((next, Change::New))
             }
         }
+    }
+
+    /// As `settle`, of a cache that another `renew_before` may have made: where the last publication shows it with this
+    /// stock, there is no new one.
+    pub(crate) fn settle_synced(
+        &self,
+        alloc: Global,
+        stock: Stock,
+        cache: KeptSvids,
+        is_same: bool,
+        in_flight: InFlight,
+    ) -> Result<(Store<V>, Change), Memory>
+        requires stock { IsStock stock.entries stock.bundles }
+        requires indexed { stock.index ≡ stock.entries }
+        requires cached { cache.asks ≡ asks_of stock.entries }
+        requires trusted { AllTrusted V.signed self.now.store.strict cache.svids }
+        requires same { is_same ≡ shows_parts self.now.published stock.entries cache.svids stock.bundles }
+        ensures next { IfOk result (λ r. r.0 ≡ stored_after
+            (with_parts stock.entries stock.bundles cache in_flight self.now.store.last_ticket self.now.store) self.now) }
+        ensures change { IfOk result (λ r. r.1 ≡ change_to
+            (with_parts stock.entries stock.bundles cache in_flight self.now.store.last_ticket self.now.store) self.now) }
+    {
+        if is_same {
+            let next = self.retime(alloc, cache, in_flight, self.last_number())?;
+            return Ok((next, Change::Same));
+        }
+        let last_ticket = self.last_number();
+        let (next, change) = self.settle(alloc, stock, Some(cache), in_flight, last_ticket)?;
+        Ok((next, change))
     }
 
     /// Takes a prepared step: its whole state, whatever the store is now. So a caller prepares a step and adopts it with

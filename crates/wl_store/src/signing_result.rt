@@ -1,11 +1,13 @@
 //! Tickets that come back with a signed identity.
 
 ghost use Rattle.std.specs.Prelude.{◌≡◌, true, false, if◌then◌else◌, [], ◌∷◌, is_none, unwrap_or, Ok, None, Some, IfOk, OnOk, OnErr};
+ghost use Rattle.std.specs.Cmp.Lexicographic.{pointwise};
+ghost use Rattle.wl_entry.specs.Same.{same_svid};
 ghost use Rattle.wl_x509.specs.Leaves.{NamesAsk};
 ghost use Rattle.wl_store.specs.Steps.{stored_after, change_to, after_failed, IsInstalled, kept_after};
 ghost use Rattle.wl_store.specs.Stores.{cached_of, has_ticket, after_signed, install, leaf_judged, refusal};
 ghost use Rattle.wl_snapshot.specs.Untouched.{SameBut};
-ghost use Rattle.svid_cache.specs.Caches.{after_install, is_refused};
+ghost use Rattle.svid_cache.specs.Caches.{after_install};
 
 use crate::preparing::Prepared;
 use crate::store::Store;
@@ -16,17 +18,7 @@ use wl_entry::{Ask, Signed, Svid, Unfit, Voucher};
 use wl_octets::{Memory, Octets, Row};
 use wl_x509::leaf_unfit;
 
-/// Whether it was not kept.
-fn is_refused(installed: &Installed) -> bool
-    ensures { result ≡ is_refused installed.now }
-{
-    match installed {
-        Installed::Kept => false,
-        _ => true,
-    }
-}
-
-/// The id of the entry that a signing touches: none, where nothing is kept.
+/// The id of the entry that a signing touches: none, where the SVIDs stay as they are.
 fn id_touched(alloc: Global, id: Octets, is_same: bool) -> Result<Row<Octets>, Memory>
     ensures { IfOk result (λ ids. ids ≡ (if is_same then [] else id ∷ [])) }
 {
@@ -77,7 +69,8 @@ impl<V: Voucher> Store<V> {
         }
     }
 
-    /// What becomes of an SVID against which nothing stands yet, and the asks and SVIDs with it where it is kept.
+    /// What becomes of an SVID against which nothing stands yet, and the asks and SVIDs with it where it is kept and was
+    /// not before.
     fn install_cache(
         &self,
         alloc: Global,
@@ -88,14 +81,15 @@ impl<V: Voucher> Store<V> {
         ensures answer { IfOk result (λ r. r.1 ≡ install now svid.ask svid.signed self.now.store) }
         ensures cache { IfOk result
             (λ r. kept_after r.0 self.now.store ≡ after_install r.1 svid (cached_of self.now.store)) }
-        ensures none { IfOk result (λ r. is_none r.0 ≡ is_refused r.1) }
+        ensures none { IfOk result (λ r. is_none r.0
+            ≡ pointwise same_svid self.now.store.svids (kept_after r.0 self.now.store).svids) }
     {
         let svids = self.svids();
         let both = self.table().prepare_install(alloc, svids, svid, now)?;
         Ok(both)
     }
 
-    /// What becomes of a signed identity, and the asks and SVIDs with it where it is kept.
+    /// What becomes of a signed identity, and the asks and SVIDs with it where it is kept and was not before.
     fn installed_cache(
         &self,
         alloc: Global,
@@ -106,7 +100,8 @@ impl<V: Voucher> Store<V> {
         ensures answer { IfOk result (λ r. r.1 ≡ install now svid.ask svid.signed self.now.store) }
         ensures gives { IfOk result
             (λ r. IsInstalled V.signed self.now.store svid r.1 (kept_after r.0 self.now.store)) }
-        ensures none { IfOk result (λ r. is_none r.0 ≡ is_refused r.1) }
+        ensures none { IfOk result (λ r. is_none r.0
+            ≡ pointwise same_svid self.now.store.svids (kept_after r.0 self.now.store).svids) }
     {
         // a field that is read tells the proof what the type keeps
         let _ = &self.last_ticket;
@@ -146,7 +141,7 @@ impl<V: Voucher> Store<V> {
         in_flight.remove(number);
         let id = svid.ask.entry_id.copy(alloc)?;
         let (cache, installed) = self.installed_cache(alloc, svid, now)?;
-        let is_same = is_refused(&installed);
+        let is_same = cache.is_none();
         let touched = id_touched(alloc, id, is_same)?;
         let stock = self.shared_stock()?;
         let (next, change) = self.settle(alloc, stock, cache, in_flight, self.last_number())?;

@@ -47,7 +47,7 @@ impl<V: Voucher> Model for Store<V> {
 
     ghost Value = { Stored };
 
-    ghost view = { λ m. stored_of m.strict m.published m.in_flight m.last_ticket };
+    ghost view = { λ m. stored_of m.strict m.published m.table.renew_before m.in_flight m.last_ticket };
 
     ghost invariant = { λ m. IsKept V.signed m.strict m.published m.table m.index };
 }
@@ -90,8 +90,9 @@ impl<V: Voucher> Store<V> {
             bundles,
             entries,
             svids: _,
+            renew_before,
         } = state;
-        Store::with(alloc, strict, domain, entries, bundles)
+        Store::with(alloc, strict, domain, entries, bundles, renew_before)
     }
 
     /// A store of these parts.
@@ -102,14 +103,15 @@ impl<V: Voucher> Store<V> {
         domain: TrustDomain,
         entries: Row<Entry>,
         bundles: Row<Bundle>,
+        renew_before: u64,
     ) -> Result<Store<V>, Memory>
         requires { IsStock entries bundles }
         ensures { IfOk result
             (λ m. m
             ≡ first_stored strict
-            (record { domain = domain; bundles = bundles; entries = entries; svids = [] })) }
+            (record { domain = domain; bundles = bundles; entries = entries; svids = []; renew_before = renew_before })) }
     {
-        let table = table_of(alloc, entries.as_slice())?;
+        let table = table_of(alloc, entries.as_slice(), renew_before)?;
         let entries = share_entries(alloc, &[], entries)?;
         let bundles = share_bundles(alloc, &[], bundles)?;
         let index = index_of(alloc, entries.as_slice())?;
@@ -148,6 +150,14 @@ impl<V: Voucher> Store<V> {
         ensures trusted { AllTrusted V.signed self.now.store.strict self.now.store.svids }
     {
         &self.published.part().svids
+    }
+
+    /// The second, in Unix time, since which identities and tokens have to be signed: that of the last document. It takes
+    /// no memory.
+    pub fn renew_before(&self) -> u64
+        ensures { result ≡ self.now.store.renew_before }
+    {
+        self.table.part().renew_before()
     }
 
     /// The number of the last ticket.

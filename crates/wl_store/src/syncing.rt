@@ -28,16 +28,22 @@ use wl_match::Index;
 use wl_octets::{Memory, Octets, Row, Shared};
 
 impl<V: Voucher> Store<V> {
-    /// The cache with the asks of these entries.
-    fn cache_for(&self, alloc: Global, entries: &Row<Entry>) -> Result<KeptSvids, Memory>
+    /// The cache with the asks of these entries and this `renew_before`.
+    fn cache_for(
+        &self,
+        alloc: Global,
+        entries: &Row<Entry>,
+        renew_before: u64,
+    ) -> Result<KeptSvids, Memory>
         requires rises { Rises (map entry_key entries.now) }
         requires at_most { length entries.now ≤ 10000 }
-        ensures value { IfOk result (λ c. c ≡ with_asks (asks_of entries.now) (cached_of self.now.store)) }
+        ensures value { IfOk result
+            (λ c. c ≡ with_asks (asks_of entries.now) renew_before (cached_of self.now.store)) }
         ensures trusted { IfOk result (λ c. AllTrusted V.signed self.now.store.strict c.svids) }
     {
         let asks = asks_for(alloc, entries.as_slice())?;
         let svids = self.svids();
-        let cache = self.table().prepare_sync(alloc, svids, asks)?;
+        let cache = self.table().prepare_sync(alloc, svids, asks, renew_before)?;
         Ok(cache)
     }
 
@@ -129,38 +135,26 @@ impl<V: Voucher> Store<V> {
         Ok(old == new)
     }
 
-    /// The cache, unless the last publication shows it with this stock.
-    fn unless_shown(&self, stock: &Stock, cache: KeptSvids, is_same: bool) -> Option<KeptSvids>
-        requires cached { cache.asks ≡ asks_of stock.now.entries }
-        requires same { is_same
-            ≡ shows_parts self.now.published stock.now.entries cache.svids stock.now.bundles }
-        ensures none { is_none result ≡ is_same }
-        ensures kept { kept_after result self.now.store ≡ cache }
-    {
-        // a field that is read tells the proof what the type keeps
-        let _ = &self.last_ticket;
-        if is_same { None } else { Some(cache) }
-    }
-
-    /// The step of a document's entries and bundles.
+    /// The step of a document's entries, bundles and `renew_before`.
     fn restock(
         &self,
         alloc: Global,
         entries: Row<Entry>,
         bundles: Row<Bundle>,
+        renew_before: u64,
     ) -> Result<Prepared<V>, Memory>
         requires { IsStock entries bundles }
         ensures next { IfOk result
-            (λ p. p.next ≡ stored_after (with_entries entries bundles self.now.store) self.now) }
+            (λ p. p.next ≡ stored_after (with_entries entries bundles renew_before self.now.store) self.now) }
         ensures change { IfOk result
-            (λ p. p.answer.change ≡ change_to (with_entries entries bundles self.now.store) self.now) }
+            (λ p. p.answer.change ≡ change_to (with_entries entries bundles renew_before self.now.store) self.now) }
         ensures tickets { IfOk result (λ p. p.answer.tickets ≡ []) }
         ensures installed { IfOk result (λ p. p.answer.installed ≡ None) }
         ensures touched { IfOk result (λ p. SameBut p.answer.touched self.now.published p.next.published) }
     {
         // a field that is read tells the proof what the type keeps
         let _ = &self.last_ticket;
-        let cache = self.cache_for(alloc, &entries)?;
+        let cache = self.cache_for(alloc, &entries, renew_before)?;
         let (entries, same_entries) = self.known_entries(alloc, entries)?;
         let (bundles, same_bundles) = self.known_bundles(alloc, bundles)?;
         let index = self.index_for(alloc, entries.part().as_slice(), same_entries)?;
@@ -172,9 +166,8 @@ impl<V: Voucher> Store<V> {
             index,
             bundles,
         };
-        let cache = self.unless_shown(&stock, cache, is_same);
         let in_flight = self.copy_flights(alloc)?;
-        let (next, change) = self.settle(alloc, stock, cache, in_flight, self.last_number())?;
+        let (next, change) = self.settle_synced(alloc, stock, cache, is_same, in_flight)?;
         Ok(Prepared {
             next,
             answer: Adopted {
@@ -199,8 +192,9 @@ impl<V: Voucher> Store<V> {
             bundles,
             entries,
             svids: _,
+            renew_before,
         } = state;
-        let prepared = self.restock(alloc, entries, bundles)?;
+        let prepared = self.restock(alloc, entries, bundles, renew_before)?;
         Ok(prepared)
     }
 

@@ -10,6 +10,10 @@ pub const DOC: &[u8] =
 pub const OTHER_ID: &[u8] =
     b"{\"version\":1,\"trust_domain\":\"a.b\",\"bundles\":[{\"trust_domain\":\"a.b\",\"x509\":\"Aw==\"}],\"entries\":[{\"id\":\"e1\",\"spiffe_id\":\"spiffe://a.b/v\",\"selectors\":[\"unix:uid:1\"]}],\"svids\":[{\"entry\":\"e1\",\"chain\":\"AQ==\",\"key\":\"Ag==\",\"not_before\":100,\"not_after\":200}]}";
 
+/// The worked document, where what was signed before second 120 is to be renewed.
+pub const RENEWED: &[u8] =
+    b"{\"version\":1,\"trust_domain\":\"a.b\",\"bundles\":[{\"trust_domain\":\"a.b\",\"x509\":\"Aw==\"}],\"entries\":[{\"id\":\"e1\",\"spiffe_id\":\"spiffe://a.b/w\",\"selectors\":[\"unix:uid:1\"]}],\"renew_before\":120}";
+
 /// The worked document in version 2, where the entry has a hint.
 pub const HINTED: &[u8] =
     b"{\"version\":2,\"trust_domain\":\"a.b\",\"bundles\":[{\"trust_domain\":\"a.b\",\"x509\":\"Aw==\"}],\"entries\":[{\"id\":\"e1\",\"spiffe_id\":\"spiffe://a.b/w\",\"selectors\":[\"unix:uid:1\"],\"hint\":\"internal\"}],\"svids\":[{\"entry\":\"e1\",\"chain\":\"AQ==\",\"key\":\"Ag==\",\"not_before\":100,\"not_after\":200}]}";
@@ -47,6 +51,22 @@ pub const FIRST: Identity = Identity {
     key: &[2],
     not_before: 100,
     not_after: 200,
+};
+
+/// The same, signed later and with an earlier end.
+pub const SHORTER: Identity = Identity {
+    chain: &[1],
+    key: &[2],
+    not_before: 120,
+    not_after: 190,
+};
+
+/// The same, signed while the clock was two hours ahead.
+pub const AHEAD: Identity = Identity {
+    chain: &[1],
+    key: &[2],
+    not_before: 7300,
+    not_after: 7500,
 };
 
 /// Another identity of the same times.

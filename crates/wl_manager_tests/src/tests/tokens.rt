@@ -1,6 +1,6 @@
 //! Tokens that are kept and found.
 
-use super::documents::{DOC, HINTED, OTHER_ID};
+use super::documents::{DOC, HINTED, OTHER_ID, RENEWED};
 use spiffe_id::SpiffeId;
 use std::alloc::{AllocGlobal, Global};
 use std::process::Abort;
@@ -89,10 +89,28 @@ fn stays_after(rt: &impl Abort, alloc: Global, document: &[u8], is_there: bool) 
     find(rt, alloc, &manager, &[b"x"], 149, is_there);
 }
 
+/// A document of another ask drops the token; one with a later `renew_before` (row renewed_root) hides it.
 #[test]
 fn documents_drop_tokens(rt: HostRuntime) {
-    for (document, is_there) in [(DOC, true), (HINTED, true), (OTHER_ID, false)] {
+    let rows = [
+        (DOC, true),
+        (HINTED, true),
+        (OTHER_ID, false),
+        (RENEWED, false),
+    ];
+    for (document, is_there) in rows {
         stays_after(&rt, rt.alloc(), document, is_there);
+    }
+}
+
+/// A token that was issued in the future isn't found (row clock_went_back).
+#[test]
+fn tokens_of_a_clock_ahead(rt: HostRuntime) {
+    let alloc = rt.alloc();
+    let mut manager = start(&rt, alloc, DOC);
+    keep(&rt, alloc, &mut manager, &[b"x"], 100, Keeping::Kept);
+    for (now, is_there) in [(0, false), (99, false), (100, true)] {
+        find(&rt, alloc, &manager, &[b"x"], now, is_there);
     }
 }
 

@@ -1,8 +1,8 @@
 //! The worked transcripts: what events give over a store, line by line.
 
 use super::documents::{
-    AFTER_LEAF, DOC, FIRST, FOREIGN, HINTED, NO_SELECTOR, OTHER_E2, OTHER_ID, SECOND, THREE,
-    WITH_LEAF, WITHOUT_E2,
+    AFTER_LEAF, AHEAD, DOC, FIRST, FOREIGN, HINTED, NO_SELECTOR, OTHER_E2, OTHER_ID, RENEWED,
+    SECOND, SHORTER, THREE, WITH_LEAF, WITHOUT_E2,
 };
 use super::events::Event;
 
@@ -157,6 +157,61 @@ pub const TICKETS: [Transcript; 8] = [
             Event::Claim(100),
         ],
         lines: "published 0, ticket 1 e1, ticket 2 e2, ticket 3 e3, spent, kept, published 1",
+    },
+];
+
+pub const RENEWALS: [Transcript; 3] = [
+    Transcript {
+        name: "renewed_root",
+        is_strict: false,
+        document: DOC,
+        events: &[
+            Event::Claim(100),
+            Event::Signed(1, FIRST, 100),
+            Event::Sync(RENEWED),
+            Event::Claim(120),
+            Event::Answer,
+            Event::Signed(2, SHORTER, 120),
+            Event::Answer,
+            Event::Claim(154),
+            Event::Claim(155),
+        ],
+        lines: "published 0, ticket 1 e1, kept, published 1, ticket 2 e1, message, kept, \
+                published 2, message, ticket 3 e1",
+    },
+    Transcript {
+        name: "renewed_root, the signer answers the same",
+        is_strict: false,
+        document: DOC,
+        events: &[
+            Event::Claim(100),
+            Event::Signed(1, FIRST, 100),
+            Event::Sync(RENEWED),
+            Event::Claim(120),
+            Event::Signed(2, FIRST, 120),
+            Event::Claim(120),
+            Event::Sync(DOC),
+            Event::Signed(3, FIRST, 120),
+        ],
+        lines: "published 0, ticket 1 e1, kept, published 1, ticket 2 e1, kept, ticket 3 e1, \
+                older 200",
+    },
+    Transcript {
+        name: "clock_went_back",
+        is_strict: false,
+        document: DOC,
+        events: &[
+            Event::Claim(7300),
+            Event::Signed(1, AHEAD, 7300),
+            Event::Claim(100),
+            Event::Answer,
+            Event::Signed(2, FIRST, 100),
+            Event::Answer,
+            Event::Claim(149),
+            Event::Claim(150),
+        ],
+        lines: "published 0, ticket 1 e1, kept, published 1, ticket 2 e1, message, kept, \
+                published 2, message, ticket 3 e1",
     },
 ];
 

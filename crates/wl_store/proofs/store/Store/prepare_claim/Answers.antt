@@ -12,5 +12,5 @@ returns-clause-touched g c =
     let own : m.store.svids ≡ m.published.svids = subst (λ n. n.store.svids ≡ n.published.svids) c.self.view_is refl in
     subst (λ n. SameBut c.in_ok-prepared.prepared.answer.touched m.published n.published) (sym c.in_ok-prepared.ensures.next)
     (claim_touches c.args.now c.in_ok-prepared.prepared.answer.touched m.published m.store.svids
-    (with_parts m.store.entries m.store.bundles (kept_after c.in_ok-cache.cache m.store).svids (m.store.in_flight ++ flights_from m.store.last_ticket c.as_slice.result.now) (m.store.last_ticket + length c.as_slice.result.now) m.store)
+    (with_parts m.store.entries m.store.bundles (kept_after c.in_ok-cache.cache m.store) (m.store.in_flight ++ flights_from m.store.last_ticket c.as_slice.result.now) (m.store.last_ticket + length c.as_slice.result.now) m.store)
     entries own (λ i. (c.in_ok-cache.ensures.value i).svids) (c.in_ok-prepared.ensures.touched ∙ c.in_ok-touched.ensures))

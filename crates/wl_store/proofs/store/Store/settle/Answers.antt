@@ -8,21 +8,23 @@ use Rattle.wl_store.proofs.store.Store.settle.Goals as goal
 pub returns-in_ok-next-in-None-clause-next : goal.returns-in_ok-next-in-None-clause-next
 returns-in_ok-next-in-None-clause-next g c =
     let m = c.args.self.now in
-    c.in_ok-next-in-None.ensures ∙ settled_same (with_parts c.args.stock.entries c.args.stock.bundles (kept_after c.args.cache m.store).svids c.args.in_flight c.args.last_ticket m.store) m (sym c.requires.same ∙ ap is_none c.in-None.is)
+    c.in_ok-next-in-None.ensures
+    ∙ ((λ i. stored_of m.store.strict m.published (kept_after (sym c.in-None.is i) m.store).renew_before c.args.in_flight c.args.last_ticket)
+    ∙ settled_same (with_parts c.args.stock.entries c.args.stock.bundles (kept_after c.args.cache m.store) c.args.in_flight c.args.last_ticket m.store) m (sym c.requires.same ∙ ap is_none c.in-None.is))
 
 pub returns-in_ok-next-in-None-clause-change : goal.returns-in_ok-next-in-None-clause-change
 returns-in_ok-next-in-None-clause-change g c =
     let m = c.args.self.now in
-    change_same (with_parts c.args.stock.entries c.args.stock.bundles (kept_after c.args.cache m.store).svids c.args.in_flight c.args.last_ticket m.store) m (sym c.requires.same ∙ ap is_none c.in-None.is)
+    change_same (with_parts c.args.stock.entries c.args.stock.bundles (kept_after c.args.cache m.store) c.args.in_flight c.args.last_ticket m.store) m (sym c.requires.same ∙ ap is_none c.in-None.is)
 
 pub returns-in_ok-next-in-Some-clause-next : goal.returns-in_ok-next-in-Some-clause-next
 returns-in_ok-next-in-Some-clause-next g c =
     let m = c.args.self.now in
     c.in_ok-next-in-Some.ensures
-    ∙ ((λ i. stored_of m.store.strict (publish (m.published.number + 1) m.published.domain (with_parts c.args.stock.entries c.args.stock.bundles (kept_after (sym c.in-Some.is i) m.store).svids c.args.in_flight c.args.last_ticket m.store)) c.args.in_flight c.args.last_ticket)
-    ∙ settled_new (with_parts c.args.stock.entries c.args.stock.bundles (kept_after c.args.cache m.store).svids c.args.in_flight c.args.last_ticket m.store) m (sym c.requires.same ∙ ap is_none c.in-Some.is))
+    ∙ ((λ i. stored_of m.store.strict (publish (m.published.number + 1) m.published.domain (with_parts c.args.stock.entries c.args.stock.bundles (kept_after (sym c.in-Some.is i) m.store) c.args.in_flight c.args.last_ticket m.store)) (kept_after (sym c.in-Some.is i) m.store).renew_before c.args.in_flight c.args.last_ticket)
+    ∙ settled_new (with_parts c.args.stock.entries c.args.stock.bundles (kept_after c.args.cache m.store) c.args.in_flight c.args.last_ticket m.store) m (sym c.requires.same ∙ ap is_none c.in-Some.is))
 
 pub returns-in_ok-next-in-Some-clause-change : goal.returns-in_ok-next-in-Some-clause-change
 returns-in_ok-next-in-Some-clause-change g c =
     let m = c.args.self.now in
-    change_new (with_parts c.args.stock.entries c.args.stock.bundles (kept_after c.args.cache m.store).svids c.args.in_flight c.args.last_ticket m.store) m (sym c.requires.same ∙ ap is_none c.in-Some.is)
+    change_new (with_parts c.args.stock.entries c.args.stock.bundles (kept_after c.args.cache m.store) c.args.in_flight c.args.last_ticket m.store) m (sym c.requires.same ∙ ap is_none c.in-Some.is)
