@@ -1,5 +1,5 @@
 -- The first fault of a configuration is at a member that has a name.
-use Rattle.std.specs.Prelude.{◌≡◌, ⊤, ℕ, ◌+◌, ◌*◌, ◌==◌, ◌||◌, Bool, true, false, nat_eq, nat_lt, if◌then◌else◌, List, [], ◌∷◌, ◌++◌, length, flat_map, codes, Option, Some, None, option_and_then, Result, Ok, Err}
+use Rattle.std.specs.Prelude.{◌≡◌, ⊤, ℕ, ◌+◌, ◌==◌, ◌||◌, Bool, true, false, nat_eq, nat_lt, if◌then◌else◌, List, [], ◌∷◌, ◌++◌, length, flat_map, codes, Option, Some, None, option_and_then, Result, Ok, Err}
 use Rattle.std.specs.List.{starts_with}
 use Rattle.std.proofs.Common.{refl, subst}
 use Rattle.serde_json.specs.Data.{Data}
@@ -17,15 +17,15 @@ use Rattle.wl_config.specs.declared.config.DocumentSource.TheVariants.{Socket, F
 use Rattle.wl_config.specs.declared.config.LogLevel.TheVariants as log
 use Rattle.wl_config.specs.declared.fault.ConfigFault.{ConfigFault}
 use Rattle.wl_config.specs.declared.fault.ConfigFault.TheVariants as fault
-use Rattle.wl_config.specs.declared.limits.TheConstants.{CONFIG_LIMIT, MAX_SOCKETS, MAX_POLL_SECONDS, DEFAULT_POLL_SECONDS, MAX_SIGNERS, DEFAULT_SIGNERS, MAX_SOCKET_SELECTORS, MAX_CONNECTIONS, MAX_ALL_CONNECTIONS, DEFAULT_CONNECTIONS, DEFAULT_MODE, MAX_ID}
+use Rattle.wl_config.specs.declared.limits.TheConstants.{CONFIG_LIMIT, MAX_SOCKETS, MAX_SOCKET_ITEMS, MAX_POLL_SECONDS, DEFAULT_POLL_SECONDS, MAX_SIGNERS, DEFAULT_SIGNERS, MAX_THREADS, DEFAULT_THREADS, MAX_LIMIT_SECONDS, DEFAULT_STALL_SECONDS, DEFAULT_OPENING_SECONDS, MIN_MEMORY_MIB, MAX_MEMORY_MIB, DEFAULT_MEMORY_MIB, MAX_SOCKET_SELECTORS, MAX_CONNECTIONS, DEFAULT_CONNECTIONS, DEFAULT_MODE, MAX_ID}
 use Rattle.wl_config.specs.Places.{at_socket}
 use Rattle.wl_config.specs.Checks.{no_selector_fault}
 use Rattle.wl_config.specs.Members.{number_within, number_or, path_at, path_of, list_at, list_of}
 use Rattle.wl_config.specs.Guards.{mode_of, id_at, id_of, mode_at, mode_in, guard_of, no_value, absent, no_guard_of}
 use Rattle.wl_config.specs.Uids.{range_of, numbers_of, range_at, ranges_at, room_for, uids_of}
 use Rattle.wl_config.specs.Files.{marks_of, own_file_of, uid_files_of, paths_for, are_new, files_of}
-use Rattle.wl_config.specs.Sockets.{rooms, served_of, says_workers, connections_of, selector_of, selector_list_of, texts_of, some_plain, socket_of, sockets_of}
-use Rattle.wl_config.specs.Configs.{Configuration, version_of, source_by, source_of, signer_of, suppliers_of, poll_seconds_of, signers_of, level_of, level_at, log_of, root_path_at, metrics_of, manner_of, config_sockets_of, config_of, configuration_of}
+use Rattle.wl_config.specs.Sockets.{says_workers, connections_of, selector_of, selector_list_of, texts_of, some_plain, socket_of, sockets_of}
+use Rattle.wl_config.specs.Configs.{Configuration, version_of, source_by, source_of, signer_of, suppliers_of, poll_seconds_of, signers_of, threads_of, stall_seconds_of, opening_seconds_of, memory_mib_of, limits_of, level_of, level_at, log_of, root_path_at, metrics_of, manner_of, config_sockets_of, config_of, configuration_of}
 use Rattle.fault_lines.specs.Names.{config_place, config_member, socket_member}
 use Rattle.fault_lines.specs.Lines.{AreBounded}
 use Rattle.fault_laws.specs.Lines.{config_numbers}
@@ -79,10 +79,10 @@ module _ (p : Place) (sited : InConfig p) where
   unfolding number_at
   number d = needed (fault.Kind p) (option_and_then as_u64 (as_number d)) sited
 
-  number_maybe : (x n : ℕ) (name : List ℕ) (d : Data) → Fails (number_or x n p name d)
+  number_maybe : (x m n : ℕ) (name : List ℕ) (d : Data) → Fails (number_or x m n p name d)
   unfolding number_or number_within
-  number_maybe x n name d = maybe (number_within n p) x (get name d)
-      (λ v. next (number_at (fault.Kind p) v) _ (number v) (λ k. either ((k == 0) || nat_lt n k) (Err (fault.Kind p)) (Ok k) sited tt))
+  number_maybe x m n name d = maybe (number_within m n p) x (get name d)
+      (λ v. next (number_at (fault.Kind p) v) _ (number v) (λ k. either (nat_lt k m || nat_lt n k) (Err (fault.Kind p)) (Ok k) sited tt))
 
   path : (d : Data) → Fails (path_at p d)
   unfolding path_at text_at
@@ -153,11 +153,6 @@ module _ (p : Place) (sited : InConfig p) where
   unfolding ranges_at
   ranges ds = each (λ k before d. range_at p k d) at_end 0 [] ds (λ k before d. range k d)
 
-  served : (name : List ℕ) (taken many : ℕ) (d : Data) → Fails (served_of p name taken many d)
-  unfolding served_of
-  served name taken many d = next (number_or DEFAULT_CONNECTIONS MAX_CONNECTIONS p name d) _ (number_maybe DEFAULT_CONNECTIONS MAX_CONNECTIONS name d)
-      (λ n. either (nat_lt MAX_ALL_CONNECTIONS (taken + many * n)) (Err (fault.TooMany p (taken + many * n))) (Ok n) sited tt)
-
 -- ---- places
 
 top : (field : ℕ) → IsNamed (config_member field) → InConfig (at_top field)
@@ -211,16 +206,16 @@ files i before d = next (object_at (fault.Kind (at_socket i 0)) d) _ (object (at
     (λ path. next (paths_for i (length before) path (marks_of path) d) _ (for_path i (length before) path (marks_of path) d)
     (λ fs. either (are_new before fs) (Ok fs) (Err (fault.Duplicate (at_socket i 1))) tt (socket i 1 refl))))
 
-connections : (i taken many : ℕ) (d : Data) → Fails (connections_of i taken many d)
+connections : (i : ℕ) (d : Data) → Fails (connections_of i d)
 unfolding connections_of socket_member
-connections i taken many d = either (says_workers d) _ _
-    (served (at_socket i 2) (socket i 2 refl) (codes "workers") taken many d)
-    (served (at_socket i 8) (socket i 8 refl) (codes "connections") taken many d)
+connections i d = either (says_workers d) _ _
+    (number_maybe (at_socket i 2) (socket i 2 refl) DEFAULT_CONNECTIONS 1 MAX_CONNECTIONS (codes "workers") d)
+    (number_maybe (at_socket i 8) (socket i 8 refl) DEFAULT_CONNECTIONS 1 MAX_CONNECTIONS (codes "connections") d)
 
 one_socket : (i : ℕ) (before : List SocketFact) (d : Data) → Fails (socket_of i before d)
 unfolding socket_of socket_member
 one_socket i before d = next (files_of i before d) _ (files i before d)
-    (λ fs. next (connections_of i (rooms before) (length fs) d) _ (connections i (rooms before) (length fs) d)
+    (λ fs. next (connections_of i d) _ (connections i d)
     (λ n. next (texts_of (some_plain fs) (at_socket i 3) d) _ (texts (at_socket i 3) (socket i 3 refl) (some_plain fs) d) (λ ts. tt)))
 
 -- ---- the top
@@ -251,11 +246,11 @@ suppliers d = next (object_at (fault.Kind (at_top 0)) d) _ (object (at_top 0) (t
 
 seconds : (d : Data) → Fails (poll_seconds_of d)
 unfolding poll_seconds_of config_member
-seconds d = number_maybe (at_top 4) (top 4 refl) DEFAULT_POLL_SECONDS MAX_POLL_SECONDS (codes "poll_seconds") d
+seconds d = number_maybe (at_top 4) (top 4 refl) DEFAULT_POLL_SECONDS 1 MAX_POLL_SECONDS (codes "poll_seconds") d
 
 signers : (d : Data) → Fails (signers_of d)
 unfolding signers_of config_member
-signers d = number_maybe (at_top 6) (top 6 refl) DEFAULT_SIGNERS MAX_SIGNERS (codes "signers") d
+signers d = number_maybe (at_top 6) (top 6 refl) DEFAULT_SIGNERS 1 MAX_SIGNERS (codes "signers") d
 
 level : (d : Data) → Fails (log_of d)
 unfolding log_of level_at config_member
@@ -271,16 +266,28 @@ unfolding metrics_of config_member
 metrics d = maybe (λ member. root_path_at (at_top 8) member >>= λ path. Ok (Some path)) None (get (codes "metrics") d)
     (λ v. next (root_path_at (at_top 8) v) (λ path. Ok (Some path)) (root_path (at_top 8) (top 8 refl) v) (λ path. tt))
 
+threads : (d : Data) → Fails (threads_of d)
+unfolding threads_of config_member
+threads d = number_maybe (at_top 9) (top 9 refl) DEFAULT_THREADS 1 MAX_THREADS (codes "threads") d
+
+limits : (d : Data) → Fails (limits_of d)
+unfolding limits_of stall_seconds_of opening_seconds_of memory_mib_of config_member
+limits d = next (stall_seconds_of d) _ (number_maybe (at_top 10) (top 10 refl) DEFAULT_STALL_SECONDS 1 MAX_LIMIT_SECONDS (codes "stall_seconds") d)
+    (λ s. next (opening_seconds_of d) _ (number_maybe (at_top 11) (top 11 refl) DEFAULT_OPENING_SECONDS 1 MAX_LIMIT_SECONDS (codes "opening_seconds") d)
+    (λ o. next (memory_mib_of d) _ (number_maybe (at_top 12) (top 12 refl) DEFAULT_MEMORY_MIB MIN_MEMORY_MIB MAX_MEMORY_MIB (codes "memory_mib") d) (λ m. tt)))
+
 manner : (d : Data) → Fails (manner_of d)
 unfolding manner_of
 manner d = next (poll_seconds_of d) _ (seconds d)
     (λ n. next (signers_of d) _ (signers d)
     (λ k. next (log_of d) _ (level d)
-    (λ l. next (metrics_of d) _ (metrics d) (λ m. tt))))
+    (λ l. next (metrics_of d) _ (metrics d)
+    (λ m. next (threads_of d) _ (threads d)
+    (λ t. next (limits_of d) _ (limits d) (λ ls. tt))))))
 
 sockets : (d : Data) → Fails (config_sockets_of d)
 unfolding config_sockets_of sockets_of config_member
-sockets d = next (list_of MAX_SOCKETS (at_top 5) (codes "sockets") d) sockets_of (list_member (at_top 5) (top 5 refl) MAX_SOCKETS (codes "sockets") d) (λ ds. each socket_of (λ before more. before ++ more) 0 [] ds one_socket)
+sockets d = next (list_of MAX_SOCKET_ITEMS (at_top 5) (codes "sockets") d) sockets_of (list_member (at_top 5) (top 5 refl) MAX_SOCKET_ITEMS (codes "sockets") d) (λ ds. each socket_of (λ before more. before ++ more) 0 [] ds one_socket)
 
 members : (d : Data) → Fails (config_of d)
 unfolding config_of

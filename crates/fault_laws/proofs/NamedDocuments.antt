@@ -20,11 +20,11 @@ use Rattle.json_members.specs.Arrays.{each_from, at_end}
 use Rattle.json_members.specs.Texts.{value_of}
 use Rattle.wl_document.specs.Checks.{decoded, no_id_fault, no_selector_fault}
 use Rattle.wl_document.specs.Arrays.{was_given}
-use Rattle.wl_document.specs.Members.{text_of, number_of, list_at, list_of, list_or_empty, domain_at, domain_of, id_of, is_name, name_of, base64_at, base64_of, at_most, text_within, text_or_empty}
+use Rattle.wl_document.specs.Members.{text_of, number_of, number_or_zero, list_at, list_of, list_or_empty, domain_at, domain_of, id_of, is_name, name_of, base64_at, base64_of, at_most, text_within, text_or_empty}
 use Rattle.wl_document.specs.Bundles.{x509_at, x509_of, bundle_name_of, bundle_domain_of, bundle_of, read_bundles, bundles_of}
 use Rattle.wl_document.specs.Entries.{selector_of, selector_list_of, selectors_of, federated_of, federates_of, federated_list_of, federates_with_of, dns_name_of, dns_names_of, dns_names_in, ttl_at, ttl_of, hint_of, extras_of, entry_name_of, entry_of, read_entries, entries_of}
 use Rattle.wl_document.specs.Svids.{svid_name_of, svid_of, doc_svid_key, read_svids, svids_of}
-use Rattle.wl_document.specs.Documents.{version_of, is_own, top_domain_of, own_domain_of, lists_of, has_x509, own_bundles_of, top_of, state_of, document_state}
+use Rattle.wl_document.specs.Documents.{version_of, is_own, top_domain_of, own_domain_of, lists_of, renew_before_of, has_x509, own_bundles_of, top_of, state_of, document_state}
 use Rattle.wl_document.specs.States.{State}
 use Rattle.wl_entry.specs.Keys.{bundle_key, entry_key}
 use Rattle.sorted_lists.specs.Keys as keys
@@ -112,6 +112,10 @@ module _ (p : Place) (sited : InDocument p) where
   list_member : (n : ℕ) (name : List ℕ) (d : Data) → Fails (list_of n p name d)
   unfolding list_of
   list_member n name d = next (required (fault.Missing p) name d) (list_at n p) (member name d) (list n)
+
+  number_maybe : (name : List ℕ) (d : Data) → Fails (number_or_zero p name d)
+  unfolding number_or_zero
+  number_maybe name d = maybe (number_at (fault.Kind p)) 0 (get name d) number
 
   list_maybe : (n : ℕ) (name : List ℕ) (d : Data) → Fails (list_or_empty n p name d)
   unfolding list_or_empty
@@ -296,12 +300,17 @@ lists d = next (list_of MAX_BUNDLES (at_top 3) (codes "bundles") d) _ (list_memb
     (λ bs. next (list_of MAX_ENTRIES (at_top 4) (codes "entries") d) _ (list_member (at_top 4) (top 4 refl) MAX_ENTRIES (codes "entries") d)
     (λ es. next (list_or_empty MAX_SVIDS (at_top 5) (codes "svids") d) _ (list_maybe (at_top 5) (top 5 refl) MAX_SVIDS (codes "svids") d) (λ ss. tt)))
 
+renew_before : (d : Data) → Fails (renew_before_of d)
+unfolding renew_before_of document_member
+renew_before d = number_maybe (at_top 6) (top 6 refl) (codes "renew_before") d
+
 members : (own : Option (List ℕ)) (d : Data) → Fails (top_of own d)
 unfolding top_of document_member
 members own d = next (object_at (fault.Kind (at_top 0)) d) _ (object (at_top 0) (top 0 refl) d)
     (λ _. next (version_of d) _ (version d)
     (λ v. next (own_domain_of own d) _ (own_domain own d)
-    (λ o. next (lists_of d) _ (lists d) (λ l. tt))))
+    (λ o. next (lists_of d) _ (lists d)
+    (λ l. next (renew_before_of d) _ (renew_before d) (λ n. tt)))))
 
 state : (own : Option (List ℕ)) (d : Data) → Fails (state_of own d)
 unfolding state_of

@@ -12,6 +12,7 @@ document_member field =
     else if field == 3 then codes "bundles"
     else if field == 4 then codes "entries"
     else if field == 5 then codes "svids"
+    else if field == 6 then codes "renew_before"
     else codes "?"
 
 unfoldable pub bundle_member : ℕ → List ℕ
@@ -56,6 +57,10 @@ config_member field =
     else if field == 6 then codes "signers"
     else if field == 7 then codes "log"
     else if field == 8 then codes "metrics"
+    else if field == 9 then codes "threads"
+    else if field == 10 then codes "stall_seconds"
+    else if field == 11 then codes "opening_seconds"
+    else if field == 12 then codes "memory_mib"
     else codes "?"
 
 unfoldable pub socket_member : ℕ → List ℕ

@@ -19,6 +19,7 @@ fn document_member(field: u64) -> &'static [u8]
         3 => b"bundles",
         4 => b"entries",
         5 => b"svids",
+        6 => b"renew_before",
         _ => b"?",
     }
 }
@@ -82,6 +83,10 @@ fn config_member(field: u64) -> &'static [u8]
         6 => b"signers",
         7 => b"log",
         8 => b"metrics",
+        9 => b"threads",
+        10 => b"stall_seconds",
+        11 => b"opening_seconds",
+        12 => b"memory_mib",
         _ => b"?",
     }
 }

@@ -1,12 +1,10 @@
 -- Files more, whose paths are new ones, and their sockets.
-use Rattle.std.proofs.Common.{◌≡◌, ℕ, ◌+◌, ◌*◌, ◌≤◌, ◌||◌, ◌&&◌, List, [], ◌∷◌, ◌++◌, map, length, Bool, true, false, not, refl, sym, ◌∙◌, ap, ap₂, arith, true≢false}
+use Rattle.std.proofs.Common.{◌≡◌, ℕ, ◌||◌, ◌&&◌, List, [], ◌∷◌, ◌++◌, map, Bool, true, false, not, refl, sym, ◌∙◌, ap, ap₂, true≢false}
 use Rattle.std.specs.List.{list_any, AllByRecursion}
 use Rattle.std.specs.Str.{bytes_eq}
-use Rattle.std.proofs.Math.Nat.{suc-mul}
-use Rattle.std.proofs.lemmas.List.Sums.{sum_by-append}
 use Rattle.list_laws.proofs.Elements.{all_append}
 use Rattle.wl_config.specs.Files.{was_given, are_distinct, are_apart, are_new}
-use Rattle.wl_config.specs.Sockets.{rooms, fact_of, SocketWithin, SocketsWithin}
+use Rattle.wl_config.specs.Sockets.{fact_of, SocketWithin, SocketsWithin}
 use Rattle.wl_config.specs.declared.config.SocketFact.{SocketFact}
 use Rattle.wl_config.specs.declared.files.SocketFile.{SocketFile}
 
@@ -28,9 +26,6 @@ both_of false b h = absurd (true≢false (sym h))
 isn't : (a : Bool) → not a ≡ true → a ≡ false
 isn't true h = absurd (true≢false (sym h))
 isn't false h = refl
-
-swapped : (a b : ℕ) → 0 + a + b ≡ b + a
-swapped a b = omega arith
 
 module _ (n : ℕ) (texts : List (List ℕ)) where
   abbrev facts : List SocketFile → List SocketFact
@@ -67,21 +62,11 @@ module _ (n : ℕ) (texts : List (List ℕ)) where
       let split = apart t ts files new in
       ap₂ (λ x y. not x && y) (none_like t.path ts files (isn't (list_any (λ q. bytes_eq q t.path) (paths ts)) first.0) split.0) (distinct_all ts files first.1 own split.1)
 
-  pub rooms_of : (files : List SocketFile) → rooms (facts files) ≡ length files * n
-  rooms_of [] = omega arith
-  rooms_of (f ∷ fs) =
-      sum_by-append (λ (s : SocketFact). s.connections) (fact_of n texts f ∷ []) (facts fs)
-      ∙ ap (λ m. 0 + n + m) (rooms_of fs) ∙ swapped n (length fs * n) ∙ sym (suc-mul (length fs) n)
-
-  pub rooms_added : (before : List SocketFact) (files : List SocketFile) → rooms (before ++ facts files) ≡ rooms before + length files * n
-  rooms_added before files = sum_by-append (λ (s : SocketFact). s.connections) before (facts files) ∙ ap (λ m. rooms before + m) (rooms_of files)
-
-  pub within_added : (before : List SocketFact) (files : List SocketFile) → SocketsWithin before → AllByRecursion SocketWithin (facts files) → are_new before files ≡ true → rooms before + length files * n ≤ 65536 → SocketsWithin (before ++ facts files)
+  pub within_added : (before : List SocketFact) (files : List SocketFile) → SocketsWithin before → AllByRecursion SocketWithin (facts files) → are_new before files ≡ true → SocketsWithin (before ++ facts files)
   unfolding are_new was_given
-  within_added before files all own new room =
+  within_added before files all own new =
       let fresh = both_of (not (list_any (λ f. given before f.path) files)) (are_apart files) new in
       record {
         each = all_append SocketWithin before (facts files) all.each own;
         distinct = distinct_all before files all.distinct fresh.1 (isn't (list_any (λ f. given before f.path) files) fresh.0);
-        room = omega (arith, rooms_added before files, room);
       }

@@ -1,5 +1,4 @@
 mod Arrays
-pub mod Bounds
 mod Walks
 mod Distinct
 pub mod Ranges

@@ -12,6 +12,7 @@ use Rattle.wl_document.specs.Places.{at_top}
 use Rattle.wl_document.specs.declared.fault.Place.{Place}
 use Rattle.wl_config.specs.Members.{number_or, path_at, list_of}
 use Rattle.wl_config.specs.Sockets.{sockets_of, SocketsWithin}
+use Rattle.wl_config.specs.declared.config.ConnectionLimits.{ConnectionLimits}
 use Rattle.wl_config.specs.declared.config.SocketFact.{SocketFact}
 use Rattle.wl_config.specs.declared.config.DocumentSource.{DocumentSource}
 use Rattle.wl_config.specs.declared.config.DocumentSource.TheVariants.{Socket, File}
@@ -19,7 +20,7 @@ use Rattle.wl_config.specs.declared.config.LogLevel.{LogLevel}
 use Rattle.wl_config.specs.declared.config.LogLevel.TheVariants as level
 use Rattle.wl_config.specs.declared.fault.ConfigFault.{ConfigFault}
 use Rattle.wl_config.specs.declared.fault.ConfigFault.TheVariants.{NotJson, Version, Missing, Kind, TooLong}
-use Rattle.wl_config.specs.declared.limits.TheConstants.{CONFIG_LIMIT, MAX_SOCKETS, MAX_POLL_SECONDS, DEFAULT_POLL_SECONDS, MAX_SIGNERS, DEFAULT_SIGNERS}
+use Rattle.wl_config.specs.declared.limits.TheConstants.{CONFIG_LIMIT, MAX_SOCKETS, MAX_SOCKET_ITEMS, MAX_POLL_SECONDS, DEFAULT_POLL_SECONDS, MAX_SIGNERS, DEFAULT_SIGNERS, MAX_THREADS, DEFAULT_THREADS, MAX_LIMIT_SECONDS, DEFAULT_STALL_SECONDS, DEFAULT_OPENING_SECONDS, MIN_MEMORY_MIB, MAX_MEMORY_MIB, DEFAULT_MEMORY_MIB}
 
 -- the path of a socket or of a file
 abbrev pub path_in : DocumentSource → List ℕ
@@ -33,7 +34,18 @@ pub record Configuration : Type 0 where
   pub signers : ℕ
   pub log : LogLevel
   pub metrics : Option (List ℕ)
+  pub threads : ℕ
+  pub limits : ConnectionLimits
   pub sockets : List SocketFact
+
+-- the limits of connections are within these
+pub record LimitsWithin (l : ConnectionLimits) : Type 0 where
+  pub some_stall : 0 < l.stall_seconds
+  pub few_stall : l.stall_seconds ≤ MAX_LIMIT_SECONDS
+  pub some_opening : 0 < l.opening_seconds
+  pub few_opening : l.opening_seconds ≤ MAX_LIMIT_SECONDS
+  pub some_memory : MIN_MEMORY_MIB ≤ l.memory_mib
+  pub few_memory : l.memory_mib ≤ MAX_MEMORY_MIB
 
 -- the facts that every configuration has
 pub record Within (c : Configuration) : Type 0 where
@@ -44,6 +56,9 @@ pub record Within (c : Configuration) : Type 0 where
   pub some_signers : 0 < c.signers
   pub few_signers : c.signers ≤ MAX_SIGNERS
   pub metrics : IfSome c.metrics (λ path. starts_with nat_eq path (codes "/") ≡ true)
+  pub some_threads : 0 < c.threads
+  pub few_threads : c.threads ≤ MAX_THREADS
+  pub limits : LimitsWithin c.limits
   pub some_sockets : 0 < length c.sockets
   pub few_sockets : length c.sockets ≤ MAX_SOCKETS
   pub sockets : SocketsWithin c.sockets
@@ -84,11 +99,11 @@ suppliers_of d = do
 
 -- the default, where it is absent
 unfoldable pub poll_seconds_of : Data → Result ℕ ConfigFault
-poll_seconds_of d = number_or DEFAULT_POLL_SECONDS MAX_POLL_SECONDS (at_top 4) (codes "poll_seconds") d
+poll_seconds_of d = number_or DEFAULT_POLL_SECONDS 1 MAX_POLL_SECONDS (at_top 4) (codes "poll_seconds") d
 
 -- how many asks are under way at once: the default, where it is absent
 unfoldable pub signers_of : Data → Result ℕ ConfigFault
-signers_of d = number_or DEFAULT_SIGNERS MAX_SIGNERS (at_top 6) (codes "signers") d
+signers_of d = number_or DEFAULT_SIGNERS 1 MAX_SIGNERS (at_top 6) (codes "signers") d
 
 unfoldable pub level_of : List ℕ → Option LogLevel
 level_of text =
@@ -115,12 +130,35 @@ root_path_at p d = do
 unfoldable pub metrics_of : Data → Result (Option (List ℕ)) ConfigFault
 metrics_of d = optional (λ member. root_path_at (at_top 8) member >>= λ path. Ok (Some path)) None (get (codes "metrics") d)
 
+-- how many threads serve the sockets: the default, where it is absent
+unfoldable pub threads_of : Data → Result ℕ ConfigFault
+threads_of d = number_or DEFAULT_THREADS 1 MAX_THREADS (at_top 9) (codes "threads") d
+
+-- the limits of connections: the default of each that is absent
+unfoldable pub stall_seconds_of : Data → Result ℕ ConfigFault
+stall_seconds_of d = number_or DEFAULT_STALL_SECONDS 1 MAX_LIMIT_SECONDS (at_top 10) (codes "stall_seconds") d
+
+unfoldable pub opening_seconds_of : Data → Result ℕ ConfigFault
+opening_seconds_of d = number_or DEFAULT_OPENING_SECONDS 1 MAX_LIMIT_SECONDS (at_top 11) (codes "opening_seconds") d
+
+unfoldable pub memory_mib_of : Data → Result ℕ ConfigFault
+memory_mib_of d = number_or DEFAULT_MEMORY_MIB MIN_MEMORY_MIB MAX_MEMORY_MIB (at_top 12) (codes "memory_mib") d
+
+unfoldable pub limits_of : Data → Result ConnectionLimits ConfigFault
+limits_of d = do
+  stall_seconds ← stall_seconds_of d
+  opening_seconds ← opening_seconds_of d
+  memory_mib ← memory_mib_of d
+  Ok (record { stall_seconds = stall_seconds; opening_seconds = opening_seconds; memory_mib = memory_mib })
+
 -- how the agent runs
 pub record Manner : Type 0 where
   pub poll_seconds : ℕ
   pub signers : ℕ
   pub log : LogLevel
   pub metrics : Option (List ℕ)
+  pub threads : ℕ
+  pub limits : ConnectionLimits
 
 unfoldable pub manner_of : Data → Result Manner ConfigFault
 manner_of d = do
@@ -128,11 +166,13 @@ manner_of d = do
   signers ← signers_of d
   log ← log_of d
   metrics ← metrics_of d
-  Ok (record { poll_seconds = poll_seconds; signers = signers; log = log; metrics = metrics })
+  threads ← threads_of d
+  limits ← limits_of d
+  Ok (record { poll_seconds = poll_seconds; signers = signers; log = log; metrics = metrics; threads = threads; limits = limits })
 
 -- at least one socket
 unfoldable pub config_sockets_of : Data → Result (List SocketFact) ConfigFault
-config_sockets_of d = list_of MAX_SOCKETS (at_top 5) (codes "sockets") d >>= sockets_of
+config_sockets_of d = list_of MAX_SOCKET_ITEMS (at_top 5) (codes "sockets") d >>= sockets_of
 
 -- the configuration that a value's members name
 unfoldable pub config_of : Data → Result Configuration ConfigFault
@@ -147,6 +187,8 @@ config_of d = do
     signers = manner.signers;
     log = manner.log;
     metrics = manner.metrics;
+    threads = manner.threads;
+    limits = manner.limits;
     sockets = sockets;
   })
 

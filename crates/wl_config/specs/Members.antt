@@ -8,15 +8,15 @@ use Rattle.wl_document.specs.declared.fault.Place.{Place}
 use Rattle.wl_config.specs.declared.fault.ConfigFault.{ConfigFault}
 use Rattle.wl_config.specs.declared.fault.ConfigFault.TheVariants.{Missing, Kind, EmptyText, TooMany}
 
--- a whole number from 1 to n
-unfoldable pub number_within : ℕ → Place → Data → Result ℕ ConfigFault
-number_within n p d = do
+-- a whole number from m to n
+unfoldable pub number_within : ℕ → ℕ → Place → Data → Result ℕ ConfigFault
+number_within m n p d = do
   k ← number_at (Kind p) d
-  if (k == 0) || nat_lt n k then Err (Kind p) else Ok k
+  if nat_lt k m || nat_lt n k then Err (Kind p) else Ok k
 
 -- the same, or x where it is absent
-unfoldable pub number_or : ℕ → ℕ → Place → List ℕ → Data → Result ℕ ConfigFault
-number_or x n p name d = optional (number_within n p) x (get name d)
+unfoldable pub number_or : ℕ → ℕ → ℕ → Place → List ℕ → Data → Result ℕ ConfigFault
+number_or x m n p name d = optional (number_within m n p) x (get name d)
 
 -- a path, which is a text that is not empty
 unfoldable pub path_at : Place → Data → Result (List ℕ) ConfigFault

@@ -1,5 +1,5 @@
 -- The sockets of a configuration (own rules), and the facts that each list of them has.
-use Rattle.std.specs.Prelude.{◌≡◌, ℕ, ◌+◌, ◌*◌, ◌<◌, ◌≤◌, ◌&&◌, List, [], ◌∷◌, ◌++◌, map, length, sum_by, codes, decimal, Bool, true, is_some, is_none, nat_lt, if◌then◌else◌, Option, Some, None, Result, Ok, Err}
+use Rattle.std.specs.Prelude.{◌≡◌, ℕ, ◌+◌, ◌<◌, ◌≤◌, ◌&&◌, List, [], ◌∷◌, ◌++◌, map, length, codes, decimal, Bool, true, is_some, is_none, if◌then◌else◌, Option, Some, None, Result, Ok}
 use Rattle.std.specs.List.{list_any, AllByRecursion}
 use Rattle.serde_json.specs.Data.{Data}
 use Rattle.serde_json.specs.Find.{get}
@@ -16,29 +16,19 @@ use Rattle.wl_config.specs.Files.{are_distinct, files_of}
 use Rattle.wl_config.specs.declared.config.SocketFact.{SocketFact}
 use Rattle.wl_config.specs.declared.files.SocketFile.{SocketFile}
 use Rattle.wl_config.specs.declared.fault.ConfigFault.{ConfigFault}
-use Rattle.wl_config.specs.declared.fault.ConfigFault.TheVariants.{Kind, TooMany}
-use Rattle.wl_config.specs.declared.limits.TheConstants.{MAX_SOCKET_SELECTORS, MAX_CONNECTIONS, MAX_ALL_CONNECTIONS, DEFAULT_CONNECTIONS}
+use Rattle.wl_config.specs.declared.fault.ConfigFault.TheVariants.{Kind}
+use Rattle.wl_config.specs.declared.limits.TheConstants.{MAX_SOCKET_SELECTORS, MAX_CONNECTIONS, DEFAULT_CONNECTIONS}
 
 -- ---- connections
-
--- how many connections these sockets serve at once, all together
-abbrev pub rooms : List SocketFact → ℕ
-rooms sockets = sum_by (λ s. s.connections) sockets
-
--- a number with which each of so many sockets more serves as many, and all of them do not pass the limit
-unfoldable pub served_of : Place → List ℕ → ℕ → ℕ → Data → Result ℕ ConfigFault
-served_of p name taken many d = do
-  n ← number_or DEFAULT_CONNECTIONS MAX_CONNECTIONS p name d
-  if nat_lt MAX_ALL_CONNECTIONS (taken + many * n) then Err (TooMany p (taken + many * n)) else Ok n
 
 -- `workers` is what `connections` was called: it is read where `connections` is not there
 unfoldable pub says_workers : Data → Bool
 says_workers d = is_none (get (codes "connections") d) && is_some (get (codes "workers") d)
 
-unfoldable pub connections_of : ℕ → ℕ → ℕ → Data → Result ℕ ConfigFault
-connections_of i taken many d =
-    if says_workers d then served_of (at_socket i 2) (codes "workers") taken many d
-    else served_of (at_socket i 8) (codes "connections") taken many d
+unfoldable pub connections_of : ℕ → Data → Result ℕ ConfigFault
+connections_of i d =
+    if says_workers d then number_or DEFAULT_CONNECTIONS 1 MAX_CONNECTIONS (at_socket i 2) (codes "workers") d
+    else number_or DEFAULT_CONNECTIONS 1 MAX_CONNECTIONS (at_socket i 8) (codes "connections") d
 
 -- ---- selectors
 
@@ -79,7 +69,7 @@ some_plain files = list_any (λ f. is_none f.uid) files
 unfoldable pub socket_of : ℕ → List SocketFact → Data → Result (List SocketFact) ConfigFault
 socket_of i before d = do
   files ← files_of i before d
-  connections ← connections_of i (rooms before) (length files) d
+  connections ← connections_of i d
   texts ← texts_of (some_plain files) (at_socket i 3) d
   Ok (map (fact_of connections texts) files)
 
@@ -95,8 +85,7 @@ pub record SocketWithin (s : SocketFact) : Type 0 where
   pub few_connections : s.connections ≤ MAX_CONNECTIONS
   pub selectors : length s.selectors ≤ MAX_SOCKET_SELECTORS + 1
 
--- So has each of them; their paths are distinct, and their rooms together are within the limit.
+-- So has each of them, and their paths are distinct.
 pub record SocketsWithin (sockets : List SocketFact) : Type 0 where
   pub each : AllByRecursion SocketWithin sockets
   pub distinct : are_distinct (map (λ s. s.path) sockets) ≡ true
-  pub room : rooms sockets ≤ MAX_ALL_CONNECTIONS

@@ -45,8 +45,19 @@ pub enum LogLevel {
     Debug,
 }
 
-/// A configuration within its limits: paths are not empty, those of the sockets are distinct, and all sockets together
-/// serve at most [`MAX_ALL_CONNECTIONS`](crate::MAX_ALL_CONNECTIONS) connections.
+/// For how long a connection is kept that stalls or does nothing, and how much connections hold.
+#[derive(Clone, Copy, Debug, Drop, PartialEq, Eq)]
+pub struct ConnectionLimits {
+    /// For how many seconds a connection may take none of the bytes that wait for it.
+    pub stall_seconds: u32,
+    /// For how many seconds a connection may stay without a call.
+    pub opening_seconds: u32,
+    /// How many MiB the connections of one thread hold together at most.
+    pub memory_mib: u32,
+}
+
+/// A configuration within its limits: paths are not empty, and those of the sockets are distinct. The sockets may serve
+/// more connections together than [`MAX_ALL_CONNECTIONS`](crate::MAX_ALL_CONNECTIONS), which is the limit of those that are open.
 #[derive(Drop)]
 pub struct Config {
     /// Where documents come from.
@@ -61,6 +72,10 @@ pub struct Config {
     pub log: LogLevel,
     /// The path, from the root, of the socket at which the agent's figures can be read. Without it there is none.
     pub metrics: Option<Octets>,
+    /// How many threads serve the sockets.
+    pub threads: u32,
+    /// What a connection, and the connections of a thread, may take.
+    pub limits: ConnectionLimits,
     /// The sockets, in the order in which the configuration gives them, those of an item with uids by their order.
     pub sockets: Row<SocketFact>,
 }
@@ -70,7 +85,7 @@ impl Model for Config {
 
     ghost Value = { Configuration };
 
-    ghost view = { λ c. record { documents = c.documents; signer = c.signer; poll_seconds = c.poll_seconds; signers = c.signers; log = c.log; metrics = c.metrics; sockets = c.sockets } };
+    ghost view = { λ c. record { documents = c.documents; signer = c.signer; poll_seconds = c.poll_seconds; signers = c.signers; log = c.log; metrics = c.metrics; threads = c.threads; limits = c.limits; sockets = c.sockets } };
 
-    ghost invariant = { λ c. Within (record { documents = c.documents; signer = c.signer; poll_seconds = c.poll_seconds; signers = c.signers; log = c.log; metrics = c.metrics; sockets = c.sockets }) };
+    ghost invariant = { λ c. Within (record { documents = c.documents; signer = c.signer; poll_seconds = c.poll_seconds; signers = c.signers; log = c.log; metrics = c.metrics; threads = c.threads; limits = c.limits; sockets = c.sockets }) };
 }

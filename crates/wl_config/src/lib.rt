@@ -18,10 +18,10 @@ mod sockets;
 mod uids;
 
 pub use attestor::SocketAttestor;
-pub use config::{Config, DocumentSource, LogLevel, SocketFact, SocketGuard};
+pub use config::{Config, ConnectionLimits, DocumentSource, LogLevel, SocketFact, SocketGuard};
 pub use fault::ConfigFault;
 pub use limits::{
     CONFIG_LIMIT, DEFAULT_MODE, MAX_ALL_CONNECTIONS, MAX_CONNECTIONS, MAX_ID, MAX_SIGNERS,
-    MAX_SOCKET_SELECTORS, MAX_SOCKETS,
+    MAX_SOCKET_SELECTORS, MAX_SOCKETS, MAX_THREADS,
 };
 pub use read::read_config;

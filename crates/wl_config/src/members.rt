@@ -12,37 +12,38 @@ use std::alloc::Global;
 use wl_document::Place;
 use wl_octets::Octets;
 
-/// A whole number from 1 to the limit.
+/// A whole number from the least to the most.
 #[tactic(auto, unfolding(crate::specs::Members::number_within))]
-fn number_within(limit: u32, place: Place, value: &Value) -> Result<u32, ConfigFault>
-    ensures value { Gives (λ n. n) result (number_within limit place (view value.now)) }
-    ensures some { IfOk result (λ n. 0 < n) }
-    ensures at_most { IfOk result (λ n. n ≤ limit) }
+fn number_within(least: u32, most: u32, place: Place, value: &Value) -> Result<u32, ConfigFault>
+    ensures value { Gives (λ n. n) result (number_within least most place (view value.now)) }
+    ensures at_least { IfOk result (λ n. least ≤ n) }
+    ensures at_most { IfOk result (λ n. n ≤ most) }
 {
     let number = number_at(ConfigFault::Kind(place), value)?;
-    if number == 0 || number > u64::from(limit) {
+    if number < u64::from(least) || number > u64::from(most) {
         return Err(ConfigFault::Kind(place));
     }
     Ok(number as u32)
 }
 
-/// A whole number from 1 to the limit, or the default where it is absent.
+/// A whole number from the least to the most, or the default where it is absent.
 #[tactic(auto, unfolding(crate::specs::Members::number_or))]
 pub(crate) fn number_or(
     default: u32,
-    limit: u32,
+    least: u32,
+    most: u32,
     place: Place,
     name: &str,
     value: &Value,
 ) -> Result<u32, ConfigFault>
-    requires some { 0 < default }
-    requires at_most { default ≤ limit }
-    ensures value { Gives (λ n. n) result (number_or default limit place name.now (view value.now)) }
-    ensures some { IfOk result (λ n. 0 < n) }
-    ensures at_most { IfOk result (λ n. n ≤ limit) }
+    requires at_least { least ≤ default }
+    requires at_most { default ≤ most }
+    ensures value { Gives (λ n. n) result (number_or default least most place name.now (view value.now)) }
+    ensures at_least { IfOk result (λ n. least ≤ n) }
+    ensures at_most { IfOk result (λ n. n ≤ most) }
 {
     match value.get(name) {
-        Some(member) => number_within(limit, place, member),
+        Some(member) => number_within(least, most, place, member),
         None => Ok(default),
     }
 }

@@ -6,15 +6,17 @@ ghost use Rattle.serde_json.specs.View.{view};
 ghost use Rattle.json_members.specs.Members.{or_fault};
 ghost use Rattle.json_members.specs.Texts.{value_of};
 ghost use Rattle.wl_config.specs.Checks.{Gives};
-ghost use Rattle.wl_config.specs.declared.limits.TheConstants.{MAX_SOCKETS, MAX_POLL_SECONDS, MAX_SIGNERS};
+ghost use Rattle.wl_config.specs.declared.limits.TheConstants.{MAX_SOCKETS, MAX_POLL_SECONDS, MAX_SIGNERS, MAX_THREADS, MAX_LIMIT_SECONDS, MIN_MEMORY_MIB, MAX_MEMORY_MIB};
 ghost use Rattle.wl_config.specs.Sockets.{SocketsWithin};
-ghost use Rattle.wl_config.specs.Configs.{path_in, version_of, source_of, signer_of, suppliers_of, poll_seconds_of, signers_of, level_of, level_at, log_of, root_path_at, metrics_of, manner_of, config_sockets_of, config_of, configuration_of};
+ghost use Rattle.wl_config.specs.Configs.{LimitsWithin, threads_of, stall_seconds_of, opening_seconds_of, memory_mib_of, limits_of, path_in, version_of, source_of, signer_of, suppliers_of, poll_seconds_of, signers_of, level_of, level_at, log_of, root_path_at, metrics_of, manner_of, config_sockets_of, config_of, configuration_of};
 ghost use Rattle.wl_config.specs.declared.fault.ConfigFault.TheVariants.{NotJson};
 
-use crate::config::{Config, DocumentSource, LogLevel, SocketFact};
+use crate::config::{Config, ConnectionLimits, DocumentSource, LogLevel, SocketFact};
 use crate::fault::ConfigFault;
 use crate::limits::{
-    CONFIG_LIMIT, DEFAULT_POLL_SECONDS, DEFAULT_SIGNERS, MAX_POLL_SECONDS, MAX_SIGNERS, MAX_SOCKETS,
+    CONFIG_LIMIT, DEFAULT_MEMORY_MIB, DEFAULT_OPENING_SECONDS, DEFAULT_POLL_SECONDS,
+    DEFAULT_SIGNERS, DEFAULT_STALL_SECONDS, DEFAULT_THREADS, MAX_LIMIT_SECONDS, MAX_MEMORY_MIB,
+    MAX_POLL_SECONDS, MAX_SIGNERS, MAX_SOCKET_ITEMS, MAX_THREADS, MIN_MEMORY_MIB,
 };
 use crate::members::{list_of, number_or, path_at};
 use crate::places::top_place;
@@ -58,7 +60,10 @@ fn config_sockets(alloc: Global, value: &Value) -> Result<Vec<SocketFact>, Confi
     ensures at_most { IfOk result (λ v. length v.items ≤ MAX_SOCKETS) }
     ensures within { IfOk result (λ v. SocketsWithin v.items) }
 {
-    sockets(alloc, list_of(MAX_SOCKETS, top_place(5), "sockets", value)?)
+    sockets(
+        alloc,
+        list_of(MAX_SOCKET_ITEMS, top_place(5), "sockets", value)?,
+    )
 }
 
 /// Where documents come from: exactly one of a socket and a file.
@@ -117,6 +122,7 @@ fn poll_seconds(value: &Value) -> Result<u32, ConfigFault>
 {
     number_or(
         DEFAULT_POLL_SECONDS,
+        1,
         MAX_POLL_SECONDS,
         top_place(4),
         "poll_seconds",
@@ -131,7 +137,14 @@ fn signers(value: &Value) -> Result<u32, ConfigFault>
     ensures some { IfOk result (λ n. 0 < n) }
     ensures at_most { IfOk result (λ n. n ≤ MAX_SIGNERS) }
 {
-    number_or(DEFAULT_SIGNERS, MAX_SIGNERS, top_place(6), "signers", value)
+    number_or(
+        DEFAULT_SIGNERS,
+        1,
+        MAX_SIGNERS,
+        top_place(6),
+        "signers",
+        value,
+    )
 }
 
 /// The level of this name.
@@ -201,6 +214,90 @@ fn metrics(alloc: Global, value: &Value) -> Result<Option<Octets>, ConfigFault>
     }
 }
 
+/// How many threads serve the sockets.
+#[tactic(auto, unfolding(crate::specs::Configs::threads_of))]
+fn threads(value: &Value) -> Result<u32, ConfigFault>
+    ensures value { Gives (λ n. n) result (threads_of (view value.now)) }
+    ensures some { IfOk result (λ n. 0 < n) }
+    ensures at_most { IfOk result (λ n. n ≤ MAX_THREADS) }
+{
+    number_or(
+        DEFAULT_THREADS,
+        1,
+        MAX_THREADS,
+        top_place(9),
+        "threads",
+        value,
+    )
+}
+
+/// For how many seconds a connection may take none of the bytes that wait for it.
+#[tactic(auto, unfolding(crate::specs::Configs::stall_seconds_of))]
+fn stall_seconds(value: &Value) -> Result<u32, ConfigFault>
+    ensures value { Gives (λ n. n) result (stall_seconds_of (view value.now)) }
+    ensures some { IfOk result (λ n. 0 < n) }
+    ensures at_most { IfOk result (λ n. n ≤ MAX_LIMIT_SECONDS) }
+{
+    number_or(
+        DEFAULT_STALL_SECONDS,
+        1,
+        MAX_LIMIT_SECONDS,
+        top_place(10),
+        "stall_seconds",
+        value,
+    )
+}
+
+/// For how many seconds a connection may stay without a call.
+#[tactic(auto, unfolding(crate::specs::Configs::opening_seconds_of))]
+fn opening_seconds(value: &Value) -> Result<u32, ConfigFault>
+    ensures value { Gives (λ n. n) result (opening_seconds_of (view value.now)) }
+    ensures some { IfOk result (λ n. 0 < n) }
+    ensures at_most { IfOk result (λ n. n ≤ MAX_LIMIT_SECONDS) }
+{
+    number_or(
+        DEFAULT_OPENING_SECONDS,
+        1,
+        MAX_LIMIT_SECONDS,
+        top_place(11),
+        "opening_seconds",
+        value,
+    )
+}
+
+/// How many MiB the connections of a thread hold together at most.
+#[tactic(auto, unfolding(crate::specs::Configs::memory_mib_of))]
+fn memory_mib(value: &Value) -> Result<u32, ConfigFault>
+    ensures value { Gives (λ n. n) result (memory_mib_of (view value.now)) }
+    ensures at_least { IfOk result (λ n. MIN_MEMORY_MIB ≤ n) }
+    ensures at_most { IfOk result (λ n. n ≤ MAX_MEMORY_MIB) }
+{
+    number_or(
+        DEFAULT_MEMORY_MIB,
+        MIN_MEMORY_MIB,
+        MAX_MEMORY_MIB,
+        top_place(12),
+        "memory_mib",
+        value,
+    )
+}
+
+/// For how long a connection is kept that stalls or does nothing, and how much connections hold.
+#[tactic(auto, unfolding(crate::specs::Configs::limits_of))]
+fn limits(value: &Value) -> Result<ConnectionLimits, ConfigFault>
+    ensures value { Gives (λ l. l) result (limits_of (view value.now)) }
+    ensures within { IfOk result LimitsWithin }
+{
+    let stall_seconds = stall_seconds(value)?;
+    let opening_seconds = opening_seconds(value)?;
+    let memory_mib = memory_mib(value)?;
+    Ok(ConnectionLimits {
+        stall_seconds,
+        opening_seconds,
+        memory_mib,
+    })
+}
+
 /// How the agent runs.
 #[derive(Drop)]
 struct Manner {
@@ -208,27 +305,36 @@ struct Manner {
     signers: u32,
     log: LogLevel,
     metrics: Option<Octets>,
+    threads: u32,
+    limits: ConnectionLimits,
 }
 
 /// The other members of the top, without the sockets: how the agent runs.
 #[tactic(auto, unfolding(crate::specs::Configs::manner_of))]
 fn other_members(alloc: Global, value: &Value) -> Result<Manner, ConfigFault>
-    ensures value { Gives (λ m. record { poll_seconds = m.poll_seconds; signers = m.signers; log = m.log; metrics = m.metrics }) result (manner_of (view value.now)) }
+    ensures value { Gives (λ m. record { poll_seconds = m.poll_seconds; signers = m.signers; log = m.log; metrics = m.metrics; threads = m.threads; limits = m.limits }) result (manner_of (view value.now)) }
     ensures some_seconds { IfOk result (λ m. 0 < m.poll_seconds) }
     ensures few_seconds { IfOk result (λ m. m.poll_seconds ≤ MAX_POLL_SECONDS) }
     ensures some_signers { IfOk result (λ m. 0 < m.signers) }
     ensures few_signers { IfOk result (λ m. m.signers ≤ MAX_SIGNERS) }
     ensures metrics { IfOk result (λ m. IfSome m.metrics (λ path. starts_with nat_eq path (codes "/") ≡ true)) }
+    ensures some_threads { IfOk result (λ m. 0 < m.threads) }
+    ensures few_threads { IfOk result (λ m. m.threads ≤ MAX_THREADS) }
+    ensures limits { IfOk result (λ m. LimitsWithin m.limits) }
 {
     let poll_seconds = poll_seconds(value)?;
     let signers = signers(value)?;
     let log = log(value)?;
     let metrics = metrics(alloc, value)?;
+    let threads = threads(value)?;
+    let limits = limits(value)?;
     Ok(Manner {
         poll_seconds,
         signers,
         log,
         metrics,
+        threads,
+        limits,
     })
 }
 
@@ -247,6 +353,8 @@ fn config(alloc: Global, value: &Value) -> Result<Config, ConfigFault>
         signers: manner.signers,
         log: manner.log,
         metrics: manner.metrics,
+        threads: manner.threads,
+        limits: manner.limits,
         sockets: Row::from_vec(sockets),
     })
 }

@@ -1,49 +1,24 @@
 //! The sockets of a configuration.
 
-ghost use Rattle.std.specs.Prelude.{◌≡◌, ℕ, ◌+◌, ◌*◌, ◌<◌, ◌≤◌, ◌++◌, length, map, IfOk, IfErr, OnOk};
+ghost use Rattle.std.specs.Prelude.{◌≡◌, ◌<◌, ◌≤◌, ◌++◌, length, map, IfOk, IfErr, OnOk};
 ghost use Rattle.std.specs.List.{AllByRecursion};
 ghost use Rattle.serde_json.specs.View.{view};
 ghost use Rattle.wl_config.specs.declared.fault.ConfigFault.TheVariants.{Memory};
-ghost use Rattle.wl_config.specs.declared.limits.TheConstants.{MAX_SOCKETS, MAX_CONNECTIONS, MAX_ALL_CONNECTIONS, MAX_SOCKET_SELECTORS};
+ghost use Rattle.wl_config.specs.declared.limits.TheConstants.{MAX_SOCKETS, MAX_SOCKET_ITEMS, MAX_CONNECTIONS, MAX_SOCKET_SELECTORS};
 ghost use Rattle.wl_config.specs.Checks.{Gives};
 ghost use Rattle.wl_config.specs.Files.{HasPath};
-ghost use Rattle.wl_config.specs.Sockets.{rooms, served_of, says_workers, connections_of, fact_of, some_plain, socket_of, sockets_of, SocketsWithin, SocketWithin};
+ghost use Rattle.wl_config.specs.Sockets.{says_workers, connections_of, fact_of, some_plain, socket_of, sockets_of, SocketsWithin, SocketWithin};
 
 use crate::config::SocketFact;
 use crate::fault::ConfigFault;
 use crate::files::{SocketFile, files};
-use crate::limits::{DEFAULT_CONNECTIONS, MAX_ALL_CONNECTIONS, MAX_CONNECTIONS};
+use crate::limits::{DEFAULT_CONNECTIONS, MAX_CONNECTIONS};
 use crate::members::number_or;
 use crate::places::socket_place;
 use crate::selectors::{selectors_with, texts};
 use serde_json::Value;
 use std::alloc::Global;
-use wl_document::Place;
 use wl_selector::Selector;
-
-/// How many connections each of so many sockets serves, by the member of this name, where those before serve so many.
-#[tactic(auto, using(crate::proofs::Bounds::product_few), unfolding(crate::specs::Sockets::served_of))]
-fn served(
-    place: Place,
-    name: &str,
-    taken: u32,
-    many: u32,
-    value: &Value,
-) -> Result<u32, ConfigFault>
-    requires taken { taken ≤ MAX_ALL_CONNECTIONS }
-    requires many { many ≤ MAX_SOCKETS }
-    ensures value { Gives (λ n. n) result (served_of place name.now taken many (view value.now)) }
-    ensures some { IfOk result (λ n. 0 < n) }
-    ensures at_most { IfOk result (λ n. n ≤ MAX_CONNECTIONS) }
-    ensures room { IfOk result (λ n. taken + many * n ≤ MAX_ALL_CONNECTIONS) }
-{
-    let connections = number_or(DEFAULT_CONNECTIONS, MAX_CONNECTIONS, place, name, value)?;
-    let all = taken + many * connections;
-    if all > MAX_ALL_CONNECTIONS {
-        return Err(ConfigFault::TooMany(place, all as usize));
-    }
-    Ok(connections)
-}
 
 /// Whether a socket names its connections by `workers`, as they were called.
 #[tactic(auto, unfolding(crate::specs::Sockets::says_workers))]
@@ -55,19 +30,17 @@ fn says_workers(value: &Value) -> bool
 
 /// How many connections each of the sockets of the item at this index serves.
 #[tactic(auto, unfolding(crate::specs::Sockets::connections_of))]
-fn connections(index: u32, taken: u32, many: u32, value: &Value) -> Result<u32, ConfigFault>
-    requires taken { taken ≤ MAX_ALL_CONNECTIONS }
-    requires many { many ≤ MAX_SOCKETS }
-    ensures value { Gives (λ n. n) result (connections_of index taken many (view value.now)) }
+fn connections(index: u32, value: &Value) -> Result<u32, ConfigFault>
+    ensures value { Gives (λ n. n) result (connections_of index (view value.now)) }
     ensures some { IfOk result (λ n. 0 < n) }
     ensures at_most { IfOk result (λ n. n ≤ MAX_CONNECTIONS) }
-    ensures room { IfOk result (λ n. taken + many * n ≤ MAX_ALL_CONNECTIONS) }
 {
-    if says_workers(value) {
-        served(socket_place(index, 2), "workers", taken, many, value)
+    let (place, name) = if says_workers(value) {
+        (socket_place(index, 2), "workers")
     } else {
-        served(socket_place(index, 8), "connections", taken, many, value)
-    }
+        (socket_place(index, 8), "connections")
+    };
+    number_or(DEFAULT_CONNECTIONS, 1, MAX_CONNECTIONS, place, name, value)
 }
 
 /// The socket of a file.
@@ -121,39 +94,27 @@ fn some_plain(files: &[SocketFile]) -> bool
     files.iter().any(|file| file.uid.is_none())
 }
 
-/// The sockets of an item, and how many connections all sockets up to here serve.
-#[derive(Drop)]
-struct Added {
-    sockets: Vec<SocketFact>,
-    taken: u32,
-}
-
-/// The sockets of the item at this index, beside those before it, which serve so many connections.
+/// The sockets of the item at this index, beside those before it.
 #[tactic(auto, unfolding(crate::specs::Sockets::socket_of))]
 fn socket(
     alloc: Global,
     index: u32,
     before: &[SocketFact],
-    taken: u32,
     value: &Value,
-) -> Result<Added, ConfigFault>
+) -> Result<Vec<SocketFact>, ConfigFault>
     requires count { length before.now ≤ MAX_SOCKETS }
-    requires taken { taken ≡ rooms before.now }
     requires within { SocketsWithin before.now }
-    ensures value { Gives (λ a. a.sockets.items) result (socket_of index before.now (view value.now)) }
-    ensures within { IfOk result (λ a. SocketsWithin (before.now ++ a.sockets.items)) }
-    ensures taken { IfOk result (λ a. a.taken ≡ rooms (before.now ++ a.sockets.items)) }
-    ensures some { IfOk result (λ a. 0 < length a.sockets.items) }
-    ensures at_most { IfOk result (λ a. length (before.now ++ a.sockets.items) ≤ MAX_SOCKETS) }
+    ensures value { Gives (λ v. v.items) result (socket_of index before.now (view value.now)) }
+    ensures within { IfOk result (λ v. SocketsWithin (before.now ++ v.items)) }
+    ensures some { IfOk result (λ v. 0 < length v.items) }
+    ensures at_most { IfOk result (λ v. length (before.now ++ v.items) ≤ MAX_SOCKETS) }
 {
     let files = files(alloc, index, before, value)?;
-    let many = files.len() as u32;
-    let connections = connections(index, taken, many, value)?;
+    let connections = connections(index, value)?;
     let needed = some_plain(files.as_slice());
     let texts = texts(alloc, needed, socket_place(index, 3), value)?;
     let sockets = facts(alloc, connections, texts.as_slice(), files.as_slice())?;
-    let taken = taken + many * connections;
-    Ok(Added { sockets, taken })
+    Ok(sockets)
 }
 
 /// Puts more sockets after those that there are.
@@ -165,7 +126,7 @@ fn append(sockets: &mut Vec<SocketFact>, mut more: Vec<SocketFact>) -> Result<()
 
 /// The sockets of an array.
 pub(crate) fn sockets(alloc: Global, values: &[Value]) -> Result<Vec<SocketFact>, ConfigFault>
-    requires { length values.now ≤ MAX_SOCKETS }
+    requires { length values.now ≤ MAX_SOCKET_ITEMS }
     ensures value { Gives (λ v. v.items) result (sockets_of (map view values.now)) }
     ensures within { IfOk result (λ v. SocketsWithin v.items) }
     ensures some { IfOk result (λ v. 0 < length values.now → 0 < length v.items) }
@@ -173,11 +134,9 @@ pub(crate) fn sockets(alloc: Global, values: &[Value]) -> Result<Vec<SocketFact>
 {
     let mut done = Vec::new(alloc);
     let mut index: u32 = 0;
-    let mut taken: u32 = 0;
     for value in values {
-        let added = socket(alloc, index, done.as_slice(), taken, value)?;
-        taken = added.taken;
-        append(&mut done, added.sockets)?;
+        let added = socket(alloc, index, done.as_slice(), value)?;
+        append(&mut done, added)?;
         index += 1;
     }
     Ok(done)

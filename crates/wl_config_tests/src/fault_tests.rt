@@ -174,6 +174,29 @@ const MANNERS: &str = r#"
 [5, 0, 0, 8, 0, 0]:"metrics":""
 [4, 0, 0, 8, 0, 0]:"metrics":"run/m.sock"
 [0, 0, 0, 0, 0, 0]:"metrics":"/run/m.sock"
+[4, 0, 0, 9, 0, 0]:"threads":null
+[4, 0, 0, 9, 0, 0]:"threads":0
+[4, 0, 0, 9, 0, 0]:"threads":17
+[0, 0, 0, 0, 0, 0]:"threads":1
+[0, 0, 0, 0, 0, 0]:"threads":16
+[4, 0, 0, 10, 0, 0]:"stall_seconds":"30"
+[4, 0, 0, 10, 0, 0]:"stall_seconds":0
+[4, 0, 0, 10, 0, 0]:"stall_seconds":3601
+[0, 0, 0, 0, 0, 0]:"stall_seconds":1
+[0, 0, 0, 0, 0, 0]:"stall_seconds":3600
+[4, 0, 0, 11, 0, 0]:"opening_seconds":[20]
+[4, 0, 0, 11, 0, 0]:"opening_seconds":0
+[4, 0, 0, 11, 0, 0]:"opening_seconds":3601
+[0, 0, 0, 0, 0, 0]:"opening_seconds":1
+[0, 0, 0, 0, 0, 0]:"opening_seconds":3600
+[4, 0, 0, 12, 0, 0]:"memory_mib":1.5
+[4, 0, 0, 12, 0, 0]:"memory_mib":15
+[4, 0, 0, 12, 0, 0]:"memory_mib":65537
+[0, 0, 0, 0, 0, 0]:"memory_mib":16
+[0, 0, 0, 0, 0, 0]:"memory_mib":65536
+[4, 0, 0, 9, 0, 0]:"memory_mib":0,"threads":0
+[4, 0, 0, 10, 0, 0]:"opening_seconds":0,"stall_seconds":0
+[4, 0, 0, 11, 0, 0]:"memory_mib":0,"opening_seconds":0
 [4, 0, 0, 6, 0, 0]:"log":"off","signers":0
 [4, 0, 0, 7, 0, 0]:"metrics":7,"log":"off"
 [4, 0, 0, 4, 0, 0]:"metrics":7,"poll_seconds":0
@@ -252,31 +275,43 @@ const UIDS: &str = r#"
 [0, 0, 0, 0, 0, 0]:["33","1000-1031"]
 [0, 0, 0, 0, 0, 0]:["5-5"]
 [0, 0, 0, 0, 0, 0]:["1-64"]
-[7, 4, 0, 7, 0, 65]:["1-65"]
+[7, 4, 0, 7, 0, 4097]:["1-4097"]
 [7, 4, 0, 7, 0, 4294967295]:["0-4294967294"]
 [7, 4, 0, 7, 0, 8589934590]:["0","0-4294967294","1-4294967294"]
-[7, 4, 0, 7, 0, 65]:["1-64","1"]
+[7, 4, 0, 7, 0, 4097]:["1-4096","1"]
 [8, 4, 0, 1, 0, 0]:["1-63","1"]
 [8, 4, 0, 1, 0, 0]:["1","1"]
 [4, 4, 0, 8, 0, 0]:["1"],"connections":0
-[0, 0, 0, 0, 0, 0]:["1-64"],"connections":1024
-[7, 4, 0, 8, 0, 65600]:["1-64"],"connections":1025
-[7, 4, 0, 2, 0, 81920]:["1-5"],"workers":16384
+[0, 0, 0, 0, 0, 0]:["1-64"],"connections":16384
+[0, 0, 0, 0, 0, 0]:["1-5"],"workers":16384
 [4, 4, 0, 3, 0, 0]:["1"],"selectors":[]
 [6, 4, 0, 3, 0, 0]:["1"],"selectors":["a"]
 "#;
 
 /// Several sockets, by their other members.
 const SEVERAL: &str = r#"
-[7, 4, 4, 8, 0, 65537]:{"selectors":["a:b"],"path":"/a","connections":16384},{"selectors":["a:b"],"path":"/b","connections":16384},{"selectors":["a:b"],"path":"/c","connections":16384},{"selectors":["a:b"],"path":"/d","connections":16384},{"selectors":["a:b"],"path":"/e","connections":1}
-[7, 4, 4, 8, 0, 65600]:{"selectors":["a:b"],"path":"/a","connections":16384},{"selectors":["a:b"],"path":"/b","connections":16384},{"selectors":["a:b"],"path":"/c","connections":16384},{"selectors":["a:b"],"path":"/d","connections":16384},{"selectors":["a:b"],"path":"/e"}
-[7, 4, 4, 2, 0, 65538]:{"selectors":["a:b"],"path":"/a","connections":16384},{"selectors":["a:b"],"path":"/b","connections":16384},{"selectors":["a:b"],"path":"/c","connections":16384},{"selectors":["a:b"],"path":"/d","workers":16384},{"selectors":["a:b"],"path":"/e","workers":2}
-[0, 0, 0, 0, 0, 0]:{"selectors":["a:b"],"path":"/a","connections":16384},{"selectors":["a:b"],"path":"/b","connections":16384},{"selectors":["a:b"],"path":"/c","connections":16384},{"selectors":["a:b"],"path":"/d","connections":16384}
-[7, 0, 0, 5, 0, 65]:{"path":"/{uid}","uids":["1-64"]},{"selectors":["a:b"],"path":"/a"}
-[7, 4, 1, 7, 0, 65]:{"selectors":["a:b"],"path":"/a"},{"path":"/{uid}","uids":["1-64"]}
+[0, 0, 0, 0, 0, 0]:{"selectors":["a:b"],"path":"/a","connections":16384},{"selectors":["a:b"],"path":"/b","connections":16384},{"selectors":["a:b"],"path":"/c","connections":16384},{"selectors":["a:b"],"path":"/d","connections":16384},{"selectors":["a:b"],"path":"/e","connections":1}
+[4, 4, 1, 8, 0, 0]:{"selectors":["a:b"],"path":"/a","connections":16384},{"selectors":["a:b"],"path":"/b","connections":16385}
 [0, 0, 0, 0, 0, 0]:{"path":"/{uid}","uids":["1-32"]},{"path":"/{uid}.b","uids":["1-32"]}
-[7, 4, 1, 7, 0, 65]:{"path":"/{uid}","uids":["1-32"]},{"path":"/{uid}.b","uids":["1-33"]}
+[7, 4, 1, 7, 0, 4097]:{"selectors":["a:b"],"path":"/a"},{"path":"/{uid}","uids":["1-4096"]}
+[7, 4, 1, 7, 0, 4097]:{"path":"/{uid}","uids":["1-32"]},{"path":"/{uid}.b","uids":["1-4065"]}
 "#;
+
+/// All sockets that there may be, and one more.
+#[test]
+fn many_sockets(rt: HostRuntime) {
+    let front = r#"{"version":1,"document":"d","sockets":[{"path":"{uid}","uids":["1-4096"]}"#;
+    for (more, wanted) in [
+        ("", [0; 6]),
+        (
+            r#",{"path":"/a","selectors":["a:b"]}"#,
+            [7, 0, 0, 5, 0, 4_097],
+        ),
+    ] {
+        let config = repeated(&rt, rt.alloc(), front, more, 1, "]}");
+        assert_eq!(rt; outcome(&rt, rt.alloc(), config.as_bytes()), wanted);
+    }
+}
 
 #[test]
 fn first_faults(rt: HostRuntime) {
@@ -325,7 +360,7 @@ fn repeated(
 #[test]
 fn sockets_at_their_limit(rt: HostRuntime) {
     let front = r#"{"version":1,"document":"/d","sockets":[{}"#;
-    for (more, wanted) in [(64, [7, 0, 0, 5, 0, 65]), (63, [3, 4, 0, 1, 0, 0])] {
+    for (more, wanted) in [(1_024, [7, 0, 0, 5, 0, 1_025]), (1_023, [3, 4, 0, 1, 0, 0])] {
         let config = repeated(&rt, rt.alloc(), front, ",{}", more, "]}");
         assert_eq!(rt; outcome(&rt, rt.alloc(), config.as_bytes()), wanted);
     }

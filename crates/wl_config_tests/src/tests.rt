@@ -6,7 +6,7 @@ use wl_config::*;
 use wl_edge::{Attestor, Origin};
 
 const EXAMPLE: &str =
-    r#"{"version":1,"upstream":"/run/authority.sock","signer":"/run/signer.sock","poll_seconds":5,"signers":7,"log":"debug","metrics":"/m","sockets":[{"path":"/run/web.sock","owner":1000,"group":33,"mode":"0660","workers":4,"selectors":["unix:uid:1000"]}]}"#;
+    r#"{"version":1,"upstream":"/run/authority.sock","signer":"/run/signer.sock","poll_seconds":5,"signers":7,"log":"debug","metrics":"/m","threads":3,"stall_seconds":40,"opening_seconds":50,"memory_mib":60,"sockets":[{"path":"/run/web.sock","owner":1000,"group":33,"mode":"0660","workers":4,"selectors":["unix:uid:1000"]}]}"#;
 
 /// Who may open a file: its owner, its group and its mode.
 fn guarded(owner: Option<u32>, group: Option<u32>, mode: u32) -> SocketGuard {
@@ -73,6 +73,13 @@ fn is_attested(rt: &impl Abort, alloc: Global, socket: &SocketFact) {
     assert!(rt; selectors == socket.selectors);
 }
 
+/// Asserts how many threads serve, and the limits of connections in the order of their members.
+fn are_limits(rt: &impl Abort, config: &Config, threads: u32, limits: [u32; 3]) {
+    let found = &config.limits;
+    assert_eq!(rt; config.threads, threads);
+    assert!(rt; [found.stall_seconds, found.opening_seconds, found.memory_mib] == limits);
+}
+
 fn is_example(rt: &impl Abort, alloc: Global, config: &Config) {
     is_supplied(
         rt,
@@ -86,6 +93,7 @@ fn is_example(rt: &impl Abort, alloc: Global, config: &Config) {
     assert_eq!(rt; config.poll_seconds, 5);
     assert!(rt; (config.signers, config.log) == (7, LogLevel::Debug));
     assert!(rt; config.metrics.as_ref().map(|path| path.as_slice()) == Some(b"/m".as_slice()));
+    are_limits(rt, config, 3, [40, 50, 60]);
     match config.sockets.as_slice() {
         [web] => {
             let open = guarded(Some(1_000), Some(33), 0o660);
@@ -108,6 +116,7 @@ fn has_defaults(rt: &impl Abort, config: &Config) {
     assert_eq!(rt; config.poll_seconds, 5);
     assert!(rt; (config.signers, config.log) == (4, LogLevel::Info));
     assert!(rt; config.metrics.is_none());
+    are_limits(rt, config, 2, [30, 20, 256]);
     match config.sockets.as_slice() {
         [first, second] => {
             let own = guarded(None, None, 0o600);

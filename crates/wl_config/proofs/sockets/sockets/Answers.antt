@@ -16,7 +16,6 @@ pub loop-value-preserved : goal.loop-value-preserved
 loop-value-preserved c =
     let ok = rw (c.value-item.is, c.as_slice.ensures.value) at c.in_ok-added.ensures.value in
     let within = rw c.as_slice.ensures.value at c.in_ok-added.ensures.within in
-    let taken = rw c.as_slice.ensures.value at c.in_ok-added.ensures.taken in
     let few = rw c.as_slice.ensures.value at c.in_ok-added.ensures.at_most in
     rw c.in_ok-append.ensures (record {
       read = record {
@@ -24,9 +23,8 @@ loop-value-preserved c =
         so_far = sym (each_more socket_of (λ before more. before ++ more) c.args.values.now c.loop-value.index c.loop-value.value-index c.value-item.result c.loop-value.done.items _ (omega arith) ok) ∙ c.loop-value.invariant.read.so_far;
       };
       within = within;
-      taken = taken;
       few = few;
-      some = λ _. omega (arith, length-append c.loop-value.done.items c.in_ok-added.added.sockets.items, c.in_ok-added.ensures.some);
+      some = λ _. omega (arith, length-append c.loop-value.done.items c.in_ok-added.added.items, c.in_ok-added.ensures.some);
     })
 
 pub returns-clause-value : goal.returns-clause-value
