@@ -27,6 +27,7 @@ impl<S: Signer> TokenAsks for DirectAsks<S> {
         &mut self,
         _rt: &R,
         _connection: u64,
+        _socket: u32,
         ask: &Ask,
         audience: &[Octets],
     ) -> Result<JwtToken, NoAnswer> {

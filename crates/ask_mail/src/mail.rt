@@ -13,6 +13,10 @@ use wl_octets::{Octets, Row};
 /// An ask of a connection, on its way. The number of a connection is never used again at its seat.
 #[derive(Drop)]
 pub struct Asked {
+    /// The seat whose mailbox takes the answer.
+    pub seat: u32,
+    /// The socket over which the connection came.
+    pub socket: u32,
     pub connection: u64,
     pub ask: Ask,
     pub audience: Row<Octets>,
@@ -68,6 +72,16 @@ impl<V: Voucher> Answered<V> {
         ensures { result ≡ self.now.connection }
     {
         self.asked.connection
+    }
+
+    /// The seat whose mailbox takes it.
+    pub fn seat(&self) -> u32 {
+        self.asked.seat
+    }
+
+    /// The socket over which its connection came.
+    pub fn socket(&self) -> u32 {
+        self.asked.socket
     }
 
     /// Whether it is for this connection.
@@ -138,12 +152,13 @@ pub trait TokenAsks {
     /// An ask of this connection is in the queue or under way, or its answer is in the mailbox.
     ghost holds: { Self → ℕ → Type 0 };
 
-    /// The token for this ask of this connection, where it has come. Else the ask is put into the queue, unless one
-    /// of the connection is under way.
+    /// The token for this ask of this connection, which came over this socket, where it has come. Else the ask is put
+    /// into the queue, unless one of the connection is under way.
     fn look<R: Wait>(
         &mut self,
         rt: &R,
         connection: u64,
+        socket: u32,
         ask: &Ask,
         audience: &[Octets],
     ) -> Result<JwtToken, NoAnswer>

@@ -7,10 +7,17 @@ use std::alloc::{AllocFailed, Global};
 use wl_entry::Voucher;
 use wl_octets::Memory;
 
+/// A connection whose answer is awaited, and the socket over which it came.
+#[derive(Drop)]
+struct Awaited {
+    connection: u64,
+    socket: u32,
+}
+
 /// The answers for the connections of a seat, and of which connections an ask is under way.
 #[derive(Drop)]
 pub struct Mailbox<V: Voucher> {
-    awaited: Vec<u64>,
+    awaited: Vec<Awaited>,
     letters: Vec<Answered<V>>,
 }
 
@@ -23,9 +30,9 @@ impl<V: Voucher> Mailbox<V> {
         }
     }
 
-    /// From now on an answer for this connection is awaited.
-    pub fn await_one(&mut self, connection: u64) -> Result<(), Memory> {
-        match self.awaited.push(connection) {
+    /// From now on an answer for this connection, which came over this socket, is awaited.
+    pub fn await_one(&mut self, connection: u64, socket: u32) -> Result<(), Memory> {
+        match self.awaited.push(Awaited { connection, socket }) {
             Ok(()) => Ok(()),
             Err(_) => Err(Memory),
         }
@@ -33,12 +40,24 @@ impl<V: Voucher> Mailbox<V> {
 
     /// Whether an answer for this connection is awaited, or lies here.
     pub fn awaits(&self, connection: u64) -> bool {
-        self.awaited.iter().any(|awaited| *awaited == connection)
+        self.awaited
+            .iter()
+            .any(|awaited| awaited.connection == connection)
+    }
+
+    /// The socket of this connection, where an answer for it is awaited or lies here.
+    pub fn socket_of(&self, connection: u64) -> Option<u32> {
+        let awaited = self
+            .awaited
+            .iter()
+            .find(|awaited| awaited.connection == connection)?;
+        Some(awaited.socket)
     }
 
     /// No answer for this connection is awaited any more. One that lies here is let go.
     pub fn forget(&mut self, connection: u64) {
-        self.awaited.retain(|awaited| *awaited != connection);
+        self.awaited
+            .retain(|awaited| awaited.connection != connection);
         self.letters.retain(|letter| !letter.is_of(connection));
     }
 

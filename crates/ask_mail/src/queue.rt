@@ -7,7 +7,7 @@ use std::alloc::Global;
 use std::marker::Model;
 use wl_octets::Memory;
 
-/// The asks of one seat that no signer took yet, the oldest first.
+/// The asks of one socket that no signer took yet, the oldest first.
 #[derive(Drop)]
 pub struct AskQueue {
     asks: Vec<Asked>,
@@ -68,8 +68,8 @@ impl AskQueue {
         self.asks.is_empty()
     }
 
-    /// Gives up the asks of a connection.
-    pub fn forget(&mut self, connection: u64) {
-        self.asks.retain(|asked| asked.connection != connection);
+    /// Gives up the asks of a connection of this seat.
+    pub fn forget(&mut self, seat: u32, connection: u64) {
+        self.asks.retain(|asked| asked.seat != seat || asked.connection != connection);
     }
 }

@@ -1,13 +1,17 @@
 //! Work on each element of a slice, and one more thing beside it, at once.
 //!
 //! A thread works on each element, and the calling thread does the other thing. What that holds need not be
-//! sent to a thread, so it may write through any number of references. The call returns when all are done.
+//! sent to a thread, so it may write through any number of references. The call returns when all are done. Where no thread can
+//! be made, the calls run one after another: [`can_start`] looks whether as many threads can be had.
 #![tactic(auto)]
 
 ghost use Rattle.std.specs.Prelude.{◌<◌, length};
 ghost use Rattle.std.specs.Fork.{AcceptsEach, ChangesEach};
 ghost use Rattle.at_once.specs.Works.{Worked};
 
+mod muster;
+
+pub use muster::can_start;
 use std::thread;
 use std::thread::{Threads, join_mut};
 

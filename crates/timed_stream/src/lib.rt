@@ -6,8 +6,10 @@
 
 mod connecting;
 mod deadlines;
+mod spare;
 mod stream;
 
 pub use connecting::connect;
 pub use deadlines::{deadline_after, time_left};
+pub use spare::Spare;
 pub use stream::TimedStream;
