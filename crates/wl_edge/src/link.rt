@@ -66,6 +66,22 @@ pub trait Link {
     fn origin(&self) -> &Origin
         ensures { result.now ≡ origin self.now };
 
+    /// Notes that a call of it was attested. From then on its silence is no reason to give it up.
+    fn note_call(&mut self)
+        ensures told { told self.new ≡ told self.old }
+        ensures receives { failed_receives self.new ≡ failed_receives self.old }
+        ensures sends { failed_sends self.new ≡ failed_sends self.old }
+        ensures stalls { stalls self.new ≡ stalls self.old }
+        ensures origin { origin self.new ≡ origin self.old };
+
+    /// Notes with which error code (RFC 9113, section 7) the connection ends, since its peer broke a rule of HTTP/2.
+    fn note_error(&mut self, code: u32)
+        ensures told { told self.new ≡ told self.old }
+        ensures receives { failed_receives self.new ≡ failed_receives self.old }
+        ensures sends { failed_sends self.new ≡ failed_sends self.old }
+        ensures stalls { stalls self.new ≡ stalls self.old }
+        ensures origin { origin self.new ≡ origin self.old };
+
     /// Receives some bytes into what is lent, which is not empty.
     fn receive(&mut self, into: &mut [u8]) -> Received
         requires { 0 < length into.old }

@@ -30,7 +30,7 @@ pub enum AcceptKind {
 
 /// A place to which peers connect.
 pub trait Listener {
-    type L: Link + Send;
+    type L: Link + Send + Drop;
 
     /// The sockets on which it listens, if they are known.
     ghost sockets: { Self → Option (List BoundSocket) };

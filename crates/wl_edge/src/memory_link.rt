@@ -201,6 +201,10 @@ impl Link for MemoryLink {
         &self.origin
     }
 
+    fn note_call(&mut self) {}
+
+    fn note_error(&mut self, _code: u32) {}
+
     fn receive(&mut self, into: &mut [u8]) -> Received {
         if self.failed_past > 0 || self.gave.len() >= self.answers {
             self.failed_past = self.failed_past.saturating_add(1);

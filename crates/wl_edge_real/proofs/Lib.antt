@@ -1,2 +1,3 @@
 mod Longer
 mod Pieces
+mod Places

@@ -1,19 +1,17 @@
 //! Listening at the paths of Unix sockets.
 
-ghost use Rattle.std.specs.Prelude.{◌≡◌, ◌<◌, [], ◌∷◌, length, vec_len, Some, IfOk, IfErr};
+ghost use Rattle.std.specs.Prelude.{◌≡◌, IfOk, string_bytes};
 
 use crate::hidden::Hidden;
-use crate::listener::{BoundAt, RealListener};
 use mio::net::UnixStream;
 use std::alloc::Global;
 use std::fs::{Files, Permissions};
 use std::io::ErrorKind;
 use std::net::Net;
 use std::os::fd::{AsFd, AsRawFd, OwnedFd};
-use std::os::unix::fs::{FileTypeExt, PermissionsExt, lchown};
+use std::os::unix::fs::{FileTypeExt, MetadataExt, PermissionsExt, lchown};
 use std::os::unix::net::{SocketAddr, UnixListener};
 use std::{fs, io};
-use wl_edge::{Listener, Origin};
 
 /// How many connections may wait to be accepted.
 const BACKLOG: i32 = 128;
@@ -90,75 +88,146 @@ fn bind_private(rt: &(impl Files + Net), file: &str) -> io::Result<OwnedFd> {
     Ok(socket)
 }
 
-/// Listens at this hidden file, which gets its guard and then the name under which peers open it. Nothing that stands there
-/// is replaced.
+/// Which file stands at a path: its device, and its number there.
+#[derive(Clone, Copy, Debug, Drop, PartialEq, Eq)]
+pub struct FileId {
+    pub device: u64,
+    pub inode: u64,
+}
+
+impl FileId {
+    /// The file that stands at this path. A link there is a file of its own.
+    pub fn at(rt: &impl Files, path: &str) -> io::Result<FileId> {
+        let found = fs::symlink_metadata(rt, path)?;
+        Ok(FileId {
+            device: found.dev(),
+            inode: found.ino(),
+        })
+    }
+
+    /// Whether this file stands at this path.
+    pub fn stands_at(self, rt: &impl Files, path: &str) -> bool {
+        matches!(FileId::at(rt, path), Ok(found) if found == self)
+    }
+}
+
+/// Listens at this hidden file, which gets its guard.
 fn listen(
     rt: &(impl Files + Net),
     file: &str,
-    path: &str,
     guard: Guard,
-) -> Result<UnixListener, BindFault> {
+) -> Result<(UnixListener, FileId), BindFault> {
     let socket = bind_private(rt, file)?;
     guard_file(rt, file, guard).map_err(|e| BindFault::Guard(e.kind()))?;
     if libc::net::listen(socket.as_raw_fd(), BACKLOG) != 0 {
         return Err(BindFault::Refused(ErrorKind::Other));
     }
-    match fs::hard_link(rt, file, path) {
-        Ok(()) => Ok(UnixListener::from(socket)),
-        Err(error) if error.kind() == ErrorKind::AlreadyExists => Err(BindFault::Taken),
-        Err(error) => Err(BindFault::Refused(error.kind())),
+    let id = FileId::at(rt, file)?;
+    Ok((UnixListener::from(socket), id))
+}
+
+/// A Unix socket that listens, and the path of its file.
+#[derive(Drop)]
+pub struct PathListener {
+    pub listener: UnixListener,
+    pub path: String,
+    /// Its file, under whatever name.
+    pub file: FileId,
+}
+
+/// The file of a socket that listens already, which no peer finds yet: it stands in a folder of mode 0700 beside its path. It is
+/// given its name, or discarded; until then it and its folder stay.
+#[derive(Drop)]
+pub struct Unnamed {
+    hidden: Hidden,
+    path: String,
+}
+
+/// A hidden place for the file of this path, in a folder of the others where one stands beside the path.
+fn hide(rt: &impl Files, alloc: Global, path: &str, others: &[Unnamed]) -> io::Result<Hidden> {
+    for other in others.iter().rev() {
+        if other.hidden.is_beside(path) {
+            return other.hidden.next(alloc);
+        }
+    }
+    Hidden::make(rt, alloc, path)
+}
+
+impl Unnamed {
+    /// The path under which peers are to find the socket.
+    pub fn path(&self) -> &str {
+        self.path.as_str()
+    }
+
+    /// Gives the file its name. Nothing that stands there is replaced, except a socket at which nobody listens any more.
+    fn name(&self, rt: &(impl Files + Net)) -> Result<(), BindFault> {
+        clear(rt, self.path.as_str())?;
+        match fs::hard_link(rt, self.hidden.file(), self.path.as_str()) {
+            Ok(()) => Ok(()),
+            Err(error) if error.kind() == ErrorKind::AlreadyExists => Err(BindFault::Taken),
+            Err(error) => Err(BindFault::Refused(error.kind())),
+        }
+    }
+
+    /// Gives the file its name, so that peers find the socket. After a fault they don't, and nothing of the file is left.
+    pub fn open(self, rt: &(impl Files + Net)) -> Result<(), BindFault> {
+        let named = self.name(rt);
+        self.hidden.remove(rt);
+        named
+    }
+
+    /// Removes the file, and its folder where no other file stands in it.
+    pub fn discard(self, rt: &impl Files) {
+        self.hidden.remove(rt);
+    }
+}
+
+/// Listens at a Unix socket that peers don't find before its file is given its name, this path. The file has the guard's owner,
+/// group and mode, whatever the umask is. It shares the hidden folder of the last of the others that stands beside the path, if
+/// any. A socket at which nobody listens any more is removed from the path; nothing else is ever removed.
+pub fn bind_unnamed<R: Files + Net>(
+    rt: &R,
+    alloc: Global,
+    path: &str,
+    guard: Guard,
+    others: &[Unnamed],
+) -> Result<(PathListener, Unnamed), BindFault>
+    ensures path { IfOk result (λ r. string_bytes r.0.path ≡ path.now) }
+{
+    let (Ok(text), Ok(name)) = (String::from_str(alloc, path), String::from_str(alloc, path)) else {
+        return Err(BindFault::Memory);
+    };
+    clear(rt, path)?;
+    let hidden = hide(rt, alloc, path, others)?;
+    let unnamed = Unnamed { hidden, path: name };
+    match listen(rt, unnamed.hidden.file(), guard) {
+        Ok((listener, file)) => {
+            let socket = PathListener {
+                listener,
+                path: text,
+                file,
+            };
+            Ok((socket, unnamed))
+        }
+        Err(fault) => {
+            unnamed.discard(rt);
+            Err(fault)
+        }
     }
 }
 
 /// Listens at the path of a Unix socket. Its file has the guard's owner, group and mode, whatever the umask is, before it
 /// has this name: until then it stands in a folder of mode 0700 beside the path, which is removed. A socket at which nobody
-/// listens any more is replaced; nothing else is ever removed. Peers that connect find a server that listens; their links
-/// have this origin.
+/// listens any more is replaced; nothing else is ever removed. Peers that connect find a server that listens.
 pub fn bind<R: Files + Net>(
     rt: &R,
     alloc: Global,
     path: &str,
     guard: Guard,
-    origin: Origin,
-) -> Result<RealListener, BindFault>
-    ensures path { IfOk result (λ l. ⟦<RealListener as BoundAt>⟧.path l ≡ path.now) }
-    ensures sockets { IfOk result (λ l. ⟦<RealListener as Listener>⟧.sockets l
-        ≡ Some (record { selectors = origin.selectors; number = origin.socket } ∷ [])) }
-    ensures fresh { IfOk result (λ l. ⟦<RealListener as Listener>⟧.faults l ≡ 0) }
-    ensures told { IfOk result (λ l. ⟦<RealListener as Listener>⟧.told l ≡ Some (record { kinds = []; finished = [] })) }
+) -> Result<PathListener, BindFault>
+    ensures path { IfOk result (λ s. string_bytes s.path ≡ path.now) }
 {
-    clear(rt, path)?;
-    let hidden = Hidden::make(rt, alloc, path)?;
-    let listener = listen(rt, hidden.file(), path, guard);
-    hidden.remove(rt);
-    RealListener::start(listener?, path, origin).map_err(|e| BindFault::Refused(e.kind()))
-}
-
-/// Listens at each of these paths, with this guard and this origin. A fault comes with the place of its path, counted from 0;
-/// then nobody listens at any of them.
-pub fn bind_all<R: Files + Net>(
-    rt: &R,
-    alloc: Global,
-    paths: &[String],
-    guard: Guard,
-    origin: &Origin,
-) -> Result<Vec<RealListener>, (usize, BindFault)>
-    ensures all { IfOk result (λ listeners. vec_len listeners ≡ length paths.now) }
-    ensures place { IfErr result (λ e. e.0 < length paths.now) }
-{
-    let mut listeners = Vec::new(alloc);
-    for (place, path) in paths.iter().enumerate() {
-        let Ok(origin) = origin.share() else {
-            return Err((place, BindFault::Memory));
-        };
-        match bind(rt, alloc, path.as_str(), guard, origin) {
-            Ok(listener) => {
-                if listeners.push(listener).is_err() {
-                    return Err((place, BindFault::Memory));
-                }
-            }
-            Err(fault) => return Err((place, fault)),
-        }
-    }
-    Ok(listeners)
+    let (socket, unnamed) = bind_unnamed(rt, alloc, path, guard, &[])?;
+    unnamed.open(rt)?;
+    Ok(socket)
 }

@@ -200,6 +200,10 @@ impl<R: Net + Drop> Link for DialedLink<R> {
         &self.origin
     }
 
+    fn note_call(&mut self) {}
+
+    fn note_error(&mut self, _code: u32) {}
+
     fn receive(&mut self, into: &mut [u8]) -> Received {
         let answer = receive_from(&mut self.stream, into);
         self.gave = heard(&self.gave, into, answer);

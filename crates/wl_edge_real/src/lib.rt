@@ -5,6 +5,7 @@
 //! the trusted edge.
 #![tactic(auto)]
 
+mod arrivals;
 mod bell;
 mod binding;
 mod clock;
@@ -13,25 +14,37 @@ mod dialed;
 mod file;
 mod gate;
 mod hidden;
+mod limits;
 mod link;
 mod listener;
+mod open_links;
 mod output;
 mod ready;
+mod refusal;
+mod replacements;
+mod sockets;
 mod stop;
 mod telling;
 mod told_stream;
 mod upstream;
+mod watch;
+mod watched;
 
 pub use bell::RealBell;
-pub use binding::{BindFault, Guard, bind, bind_all};
+pub use binding::{BindFault, FileId, Guard, PathListener, Unnamed, bind, bind_unnamed};
 pub use clock::RealClock;
 pub use command_line::words;
 pub use dialed::{Address, DialedLink};
 pub use file::FileUpstream;
 pub use gate::RealGate;
-pub use link::{LinkFailures, RealLink};
+pub use limits::Limits;
+pub use link::{LinkFailures, RealLink, Traffic};
 pub use listener::{BoundAt, RealListener};
+pub use open_links::{MAX_OPEN_LINKS, OpenLinks};
 pub use output::RealOutput;
 pub use ready::RealReady;
+pub use refusal::Refusal;
+pub use replacements::Replacements;
 pub use stop::Stop;
 pub use upstream::{PULL_SECONDS, RealUpstream};
+pub use watch::Lateness;

@@ -5,15 +5,16 @@ ghost use Rattle.wl_edge_real.specs.Pieces.{piece_of, pieces_of};
 ghost use Rattle.wl_edge.specs.Edge.{Rose};
 ghost use Rattle.wl_edge.specs.Links.{heard_of, IsFresh, IsWithin, OnFailed};
 
+use crate::open_links::Counted;
 use crate::stop::{Stop, is_asked, is_urgent};
 use crate::telling::heard;
 use crate::told_stream::ToldStream;
+use crate::watch::{Lateness, Watch};
 use std::io;
 use std::io::ErrorKind;
 use std::os::fd::RawFd;
 use std::os::unix::net::UnixStream;
 use std::sync::Arc;
-use std::sync::atomic::{AtomicBool, Ordering};
 use wl_edge::{Heard, Link, Origin, Received, Sent, TrySent};
 use wl_told::Told;
 
@@ -23,26 +24,22 @@ const CLOSING_ROOM: usize = 4_096;
 /// How many such reads there are at most.
 const CLOSING_READS: usize = 64;
 
-/// What a link and one who watches it tell each other.
+/// What a link holds as long as it is open: its place among the sockets of its listener, and that it is counted.
 #[derive(Drop)]
-pub(crate) struct Watch {
-    /// Whether a receive may find something that the poll does not tell of.
-    pub(crate) more: AtomicBool,
-    /// Whether the last sending stalled.
-    pub(crate) stalled: AtomicBool,
-    /// Whether the poll told that the peer sends no more. Its last bytes and its end may come with one event.
-    pub(crate) closing: AtomicBool,
+pub(crate) struct Held {
+    /// The place of its socket.
+    pub(crate) at: u32,
+    /// Among the links of its socket.
+    pub(crate) of_socket: Counted,
+    /// Among all.
+    pub(crate) of_all: Counted,
 }
 
-impl Watch {
-    /// Of a link of which nobody knows yet whether it is idle.
-    pub(crate) fn start() -> Watch {
-        Watch {
-            more: AtomicBool::new(true),
-            stalled: AtomicBool::new(false),
-            closing: AtomicBool::new(false),
-        }
-    }
+/// How many bytes went over a link. At 2^64-1 a count stays.
+#[derive(Clone, Copy, Debug, Drop, PartialEq, Eq)]
+pub struct Traffic {
+    pub received: u64,
+    pub sent: u64,
 }
 
 /// What came of the calls of a link.
@@ -52,6 +49,15 @@ pub trait LinkFailures {
 
     /// Whether a sending has failed.
     fn has_failed_sends(&self) -> bool;
+
+    /// Why its watcher gave it up, where it did. Its calls have failed then, for that.
+    fn lateness(&self) -> Option<Lateness>;
+
+    /// With which error code (RFC 9113, section 7) the connection ended, where its peer broke a rule of HTTP/2.
+    fn error_code(&self) -> Option<u32>;
+
+    /// How many bytes it received and sent.
+    fn traffic(&self) -> Traffic;
 }
 
 /// A link over a Unix socket. It tells what it gave and took, by lists that exist only in proofs. A receive that finds
@@ -64,6 +70,12 @@ pub struct RealLink {
     watch: Option<Arc<Watch>>,
     /// What has it end.
     stop: Option<Arc<Stop>>,
+    /// None where it came over no listener.
+    held: Option<Held>,
+    /// Why one who watched it gave it up.
+    lateness: Option<Lateness>,
+    error_code: Option<u32>,
+    traffic: Traffic,
     failed_receives: u64,
     failed_sends: u64,
     stalls: u64,
@@ -94,6 +106,13 @@ impl RealLink {
             stream: ToldStream::start(stream),
             watch: None,
             stop: None,
+            held: None,
+            lateness: None,
+            error_code: None,
+            traffic: Traffic {
+                received: 0,
+                sent: 0,
+            },
             failed_receives: 0,
             failed_sends: 0,
             stalls: 0,
@@ -129,6 +148,7 @@ impl RealLink {
         ensures stalls { ⟦<RealLink as Link>⟧.stalls self.new ≡ ⟦<RealLink as Link>⟧.stalls self.old }
         ensures origin { ⟦<RealLink as Link>⟧.origin self.new ≡ ⟦<RealLink as Link>⟧.origin self.old }
     {
+        self.lateness = lateness(&self.watch).or(self.lateness);
         self.watch = watch;
     }
 
@@ -143,30 +163,47 @@ impl RealLink {
         self.stop = stop;
     }
 
-    /// Notes that a receive gave so many bytes of those that it was lent. One that gave fewer has found all that was there,
-    /// and the poll tells of what comes later; but the end may have come already.
-    fn note_received(&self, count: usize, lent: usize) {
-        if let Some(watch) = &self.watch {
-            let more = count == lent || watch.closing.load(Ordering::SeqCst);
-            watch.more.store(more, Ordering::SeqCst);
+    /// Has it hold this as long as it is open.
+    pub(crate) fn hold(&mut self, held: Held)
+        ensures told { ⟦<RealLink as Link>⟧.told self.new ≡ ⟦<RealLink as Link>⟧.told self.old }
+        ensures receives { ⟦<RealLink as Link>⟧.failed_receives self.new ≡ ⟦<RealLink as Link>⟧.failed_receives self.old }
+        ensures sends { ⟦<RealLink as Link>⟧.failed_sends self.new ≡ ⟦<RealLink as Link>⟧.failed_sends self.old }
+        ensures stalls { ⟦<RealLink as Link>⟧.stalls self.new ≡ ⟦<RealLink as Link>⟧.stalls self.old }
+        ensures origin { ⟦<RealLink as Link>⟧.origin self.new ≡ ⟦<RealLink as Link>⟧.origin self.old }
+    {
+        self.held = Some(held);
+    }
+
+    /// The place of its socket among those of its listener.
+    pub(crate) fn place(&self) -> Option<u32> {
+        match &self.held {
+            Some(held) => Some(held.at),
+            None => None,
         }
     }
 
-    /// Notes that a receive gave nothing.
-    fn note_nothing(&self) {
-        if let Some(watch) = &self.watch {
-            watch.more.store(false, Ordering::SeqCst);
+    /// Notes what a receive answered for one who watches it.
+    fn note_answer(&self, answer: Received, lent: usize) {
+        let Some(watch) = &self.watch else {
+            return;
+        };
+        match answer {
+            Received::Got(count) => watch.note_received(count, lent),
+            _ => watch.note_nothing(),
         }
     }
 
-    /// Notes whether a sending stalled. What is unsent goes first, so then nothing is received until the poll tells that
-    /// the peer has read.
-    fn note_sent(&self, stalled: bool) {
+    /// Notes that a sending took bytes.
+    fn note_taken(&self) {
         if let Some(watch) = &self.watch {
-            watch.stalled.store(stalled, Ordering::SeqCst);
-            if stalled {
-                watch.more.store(false, Ordering::SeqCst);
-            }
+            watch.note_taken();
+        }
+    }
+
+    /// Notes that a sending stalled.
+    fn note_stalled(&self) {
+        if let Some(watch) = &self.watch {
+            watch.note_stalled();
         }
     }
 
@@ -180,13 +217,13 @@ impl RealLink {
         ensures stalls { self.new.stalls ≡ self.old.stalls }
         ensures origin { self.new.origin ≡ self.old.origin }
     {
+        self.note_answer(answer, lent);
         match answer {
-            Received::Got(count) => self.note_received(count, lent),
-            Received::Failed => {
-                self.note_nothing();
-                self.failed_receives = self.failed_receives.saturating_add(1);
+            Received::Got(count) => {
+                self.traffic.received = self.traffic.received.saturating_add(count as u64);
             }
-            _ => self.note_nothing(),
+            Received::Failed => self.failed_receives = self.failed_receives.saturating_add(1),
+            Received::Idle | Received::End => {}
         }
     }
 }
@@ -205,9 +242,19 @@ pub(crate) fn answer_of(read: io::Result<usize>) -> Received
     }
 }
 
-/// What a receive answers. After a stop was asked for one that finds nothing is the last; after an urgent one nothing is read.
+/// Why one who watches a link gave it up, where one did.
+fn lateness(watch: &Option<Arc<Watch>>) -> Option<Lateness> {
+    match watch {
+        Some(watch) => watch.lateness(),
+        None => None,
+    }
+}
+
+/// What a receive answers. After a stop was asked for one that finds nothing is the last; after an urgent one nothing is read,
+/// and nothing of a link that was given up.
 fn receive_until(
     stop: &Option<Arc<Stop>>,
+    watch: &Option<Arc<Watch>>,
     stream: &mut ToldStream<UnixStream>,
     into: &mut [u8],
 ) -> Received
@@ -218,6 +265,9 @@ fn receive_until(
 {
     if is_urgent(stop) {
         return Received::End;
+    }
+    if lateness(watch).is_some() {
+        return Received::Failed;
     }
     match answer_of(stream.read(into)) {
         Received::Idle if is_asked(stop) => Received::End,
@@ -247,6 +297,18 @@ impl LinkFailures for RealLink {
     fn has_failed_sends(&self) -> bool {
         self.failed_sends > 0
     }
+
+    fn lateness(&self) -> Option<Lateness> {
+        lateness(&self.watch).or(self.lateness)
+    }
+
+    fn error_code(&self) -> Option<u32> {
+        self.error_code
+    }
+
+    fn traffic(&self) -> Traffic {
+        self.traffic
+    }
 }
 
 impl Link for RealLink {
@@ -264,9 +326,19 @@ impl Link for RealLink {
         &self.origin
     }
 
+    fn note_call(&mut self) {
+        if let Some(watch) = &self.watch {
+            watch.note_call();
+        }
+    }
+
+    fn note_error(&mut self, code: u32) {
+        self.error_code = Some(code);
+    }
+
     fn receive(&mut self, into: &mut [u8]) -> Received {
         let lent = into.len();
-        let answer = receive_until(&self.stop, &mut self.stream, into);
+        let answer = receive_until(&self.stop, &self.watch, &mut self.stream, into);
         self.gave = heard(&self.gave, into, answer);
         self.note(answer, lent);
         answer
@@ -274,7 +346,10 @@ impl Link for RealLink {
 
     fn send(&mut self, bytes: &[u8]) -> Sent {
         match write_waiting(&mut self.stream, bytes) {
-            Ok(count) if count > 0 => Sent::Took(count),
+            Ok(count) if count > 0 => {
+                self.traffic.sent = self.traffic.sent.saturating_add(count as u64);
+                Sent::Took(count)
+            }
             _ => {
                 self.failed_sends = self.failed_sends.saturating_add(1);
                 Sent::Failed
@@ -283,13 +358,18 @@ impl Link for RealLink {
     }
 
     fn try_send(&mut self, bytes: &[u8]) -> TrySent {
+        if lateness(&self.watch).is_some() {
+            self.failed_sends = self.failed_sends.saturating_add(1);
+            return TrySent::Failed;
+        }
         match self.stream.write(bytes) {
             Ok(count) if count > 0 => {
-                self.note_sent(false);
+                self.traffic.sent = self.traffic.sent.saturating_add(count as u64);
+                self.note_taken();
                 TrySent::Took(count)
             }
             Err(error) if is_pause(&error) && !is_urgent(&self.stop) => {
-                self.note_sent(true);
+                self.note_stalled();
                 self.stalls = self.stalls.saturating_add(1);
                 TrySent::Later
             }

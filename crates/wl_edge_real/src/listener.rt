@@ -1,27 +1,29 @@
 //! Listeners at Unix sockets.
 
-ghost use Rattle.std.specs.Prelude.{◌≡◌, ◌≤◌, ℕ, List, [], ◌∷◌, map, length, Some, IfOk};
+ghost use Rattle.std.specs.Prelude.{◌≡◌, ◌≤◌, ◌++◌, ℕ, List, [], ◌∷◌, map, string_bytes, Contains, Some, IfOk, IfSome, OnOk, OnErr};
 ghost use Rattle.wl_edge.specs.Links.{IsFresh};
 ghost use Rattle.wl_edge.specs.Listeners.{AcceptFits, IfLink, kind_of};
+ghost use Rattle.wl_edge_real.specs.Places.{socket_of};
 
+use crate::arrivals::Arrivals;
+use crate::binding::PathListener;
 use crate::link::RealLink;
-use crate::stop::{Stop, is_asked};
-use crate::telling::{Front, Took};
+use crate::open_links::OpenLinks;
+use crate::refusal::Refusal;
+use crate::replacements::Replacements;
+use crate::sockets::{ENOMEM, Sockets};
+use crate::stop::{Stop, is_asked, share_stop};
+use std::alloc::Global;
 use std::io;
-use std::io::ErrorKind;
-use std::os::fd::{AsRawFd, RawFd};
-use std::os::unix::net::UnixListener;
+use std::net::Net;
+use std::os::fd::RawFd;
 use std::sync::Arc;
-use std::sync::atomic::{AtomicBool, Ordering};
 use wl_edge::{AcceptKind, Accepted, Link, Listener, Origin};
-use wl_octets::Memory;
+use wl_octets::Octets;
 use wl_telling::One;
-use wl_told::Told;
+use wl_told::{Adds, Told};
 
-/// There is no memory for one more connection, or none for its origin (errors of `accept(2)`, by their numbers on Linux).
-const ENOMEM: i32 = 12;
-
-/// The system has no descriptor left.
+/// The system has no descriptor left (the number of errno(3) on Linux, as those that follow).
 const ENFILE: i32 = 23;
 
 /// The process has no descriptor left.
@@ -30,38 +32,50 @@ const EMFILE: i32 = 24;
 /// The network has no buffer left.
 const ENOBUFS: i32 = 105;
 
-/// A listener at a Unix socket. It tells its answers and the links that were finished, by lists that exist only in
-/// proofs.
+/// A listener at Unix sockets, from which it takes connections in turn. It tells its answers and the links that were finished, by lists
+/// that exist only in proofs.
 #[derive(Drop)]
 pub struct RealListener {
-    listener: UnixListener,
-    /// From where its links come.
-    origin: Origin,
-    /// Whether peers may have connected since an accept found none. One who watches the listener shares it.
-    arrivals: Option<Arc<AtomicBool>>,
+    sockets: Sockets,
+    /// The open links of all listeners that share it.
+    all: Arc<OpenLinks>,
     /// What has it and its links end.
-    pub(crate) stop: Option<Arc<Stop>>,
+    stop: Option<Arc<Stop>>,
     faults: u64,
     kinds: Told<AcceptKind>,
     finished: Told<RealLink>,
-    path: Told<u8>,
+    paths: Told<Octets>,
 }
 
 /// What contracts see of where a listener was bound.
 pub trait BoundAt {
-    ghost path: { Self → List ℕ };
+    /// The paths of its sockets, in the order in which they were added.
+    ghost paths: { Self → List (List ℕ) };
+
+    /// The number of the socket at which it looked last for a connection, 0 at first.
+    fn last_socket(&self) -> u32;
+
+    /// The connection that its last accept closed at once, if it did. An accept refuses one at most.
+    fn last_refusal(&self) -> Option<Refusal> {
+        None
+    }
 }
 
 impl BoundAt for RealListener {
-    ghost path = { λ l. l.path.list };
+    ghost paths = { λ l. l.paths.list };
+
+    fn last_socket(&self) -> u32 {
+        self.sockets.tried()
+    }
 }
 
-/// Whether an accept found no connection, or one that was gone already.
-fn is_nothing(error: &io::Error) -> bool {
-    matches!(
-        error.kind(),
-        ErrorKind::WouldBlock | ErrorKind::Interrupted | ErrorKind::ConnectionAborted
-    )
+/// Adds the path of a socket.
+struct ItsPath;
+
+impl Adds<PathListener, Octets> for ItsPath {
+    ghost use Rattle.std.specs.Prelude.{◌∷◌, [], string_bytes};
+
+    ghost added = { λ s. string_bytes s.path ∷ [] };
 }
 
 /// Whether an accept found no room for one more connection. Room comes as others end.
@@ -84,34 +98,45 @@ fn kind<L>(answer: &Accepted<L>) -> AcceptKind
     }
 }
 
-/// The path, told.
-fn path_told(path: &[u8]) -> Told<u8>
-    ensures { result.list ≡ path.now }
-{
-    let count = path.len();
-    Told::new().and::<Front<'_>, Took>(&Front { bytes: path, count })
-}
-
 impl RealListener {
-    /// A listener that was bound at this path and, from now on, does not block. Its links have this origin.
-    pub fn start(listener: UnixListener, path: &str, origin: Origin) -> io::Result<RealListener>
-        ensures sockets { IfOk result (λ l. ⟦<RealListener as Listener>⟧.sockets l
-            ≡ Some (record { selectors = origin.selectors; number = origin.socket } ∷ [])) }
-        ensures path { IfOk result (λ l. ⟦<RealListener as BoundAt>⟧.path l ≡ path.now) }
+    /// A listener at no socket yet. Its open links are counted with those of all listeners that share the count.
+    pub fn start(rt: &impl Net, alloc: Global, all: Arc<OpenLinks>) -> io::Result<RealListener>
+        ensures sockets { IfOk result (λ l. ⟦<RealListener as Listener>⟧.sockets l ≡ Some []) }
+        ensures paths { IfOk result (λ l. ⟦<RealListener as BoundAt>⟧.paths l ≡ []) }
         ensures told { IfOk result (λ l. ⟦<RealListener as Listener>⟧.told l ≡ Some (record { kinds = []; finished = [] })) }
         ensures fresh { IfOk result (λ l. ⟦<RealListener as Listener>⟧.faults l ≡ 0) }
     {
-        listener.set_nonblocking(true)?;
         Ok(RealListener {
-            listener,
-            origin,
-            arrivals: None,
+            sockets: Sockets::start(rt, alloc)?,
+            all,
             stop: None,
             faults: 0,
             kinds: Told::new(),
             finished: Told::new(),
-            path: path_told(path.as_bytes()),
+            paths: Told::new(),
         })
+    }
+
+    /// Listens at one more socket. Its links have this origin, and so many of them may be open at once: other callers of it
+    /// wait in its backlog. After a fault, which is out of memory or one of the operating system, the listener is as it was
+    /// and the socket is closed.
+    pub fn add(&mut self, socket: PathListener, origin: Origin, connections: u32) -> io::Result<()>
+        ensures sockets { OnOk result (IfSome (⟦<RealListener as Listener>⟧.sockets self.old) (λ known.
+            ⟦<RealListener as Listener>⟧.sockets self.new
+            ≡ Some (known ++ record { selectors = origin.selectors; number = origin.socket } ∷ []))) }
+        ensures paths { OnOk result (⟦<RealListener as BoundAt>⟧.paths self.new
+            ≡ ⟦<RealListener as BoundAt>⟧.paths self.old ++ string_bytes socket.path ∷ []) }
+        ensures same_sockets { OnErr result (⟦<RealListener as Listener>⟧.sockets self.new
+            ≡ ⟦<RealListener as Listener>⟧.sockets self.old) }
+        ensures same_paths { OnErr result (⟦<RealListener as BoundAt>⟧.paths self.new
+            ≡ ⟦<RealListener as BoundAt>⟧.paths self.old) }
+        ensures told { ⟦<RealListener as Listener>⟧.told self.new ≡ ⟦<RealListener as Listener>⟧.told self.old }
+        ensures faults { ⟦<RealListener as Listener>⟧.faults self.new ≡ ⟦<RealListener as Listener>⟧.faults self.old }
+    {
+        let paths = self.paths.and::<PathListener, ItsPath>(&socket);
+        self.sockets.add(socket.listener, origin, connections)?;
+        self.paths = paths;
+        Ok(())
     }
 
     /// Has it end once this stop is asked for, and the links that it gives from now on. A watcher that is made from now on then lists
@@ -119,7 +144,7 @@ impl RealListener {
     pub fn obey(&mut self, stop: Arc<Stop>)
         ensures told { ⟦<RealListener as Listener>⟧.told self.new ≡ ⟦<RealListener as Listener>⟧.told self.old }
         ensures faults { ⟦<RealListener as Listener>⟧.faults self.new ≡ ⟦<RealListener as Listener>⟧.faults self.old }
-        ensures path { ⟦<RealListener as BoundAt>⟧.path self.new ≡ ⟦<RealListener as BoundAt>⟧.path self.old }
+        ensures paths { ⟦<RealListener as BoundAt>⟧.paths self.new ≡ ⟦<RealListener as BoundAt>⟧.paths self.old }
         ensures sockets { ⟦<RealListener as Listener>⟧.sockets self.new ≡ ⟦<RealListener as Listener>⟧.sockets self.old }
     {
         self.stop = Some(stop);
@@ -127,59 +152,22 @@ impl RealListener {
 
     /// One more owner of its stop, where it has one.
     pub(crate) fn share_stop(&self) -> io::Result<Option<Arc<Stop>>> {
-        match &self.stop {
-            Some(stop) => Ok(Some(Arc::try_clone(stop)?)),
-            None => Ok(None),
-        }
+        share_stop(&self.stop)
     }
 
-    /// The socket.
+    /// What one who waits for peers watches.
     pub(crate) fn descriptor(&self) -> RawFd {
-        self.listener.as_raw_fd()
+        self.sockets.descriptor()
     }
 
-    /// Shares whether peers may have connected with one who watches the listener.
-    pub(crate) fn share(&mut self, arrivals: Arc<AtomicBool>)
-        ensures told { ⟦<RealListener as Listener>⟧.told self.new ≡ ⟦<RealListener as Listener>⟧.told self.old }
-        ensures faults { ⟦<RealListener as Listener>⟧.faults self.new ≡ ⟦<RealListener as Listener>⟧.faults self.old }
-        ensures path { ⟦<RealListener as BoundAt>⟧.path self.new ≡ ⟦<RealListener as BoundAt>⟧.path self.old }
-        ensures sockets { ⟦<RealListener as Listener>⟧.sockets self.new ≡ ⟦<RealListener as Listener>⟧.sockets self.old }
-    {
-        self.arrivals = Some(arrivals);
+    /// What one who watches it shares.
+    pub(crate) fn share_arrivals(&self) -> io::Result<Arc<Arrivals>> {
+        self.sockets.share_arrivals()
     }
 
-    /// Whether an accept may find a connection.
-    fn may_have_arrivals(&self) -> bool {
-        match &self.arrivals {
-            Some(arrivals) => arrivals.load(Ordering::SeqCst),
-            None => true,
-        }
-    }
-
-    /// Notes that an accept found no connection. One that was interrupted has not looked.
-    fn note_nothing(&self, error: &io::Error) {
-        if let Some(arrivals) = &self.arrivals
-            && error.kind() == ErrorKind::WouldBlock
-        {
-            arrivals.store(false, Ordering::SeqCst);
-        }
-    }
-
-    /// The next connection as a link.
-    fn next_link(&self) -> io::Result<RealLink>
-        ensures origin { IfOk result (λ l. ⟦<RealLink as Link>⟧.origin l ≡ self.now.origin) }
-        ensures fresh { IfOk result (λ l. IsFresh (⟦<RealLink as Link>⟧.told l) (⟦<RealLink as Link>⟧.failed_receives l)
-            (⟦<RealLink as Link>⟧.failed_sends l) (⟦<RealLink as Link>⟧.stalls l)) }
-    {
-        let origin = match self.origin.share() {
-            Ok(origin) => origin,
-            Err(Memory) => return Err(io::Error::from_raw_os_error(ENOMEM)),
-        };
-        let stop = self.share_stop()?;
-        let (stream, _) = self.listener.accept()?;
-        let mut link = RealLink::start(origin, stream)?;
-        link.obey(stop);
-        Ok(link)
+    /// Where other sockets are put that take the places of these.
+    pub fn share_replacements(&self) -> io::Result<Arc<Replacements>> {
+        self.sockets.share_replacements()
     }
 
     /// The next answer, which is not told yet.
@@ -188,23 +176,26 @@ impl RealListener {
         ensures later { self.old.faults ≤ self.new.faults }
         ensures fresh { IfLink result (λ l. IsFresh (⟦<RealLink as Link>⟧.told l) (⟦<RealLink as Link>⟧.failed_receives l)
             (⟦<RealLink as Link>⟧.failed_sends l) (⟦<RealLink as Link>⟧.stalls l)) }
-        ensures origin { IfLink result (λ l. ⟦<RealLink as Link>⟧.origin l ≡ self.old.origin) }
-        ensures same { self.new.origin ≡ self.old.origin }
+        ensures origin { IfLink result (λ l. Contains (map (λ p. socket_of p.origin) self.old.sockets.places.items)
+            (socket_of (⟦<RealLink as Link>⟧.origin l))) }
+        ensures same { self.new.sockets.places ≡ self.old.sockets.places }
         ensures kinds { self.new.kinds ≡ self.old.kinds }
         ensures finished { self.new.finished ≡ self.old.finished }
     {
         if is_asked(&self.stop) {
             return Accepted::End;
         }
-        if !self.may_have_arrivals() {
+        let refused = self.sockets.replace_all();
+        if refused > 0 {
+            self.faults = self.faults.saturating_add(refused);
             return Accepted::Idle;
         }
-        match self.next_link() {
-            Ok(link) => Accepted::Link(link),
-            Err(error) if is_nothing(&error) => {
-                self.note_nothing(&error);
-                Accepted::Idle
-            }
+        if !self.sockets.may_have_arrivals() {
+            return Accepted::Idle;
+        }
+        match self.sockets.accept(&self.all, &self.stop) {
+            Ok(Some(link)) => Accepted::Link(link),
+            Ok(None) => Accepted::Idle,
             Err(error) => {
                 self.faults = self.faults.saturating_add(1);
                 if is_full(&error) {
@@ -220,7 +211,7 @@ impl RealListener {
 impl Listener for RealListener {
     type L = RealLink;
 
-    ghost sockets = { λ l. Some (record { selectors = l.origin.selectors; number = l.origin.socket } ∷ []) };
+    ghost sockets = { λ l. Some (map (λ p. socket_of p.origin) l.sockets.places.items) };
 
     ghost told = { λ l. Some (record {
       kinds = l.kinds.list;
@@ -242,7 +233,11 @@ impl Listener for RealListener {
     }
 
     fn finish(&mut self, link: RealLink) {
+        let at = link.place();
         self.finished = self.finished.and::<RealLink, One>(&link);
         link.close();
+        if let Some(at) = at {
+            self.sockets.make_room(at);
+        }
     }
 }

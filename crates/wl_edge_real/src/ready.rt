@@ -3,20 +3,24 @@
 ghost use Rattle.std.specs.Prelude.{◌≡◌, IfOk, IfErr};
 ghost use Rattle.list_laws.specs.Lists.{BeginsWith};
 
+use crate::arrivals::Arrivals;
 use crate::bell::RealBell;
-use crate::link::{RealLink, Watch};
-use crate::listener::{BoundAt, RealListener};
+use crate::limits::{Limits, has_passed};
+use crate::link::RealLink;
+use crate::listener::RealListener;
 use crate::stop::{Stop, is_asked};
+use crate::watch::Watch;
+use crate::watched::{Table, Watched, interest};
 use mio::unix::SourceFd;
 use mio::{Events, Interest, Poll, Token, Waker};
 use std::alloc::Global;
 use std::io;
 use std::net::Net;
 use std::os::fd::RawFd;
+use std::rt::Clock;
 use std::sync::Arc;
-use std::sync::atomic::{AtomicBool, Ordering};
-use std::time::Duration;
-use wl_edge::{EdgeFault, Listener, Ready};
+use std::time::{Duration, Instant};
+use wl_edge::{EdgeFault, Ready};
 use wl_octets::Row;
 
 /// The listener's token, which isn't a number of a link.
@@ -28,172 +32,168 @@ const BELL: Token = Token(usize::MAX - 1);
 /// How many seconds a wait takes at most.
 const SHORT_WHILE_SECONDS: u64 = 1;
 
+/// How many seconds pass between two looks at all links.
+const LOOK_SECONDS: u32 = 1;
+
 /// How many events a wait takes at most; others are left for the next one.
-const EVENTS: usize = 64;
+const EVENTS: usize = 256;
 
-/// A link that is watched.
+/// What a watcher has beside its count.
 #[derive(Drop)]
-struct Watched {
-    number: u32,
-    socket: RawFd,
-    watch: Arc<Watch>,
-    /// Whether the poll told of it since it was appended last.
-    changed: bool,
-    /// Whether the poll is to tell that its peer has read: while a sending is stalled.
-    tells_of_room: bool,
-}
-
-impl Watched {
-    fn is_ready(&self) -> bool {
-        self.changed || self.watch.more.load(Ordering::SeqCst)
-    }
-}
-
-/// What the poll is to tell of a link.
-fn interest(tells_of_room: bool) -> Interest {
-    if tells_of_room {
-        Interest::READABLE | Interest::WRITABLE
-    } else {
-        Interest::READABLE
-    }
-}
-
-/// Watches the links of a seat and its listener. It tells no content.
-#[derive(Drop)]
-pub struct RealReady {
+struct Watcher<R> {
+    rt: R,
     alloc: Global,
     poll: Poll,
     events: Events<Global>,
-    watched: Vec<Watched>,
-    /// Whether peers may have connected, which the listener shares.
-    arrivals: Arc<AtomicBool>,
+    table: Table,
+    /// What the listener shares.
+    arrivals: Arc<Arrivals>,
     /// What has the listener and its links end.
     stop: Option<Arc<Stop>>,
+    limits: Option<Limits>,
+    /// When all links were looked at last.
+    looked: Option<Instant>,
+    /// Whether the bell rang since all links were listed.
     rung: bool,
+}
+
+/// Watches the links of a seat and its listener. It tells no content.
+///
+/// A link is listed at its first wait, when the poll reports a change of it, as long as its last receive filled the whole buffer, and
+/// when its time is over. After a ring, and from a stop on, all links are. It has a place for each number up to the largest, so numbers
+/// should be small.
+#[derive(Drop)]
+pub struct RealReady<R> {
+    watcher: Watcher<R>,
     faults: u64,
 }
 
-impl RealReady {
+impl<R: Net + Clock + Clone + Drop> RealReady<R> {
     /// A watcher of no links yet, with its bell. A wait ends also where a peer connects to the listener, and then
-    /// appends nothing for that. After the listener's stop was asked for each wait appends all.
+    /// appends nothing for that. After the listener's stop was asked for each wait appends all. A link that stands still for
+    /// longer than its limits fails at its next call; where there are none it may for ever.
     pub fn start(
-        rt: &impl Net,
+        rt: &R,
         alloc: Global,
-        listener: &mut RealListener,
-    ) -> io::Result<(RealReady, RealBell)>
-        ensures fresh { IfOk result (λ pair. ⟦<RealReady as Ready<RealLink>>⟧.faults pair.0 ≡ 0) }
-        ensures listener { ⟦<RealListener as Listener>⟧.faults listener.new ≡ ⟦<RealListener as Listener>⟧.faults listener.old }
-        ensures told { ⟦<RealListener as Listener>⟧.told listener.new ≡ ⟦<RealListener as Listener>⟧.told listener.old }
-        ensures path { ⟦<RealListener as BoundAt>⟧.path listener.new ≡ ⟦<RealListener as BoundAt>⟧.path listener.old }
-        ensures sockets { ⟦<RealListener as Listener>⟧.sockets listener.new ≡ ⟦<RealListener as Listener>⟧.sockets listener.old }
+        listener: &RealListener,
+        limits: Option<Limits>,
+    ) -> io::Result<(RealReady<R>, RealBell)>
+        ensures fresh { IfOk result (λ pair. ⟦<RealReady<R> as Ready<RealLink>>⟧.faults pair.0 ≡ 0) }
     {
         let poll = Poll::new(rt)?;
-        let socket = listener.descriptor();
+        let sockets = listener.descriptor();
         poll.registry()
-            .register(&mut SourceFd(&socket), LISTENER, Interest::READABLE)?;
+            .register(&mut SourceFd(&sockets), LISTENER, Interest::READABLE)?;
         let bell = RealBell::start(Waker::new(poll.registry(), BELL)?);
-        let arrivals = Arc::new(alloc, AtomicBool::new(true))?;
-        listener.share(Arc::try_clone(&arrivals)?);
-        let ready = RealReady {
+        let arrivals = listener.share_arrivals()?;
+        arrivals.watch();
+        let watcher = Watcher {
+            rt: rt.clone()?,
             alloc,
             poll,
             events: Events::with_capacity(alloc, EVENTS)?,
-            watched: Vec::new(alloc),
+            table: Table::start(alloc),
             arrivals,
             stop: listener.share_stop()?,
+            limits,
+            looked: None,
             rung: false,
-            faults: 0,
         };
+        let ready = RealReady { watcher, faults: 0 };
         Ok((ready, bell))
     }
 }
 
-/// Notes of which links the events tell, and whether of the listener, and says whether the bell rang.
-fn note_events(events: &Events<Global>, watched: &mut [Watched], arrivals: &AtomicBool) -> bool {
-    let mut rung = false;
-    for event in events.iter() {
-        match event.token() {
-            BELL => rung = true,
-            LISTENER => arrivals.store(true, Ordering::SeqCst),
-            token => note_change(watched, token, event.is_read_closed()),
-        }
+impl<R: Clock + Drop> Watcher<R> {
+    /// The time, where the system gives one.
+    fn now(&self) -> Option<Instant> {
+        Instant::now(&self.rt).ok()
     }
-    rung
-}
 
-/// Notes that the link of this token changed, if it is watched, and whether its peer sends no more.
-fn note_change(watched: &mut [Watched], token: Token, is_closing: bool) {
-    for link in watched.iter_mut() {
-        if Token(link.number as usize) == token {
-            link.changed = true;
-            if is_closing {
-                link.watch.closing.store(true, Ordering::SeqCst);
-            }
-        }
-    }
-}
-
-/// Has the poll tell what it is to tell now of each link.
-fn follow_stalls(poll: &Poll, watched: &mut [Watched]) -> io::Result<()> {
-    for link in watched.iter_mut() {
-        let stalled = link.watch.stalled.load(Ordering::SeqCst);
-        if stalled != link.tells_of_room {
-            let token = Token(link.number as usize);
-            let socket = link.socket;
-            poll.registry()
-                .reregister(&mut SourceFd(&socket), token, interest(stalled))?;
-            link.tells_of_room = stalled;
-        }
-    }
-    Ok(())
-}
-
-/// Appends the number of a link.
-fn append_number(link: &mut Watched, into: &mut Row<u32>) -> Result<(), EdgeFault>
-    ensures kept { BeginsWith into.new into.old }
-    ensures fault { IfErr result (λ e. e ≡ EdgeFault.Memory) }
-{
-    into.push(link.number)?;
-    link.changed = false;
-    Ok(())
-}
-
-/// Appends the numbers of all links, or of those that are ready, as far as there is memory.
-fn append(watched: &mut [Watched], all: bool, into: &mut Row<u32>) -> Result<(), EdgeFault>
-    ensures kept { BeginsWith into.new into.old }
-    ensures fault { IfErr result (λ e. e ≡ EdgeFault.Memory) }
-{
-    for link in watched.iter_mut() {
-        if all || link.is_ready() {
-            append_number(link, into)?;
-        }
-    }
-    Ok(())
-}
-
-impl Ready<RealLink> for RealReady {
-    ghost faults = { λ r. r.faults };
-
-    fn add(&mut self, number: u32, link: &mut RealLink) -> Result<(), EdgeFault> {
-        let watch = Arc::new(self.alloc, Watch::start()).map_err(|_| EdgeFault::Memory)?;
-        let shared = Arc::try_clone(&watch).map_err(|_| EdgeFault::Memory)?;
-        let socket = link.descriptor();
-        let watched = Watched {
+    /// Watches a link of this socket. None where there is no memory.
+    fn insert(&mut self, number: u32, socket: RawFd) -> Option<Arc<Watch>> {
+        let watch = Arc::new(self.alloc, Watch::start()).ok()?;
+        let shared = Arc::try_clone(&watch).ok()?;
+        let link = Watched {
             number,
             socket,
             watch,
-            changed: false,
+            came: self.now(),
+            stands_since: None,
+            is_due: false,
             tells_of_room: false,
         };
-        self.watched.push(watched).map_err(|_| EdgeFault::Memory)?;
+        self.table.insert(link).ok()?;
+        Some(shared)
+    }
+
+    /// Has the poll report changes of this socket.
+    fn register(&self, number: u32, socket: RawFd) -> io::Result<()> {
         let token = Token(number as usize);
-        if self
-            .poll
+        self.poll
             .registry()
             .register(&mut SourceFd(&socket), token, interest(false))
-            .is_err()
-        {
-            self.watched.pop();
+    }
+
+    /// Once a second looks at all links.
+    fn look_over(&mut self, now: Instant) -> io::Result<()> {
+        if self.looked.is_some() && !has_passed(LOOK_SECONDS, self.looked, now) {
+            return Ok(());
+        }
+        self.looked = Some(now);
+        self.table.look_over(self.poll.registry(), self.limits, now)
+    }
+
+    /// Notes what came of the links' rounds, and says how long the poll may wait.
+    fn prepare(&mut self) -> io::Result<Duration> {
+        let now = self.now();
+        self.table.follow(self.poll.registry(), now)?;
+        if let Some(now) = now {
+            self.look_over(now)?;
+        }
+        let hurries = self.arrivals.take_hurry();
+        if hurries || self.rung || self.table.has_due() {
+            return Ok(Duration::ZERO);
+        }
+        Ok(Duration::from_secs(SHORT_WHILE_SECONDS))
+    }
+
+    /// Waits until the poll reports something, and notes what.
+    fn look(&mut self) -> io::Result<()> {
+        let most = self.prepare()?;
+        self.poll.poll(&mut self.events, Some(most))?;
+        for event in self.events.iter() {
+            match event.token() {
+                BELL => self.rung = true,
+                LISTENER => self.arrivals.note(),
+                Token(number) => self.table.note_change(number, event.is_read_closed()),
+            }
+        }
+        Ok(())
+    }
+
+    /// Appends the numbers of the links that may be ready.
+    fn list(&mut self, into: &mut Row<u32>) -> Result<(), EdgeFault>
+        ensures kept { BeginsWith into.new into.old }
+        ensures fault { IfErr result (λ e. e ≡ EdgeFault.Memory) }
+    {
+        let all = self.rung || is_asked(&self.stop);
+        self.table.list(all, into)?;
+        self.rung = false;
+        Ok(())
+    }
+}
+
+impl<R: Clock + Drop> Ready<RealLink> for RealReady<R> {
+    ghost faults = { λ r. r.faults };
+
+    fn add(&mut self, number: u32, link: &mut RealLink) -> Result<(), EdgeFault> {
+        let socket = link.descriptor();
+        let Some(shared) = self.watcher.insert(number, socket) else {
+            return Err(EdgeFault::Memory);
+        };
+        if self.watcher.register(number, socket).is_err() {
+            self.watcher.table.remove(number);
             self.faults = self.faults.saturating_add(1);
             return Err(EdgeFault::Failed);
         }
@@ -204,6 +204,7 @@ impl Ready<RealLink> for RealReady {
     fn remove(&mut self, number: u32, link: &mut RealLink) {
         let socket = link.descriptor();
         if self
+            .watcher
             .poll
             .registry()
             .deregister(&mut SourceFd(&socket))
@@ -212,26 +213,14 @@ impl Ready<RealLink> for RealReady {
             self.faults = self.faults.saturating_add(1);
         }
         link.share(None);
-        self.watched.retain(|watched| watched.number != number);
+        self.watcher.table.remove(number);
     }
 
     fn wait(&mut self, into: &mut Row<u32>) -> Result<(), EdgeFault> {
-        let at_once = self.rung || self.watched.iter().any(|link| link.is_ready());
-        let most = if at_once {
-            Duration::ZERO
-        } else {
-            Duration::from_secs(SHORT_WHILE_SECONDS)
-        };
-        if follow_stalls(&self.poll, self.watched.as_mut_slice()).is_err()
-            || self.poll.poll(&mut self.events, Some(most)).is_err()
-        {
+        if self.watcher.look().is_err() {
             self.faults = self.faults.saturating_add(1);
             return Err(EdgeFault::Failed);
         }
-        let rung = note_events(&self.events, self.watched.as_mut_slice(), &self.arrivals);
-        self.rung = self.rung || rung || is_asked(&self.stop);
-        append(self.watched.as_mut_slice(), self.rung, into)?;
-        self.rung = false;
-        Ok(())
+        self.watcher.list(into)
     }
 }

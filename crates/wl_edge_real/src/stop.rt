@@ -1,5 +1,6 @@
 //! Having listeners, links and gates end.
 
+use std::io;
 use std::sync::Arc;
 use std::sync::atomic::{AtomicBool, Ordering};
 
@@ -38,6 +39,14 @@ impl Stop {
     /// Whether links are to end at once.
     pub fn is_urgent(&self) -> bool {
         self.is_urgent.load(Ordering::SeqCst)
+    }
+}
+
+/// One more owner of a stop, where there is one.
+pub(crate) fn share_stop(stop: &Option<Arc<Stop>>) -> io::Result<Option<Arc<Stop>>> {
+    match stop {
+        Some(stop) => Ok(Some(Arc::try_clone(stop)?)),
+        None => Ok(None),
     }
 }
 

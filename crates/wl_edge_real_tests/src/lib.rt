@@ -4,6 +4,14 @@
 #[cfg(test)]
 mod file_tests;
 #[cfg(test)]
+mod late_tests;
+#[cfg(test)]
+mod many_tests;
+#[cfg(test)]
+mod replacing_tests;
+#[cfg(test)]
 mod slow_tests;
 #[cfg(test)]
 mod tests;
+#[cfg(test)]
+mod unnamed_tests;

@@ -3,12 +3,14 @@
 use crate::tests::path_of;
 use std::alloc::{AllocError, AllocGlobal, Global};
 use std::io::{Read, Write};
-use std::os::fd::AsRawFd;
+use std::net::Net;
+use std::os::fd::{AsRawFd, OwnedFd};
 use std::os::unix::net::{UnixListener, UnixStream};
 use std::rt::Clock;
 use std::test::Fail;
 use std::time::{Duration, Instant};
 use std::{fs, io, thread};
+use timed_stream::Spare;
 use wl_edge::{EdgeFault, Link, Origin, Received, Sent, TrySent, Upstream};
 use wl_edge_real::{DialedLink, RealLink, RealUpstream};
 use wl_octets::Octets;
@@ -18,6 +20,9 @@ const SHORT: u64 = 200;
 
 /// How much later than its deadline a pull may end on a busy machine, in milliseconds.
 const SLACK: u64 = 5_000;
+
+/// How many descriptors a test takes at most.
+const MANY: u32 = 100_000;
 
 /// More bytes than a socket takes at once. None repeats within 251 places.
 fn long_text(alloc: Global) -> Result<Vec<u8>, AllocError> {
@@ -148,6 +153,37 @@ fn a_full_backlog_is_a_fault_at_once(rt: HostRuntime) -> Result<(), Fail> {
     assert_eq!(rt; upstream.pull(&mut into), Err(EdgeFault::Failed));
     assert!(rt; begun.elapsed(&rt)? < Duration::from_millis(SLACK));
     fs::remove_file(&rt, path.as_str())?;
+    Ok(())
+}
+
+/// Takes descriptors until none is left. None where the process may have more than a test should take.
+fn take_all(rt: &impl Net, alloc: Global) -> Result<Option<Vec<OwnedFd>>, Fail> {
+    let mut taken = Vec::new(alloc);
+    for _ in 0..MANY {
+        match rt.unix_socket() {
+            Ok(socket) => taken.push(socket)?,
+            Err(_) => return Ok(Some(taken)),
+        }
+    }
+    Ok(None)
+}
+
+#[test]
+fn an_exchange_has_a_descriptor_of_its_own(rt: HostRuntime) -> Result<(), Fail> {
+    let path = path_of(&rt, "spare")?;
+    let _listener = UnixListener::bind(&rt, path.as_str())?;
+    let mut spare = Spare::hold(&rt);
+    let Some(taken) = take_all(&rt, rt.alloc())? else {
+        return Ok(());
+    };
+    let refused = timed_stream::connect(&rt, path.as_str()).is_err();
+    let first = spare.connect(&rt, path.as_str()).is_ok();
+    spare.hold_again(&rt);
+    let refused_again = timed_stream::connect(&rt, path.as_str()).is_err();
+    let second = spare.connect(&rt, path.as_str()).is_ok();
+    drop(taken);
+    fs::remove_file(&rt, path.as_str())?;
+    assert_eq!(rt; [refused, first, refused_again, second], [true; 4]);
     Ok(())
 }
 

@@ -18,8 +18,8 @@ use wl_edge::{
     Ready, Received, Sent, TrySent, Upstream,
 };
 use wl_edge_real::{
-    BindFault, DialedLink, Guard, RealBell, RealClock, RealGate, RealLink, RealListener, RealReady,
-    RealUpstream, Stop, bind, bind_all,
+    BindFault, DialedLink, Guard, MAX_OPEN_LINKS, OpenLinks, RealBell, RealClock, RealGate,
+    RealLink, RealListener, RealReady, RealUpstream, Stop, bind,
 };
 use wl_octets::{Octets, Row};
 use wl_selector::{Selector, Selectors};
@@ -46,7 +46,7 @@ pub(crate) fn accepted(listener: &mut RealListener) -> Result<RealLink, Fail>
 }
 
 /// The next link of a listener to which a peer has connected.
-fn next_link(listener: &mut RealListener) -> Result<RealLink, Fail> {
+pub(crate) fn next_link(listener: &mut RealListener) -> Result<RealLink, Fail> {
     match listener.accept() {
         Accepted::Link(link) => Ok(link),
         _ => Err("no link")?,
@@ -54,26 +54,50 @@ fn next_link(listener: &mut RealListener) -> Result<RealLink, Fail> {
 }
 
 /// Read and write for the process's own user.
-const OWN: Guard = Guard {
+pub(crate) const OWN: Guard = Guard {
     owner: None,
     group: None,
     mode: 0o600,
 };
 
+/// A listener at no socket.
+pub(crate) fn nowhere<R: AllocGlobal + Net>(rt: &R) -> Result<RealListener, Fail>
+    ensures { IfOk result (λ l. ⟦<RealListener as Listener>⟧.told l ≡ Some (record { kinds = []; finished = [] })) }
+{
+    let all = OpenLinks::share(rt.alloc(), MAX_OPEN_LINKS)?;
+    Ok(RealListener::start(rt, rt.alloc(), all)?)
+}
+
+/// Has a listener listen at this path, too.
+pub(crate) fn listen_at<R: AllocGlobal + Files + Net>(
+    rt: &R,
+    listener: &mut RealListener,
+    path: &str,
+    origin: Origin,
+    connections: u32,
+) -> Result<(), Fail>
+    ensures { ⟦<RealListener as Listener>⟧.told listener.new ≡ ⟦<RealListener as Listener>⟧.told listener.old }
+{
+    match bind(rt, rt.alloc(), path, OWN) {
+        Ok(socket) => Ok(listener.add(socket, origin, connections)?),
+        Err(_) => Err("bind")?,
+    }
+}
+
 /// A listener at this path.
 pub(crate) fn bound<R: AllocGlobal + Files + Net>(rt: &R, path: &str) -> Result<RealListener, Fail>
     ensures { IfOk result (λ l. ⟦<RealListener as Listener>⟧.told l ≡ Some (record { kinds = []; finished = [] })) }
 {
-    match bind(rt, rt.alloc(), path, OWN, Origin::nowhere(rt.alloc())?) {
-        Ok(listener) => Ok(listener),
-        Err(_) => Err("bind")?,
-    }
+    let mut listener = nowhere(rt)?;
+    let origin = Origin::nowhere(rt.alloc())?;
+    listen_at(rt, &mut listener, path, origin, u32::MAX)?;
+    Ok(listener)
 }
 
 /// Whether a file that isn't a socket stays.
 fn leaves_a_file<R: AllocGlobal + Files + Net>(rt: &R, path: &str) -> Result<bool, Fail> {
     fs::write(rt, path, "abc")?;
-    let refused = bind(rt, rt.alloc(), path, OWN, Origin::nowhere(rt.alloc())?).err();
+    let refused = bind(rt, rt.alloc(), path, OWN).err();
     let text = fs::read_to_string(rt, path)?;
     fs::remove_file(rt, path)?;
     Ok(refused == Some(BindFault::NotASocket) && text.as_str() == "abc")
@@ -81,11 +105,7 @@ fn leaves_a_file<R: AllocGlobal + Files + Net>(rt: &R, path: &str) -> Result<boo
 
 /// Whether nobody else can listen where one listens.
 fn is_taken<R: Files + Net>(rt: &R, alloc: Global, path: &str) -> Result<bool, Fail> {
-    let paths = [String::from_str(alloc, path)?];
-    let origin = Origin::nowhere(alloc)?;
-    let all = bind_all(rt, alloc, &paths, OWN, &origin).err();
-    let one = bind(rt, alloc, path, OWN, origin).err();
-    Ok(all == Some((0, BindFault::Taken)) && one == Some(BindFault::Taken))
+    Ok(bind(rt, alloc, path, OWN).err() == Some(BindFault::Taken))
 }
 
 #[test]
@@ -120,8 +140,7 @@ fn a_socket_has_its_mode(rt: HostRuntime) -> Result<(), Fail> {
     let path = format!(in rt.alloc(); "{folder}/w.sock")?;
     for mode in [0o600, 0o666, 0o777, 0o660, 0] {
         let guard = Guard { mode, ..OWN };
-        let origin = Origin::nowhere(rt.alloc())?;
-        let listener = bind(&rt, rt.alloc(), path.as_str(), guard, origin).map_err(|_| "bind")?;
+        let listener = bind(&rt, rt.alloc(), path.as_str(), guard).map_err(|_| "bind")?;
         assert!(rt;
             stands_alone(&rt, folder.as_str(), path.as_str(), mode)?,
             "{mode}"
@@ -188,7 +207,7 @@ fn a_finished_link_gives_its_peer_the_end(rt: HostRuntime) -> Result<(), Fail> {
 }
 
 /// Sends until the link takes no more for now: its last answer.
-fn fill(link: &mut RealLink) -> TrySent {
+pub(crate) fn fill(link: &mut RealLink) -> TrySent {
     let piece = [1; 65_536];
     let mut last = TrySent::Failed;
     for _ in 0..1_000 {
@@ -221,14 +240,17 @@ fn one_selector(alloc: Global) -> Result<Selectors, Fail> {
 }
 
 /// The numbers that the next wait appends.
-fn told(alloc: Global, ready: &mut RealReady) -> Result<Row<u32>, Fail> {
+pub(crate) fn told(alloc: Global, ready: &mut RealReady<HostRuntime>) -> Result<Row<u32>, Fail> {
     let mut numbers = Row::empty(alloc);
     ready.wait(&mut numbers).map_err(|_| "wait")?;
     Ok(numbers)
 }
 
 /// The numbers that the first wait appends that appends any, within ten of them.
-fn next_told(alloc: Global, ready: &mut RealReady) -> Result<Row<u32>, Fail> {
+pub(crate) fn next_told(
+    alloc: Global,
+    ready: &mut RealReady<HostRuntime>,
+) -> Result<Row<u32>, Fail> {
     for _ in 0..9 {
         let numbers = told(alloc, ready)?;
         if numbers.len() > 0 {
@@ -243,8 +265,9 @@ fn a_watcher_tells_of_links_and_a_bell_of_all(rt: HostRuntime) -> Result<(), Fai
     let alloc = rt.alloc();
     let path = path_of(&rt, "ready")?;
     let origin = Origin::new(alloc, one_selector(alloc)?, 7, None)?;
-    let mut listener = bind(&rt, alloc, path.as_str(), OWN, origin.share()?).map_err(|_| "bind")?;
-    let (mut ready, bell) = RealReady::start(&rt, alloc, &mut listener)?;
+    let mut listener = nowhere(&rt)?;
+    listen_at(&rt, &mut listener, path.as_str(), origin.share()?, 3)?;
+    let (mut ready, bell) = RealReady::start(&rt, alloc, &listener, None)?;
     let mut peers = Vec::new(alloc);
     let mut links = Vec::new(alloc);
     for number in 3..6 {
@@ -293,7 +316,7 @@ fn a_watcher_tells_of_links_and_a_bell_of_all(rt: HostRuntime) -> Result<(), Fai
 /// the end, and then the end; and of nothing else.
 fn tells_to_the_end(
     alloc: Global,
-    ready: &mut RealReady,
+    ready: &mut RealReady<HostRuntime>,
     link: &mut RealLink,
     mut peer: UnixStream,
 ) -> Result<bool, Fail> {
@@ -313,7 +336,7 @@ fn tells_to_the_end(
 fn a_watcher_tells_of_what_comes_and_of_the_end(rt: HostRuntime) -> Result<(), Fail> {
     let path = path_of(&rt, "end")?;
     let mut listener = bound(&rt, path.as_str())?;
-    let (mut ready, _bell) = RealReady::start(&rt, rt.alloc(), &mut listener)?;
+    let (mut ready, _bell) = RealReady::start(&rt, rt.alloc(), &listener, None)?;
     let peer = UnixStream::connect(&rt, path.as_str())?;
     let mut link = accepted(&mut listener)?;
     assert_eq!(rt; ready.add(7, &mut link), Ok(()));
@@ -327,7 +350,7 @@ fn a_watcher_tells_of_what_comes_and_of_the_end(rt: HostRuntime) -> Result<(), F
 fn a_watched_listener_gives_links_after_a_wait(rt: HostRuntime) -> Result<(), Fail> {
     let path = path_of(&rt, "arrival")?;
     let mut listener = bound(&rt, path.as_str())?;
-    let (mut ready, _bell) = RealReady::start(&rt, rt.alloc(), &mut listener)?;
+    let (mut ready, _bell) = RealReady::start(&rt, rt.alloc(), &listener, None)?;
     assert!(rt; matches!(listener.accept(), Accepted::Idle));
     let _peer = UnixStream::connect(&rt, path.as_str())?;
     assert!(rt; matches!(listener.accept(), Accepted::Idle));
@@ -353,7 +376,7 @@ fn read_away(peer: &mut UnixStream) -> Result<(), Fail> {
 /// then it is stalled no more.
 fn waits_for_its_peer(
     alloc: Global,
-    ready: &mut RealReady,
+    ready: &mut RealReady<HostRuntime>,
     link: &mut RealLink,
     peer: &mut UnixStream,
 ) -> Result<bool, Fail> {
@@ -375,7 +398,7 @@ fn waits_for_its_peer(
 fn a_watcher_tells_of_a_stalled_link_once_its_peer_reads(rt: HostRuntime) -> Result<(), Fail> {
     let path = path_of(&rt, "stalled")?;
     let mut listener = bound(&rt, path.as_str())?;
-    let (mut ready, _bell) = RealReady::start(&rt, rt.alloc(), &mut listener)?;
+    let (mut ready, _bell) = RealReady::start(&rt, rt.alloc(), &listener, None)?;
     let mut peer = UnixStream::connect(&rt, path.as_str())?;
     let mut link = accepted(&mut listener)?;
     assert_eq!(rt; ready.add(7, &mut link), Ok(()));
@@ -465,14 +488,14 @@ fn gives_what_came(link: &mut RealLink, peer: &mut UnixStream) -> bool {
 }
 
 /// How many links a wait lists.
-fn count_listed(alloc: Global, ready: &mut RealReady) -> usize {
+fn count_listed(alloc: Global, ready: &mut RealReady<HostRuntime>) -> usize {
     let mut numbers = Row::empty(alloc);
     let _ = ready.wait(&mut numbers);
     numbers.len()
 }
 
 /// Whether a wait lists no idle link, and lists it once a stop was asked for.
-fn lists_at_a_stop(alloc: Global, ready: &mut RealReady, stop: &Stop) -> bool {
+fn lists_at_a_stop(alloc: Global, ready: &mut RealReady<HostRuntime>, stop: &Stop) -> bool {
     let _ = count_listed(alloc, ready);
     let before = count_listed(alloc, ready);
     stop.ask();
@@ -495,7 +518,7 @@ fn after_a_stop_links_and_their_listener_end(rt: HostRuntime) -> Result<(), Fail
     let stop = Arc::new(alloc, Stop::start())?;
     let mut listener = bound(&rt, path.as_str())?;
     listener.obey(Arc::try_clone(&stop)?);
-    let (mut ready, bell) = RealReady::start(&rt, alloc, &mut listener)?;
+    let (mut ready, bell) = RealReady::start(&rt, alloc, &listener, None)?;
     let mut peer = UnixStream::connect(&rt, path.as_str())?;
     let mut link = next_link(&mut listener)?;
     let is_idle = ready.add(7, &mut link).is_ok() && link.receive(&mut [0; 4]) == Received::Idle;

@@ -1,0 +1,5 @@
+use Rattle.wl_edge_real.proofs.Longer.{begins_itself}
+use Rattle.wl_edge_real.proofs.watched.append.Goals as goal
+
+pub loop-number-init : goal.loop-number-init
+loop-number-init c = begins_itself _

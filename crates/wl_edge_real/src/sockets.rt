@@ -1,0 +1,408 @@
+//! The sockets of a listener, under one poll.
+
+ghost use Rattle.std.specs.Prelude.{◌≡◌, ◌++◌, ◌∷◌, [], map, Contains, IfOk, IfSome, OnOk, OnErr};
+ghost use Rattle.wl_edge.specs.Links.{IsFresh};
+ghost use Rattle.wl_edge_real.specs.Places.{socket_of};
+
+use crate::arrivals::Arrivals;
+use crate::link::{Held, RealLink};
+use crate::open_links::OpenLinks;
+use crate::replacements::{MOST_WAITING, Replacement, Replacements};
+use crate::stop::{Stop, share_stop};
+use mio::unix::SourceFd;
+use mio::{Events, Interest, Poll, Registry, Token};
+use std::alloc::Global;
+use std::collections::VecDeque;
+use std::io;
+use std::io::ErrorKind;
+use std::net::Net;
+use std::os::fd::{AsRawFd, RawFd};
+use std::os::unix::net::UnixListener;
+use std::sync::Arc;
+use std::sync::atomic::{AtomicBool, Ordering};
+use std::time::Duration;
+use wl_edge::{Link, Origin};
+
+/// There is no memory (the number of errno(3) on Linux).
+pub(crate) const ENOMEM: i32 = 12;
+
+/// How many events a look lists at most; others are left for the next one.
+const EVENTS: usize = 256;
+
+/// How many sockets an accept tries at most.
+const TRIES: u32 = 1_024;
+
+/// Out of memory, as an error of the system.
+pub(crate) fn no_memory<E: Drop>(_cause: E) -> io::Error {
+    io::Error::from_raw_os_error(ENOMEM)
+}
+
+/// Why a socket gave no link.
+#[derive(Drop)]
+pub(crate) enum Missed {
+    /// No peer waits there.
+    Nobody,
+    /// Another may wait: the system was interrupted, the peer was gone, or was closed since too many links are open.
+    Again,
+    /// As many of its links are open as may be.
+    Full,
+    /// The operating system refused.
+    Failed(io::Error),
+}
+
+impl From<io::Error> for Missed {
+    fn from(error: io::Error) -> Missed {
+        match error.kind() {
+            ErrorKind::WouldBlock => Missed::Nobody,
+            ErrorKind::Interrupted | ErrorKind::ConnectionAborted => Missed::Again,
+            _ => Missed::Failed(error),
+        }
+    }
+}
+
+/// One of the sockets.
+#[derive(Drop)]
+pub(crate) struct Place {
+    /// Its place in the list, from 0.
+    at: u32,
+    /// From where its links come.
+    pub(crate) origin: Origin,
+    /// Its links that are open.
+    open: Arc<OpenLinks>,
+    /// Whether it stands in the list of those that are due.
+    is_due: AtomicBool,
+    /// Whether peers may wait until one of its links ends.
+    is_full: AtomicBool,
+}
+
+impl Place {
+    /// The next connection of its socket, one of these, as a link.
+    fn next_link(
+        &self,
+        doors: &[UnixListener],
+        all: &Arc<OpenLinks>,
+        stop: &Option<Arc<Stop>>,
+    ) -> Result<RealLink, Missed>
+        ensures origin { IfOk result (λ l. ⟦<RealLink as Link>⟧.origin l ≡ self.now.origin) }
+        ensures fresh { IfOk result (λ l. IsFresh (⟦<RealLink as Link>⟧.told l) (⟦<RealLink as Link>⟧.failed_receives l)
+            (⟦<RealLink as Link>⟧.failed_sends l) (⟦<RealLink as Link>⟧.stalls l)) }
+    {
+        let Some(door) = doors.get(self.at as usize) else {
+            return Err(Missed::Nobody);
+        };
+        let Some(of_socket) = OpenLinks::enter(&self.open) else {
+            return Err(Missed::Full);
+        };
+        let origin = self.origin.share().map_err(no_memory)?;
+        let stop = share_stop(stop)?;
+        let (stream, _) = door.accept()?;
+        let Some(of_all) = OpenLinks::enter(all) else {
+            all.note_refused();
+            return Err(Missed::Again);
+        };
+        let mut link = RealLink::start(origin, stream)?;
+        link.obey(stop);
+        link.hold(Held {
+            at: self.at,
+            of_socket,
+            of_all,
+        });
+        Ok(link)
+    }
+
+    /// Notes that the socket is due, and says whether it was not.
+    fn become_due(&self) -> bool {
+        !self.is_due.swap(true, Ordering::SeqCst)
+    }
+
+    /// Notes what an accept found, and says whether the socket stays due.
+    fn stays_due(&self, found: &Result<RealLink, Missed>) -> bool {
+        let is_full = matches!(found, Err(Missed::Full));
+        let stays = !is_full && !matches!(found, Err(Missed::Nobody));
+        self.is_due.store(stays, Ordering::SeqCst);
+        if is_full {
+            self.is_full.store(true, Ordering::SeqCst);
+        }
+        stays
+    }
+}
+
+/// Sockets under a poll of their own, whose descriptor is readable while one of them has a peer of whom it has not heard.
+#[derive(Drop)]
+pub(crate) struct Sockets {
+    alloc: Global,
+    poll: Poll,
+    events: Events<Global>,
+    pub(crate) places: Vec<Place>,
+    /// The sockets themselves, in the same order: one may take the place of another.
+    doors: Vec<UnixListener>,
+    /// Those that are to take the places of others.
+    replacements: Arc<Replacements>,
+    /// The places of those that may have a peer and room for it, each once, in turn.
+    due: VecDeque<u32>,
+    /// The number of the socket that was tried last.
+    tried: u32,
+    /// Shared with one who watches them.
+    arrivals: Arc<Arrivals>,
+}
+
+/// Notes that the socket of this token is due.
+fn note_due(places: &[Place], due: &mut VecDeque<u32>, token: Token) {
+    let Token(at) = token;
+    if let Some(place) = places.get(at)
+        && place.become_due()
+    {
+        // There is room for each place.
+        let _ = due.push_back(place.at);
+    }
+}
+
+/// Notes which sockets are due after these events.
+fn note_all(events: &Events<Global>, places: &[Place], due: &mut VecDeque<u32>) {
+    for event in events.iter() {
+        note_due(places, due, event.token());
+    }
+}
+
+/// The next connection at this place as a link.
+fn link_at(
+    places: &[Place],
+    doors: &[UnixListener],
+    at: u32,
+    all: &Arc<OpenLinks>,
+    stop: &Option<Arc<Stop>>,
+) -> Result<RealLink, Missed>
+    ensures origin { IfOk result (λ l. Contains (map (λ p. socket_of p.origin) places.now)
+        (socket_of (⟦<RealLink as Link>⟧.origin l))) }
+    ensures fresh { IfOk result (λ l. IsFresh (⟦<RealLink as Link>⟧.told l) (⟦<RealLink as Link>⟧.failed_receives l)
+        (⟦<RealLink as Link>⟧.failed_sends l) (⟦<RealLink as Link>⟧.stalls l)) }
+{
+    match places.get(at as usize) {
+        Some(place) => place.next_link(doors, all, stop),
+        None => Err(Missed::Nobody),
+    }
+}
+
+/// Notes what an accept found at this place, and says whether it stays due.
+fn stays_due_at(places: &[Place], at: u32, found: &Result<RealLink, Missed>) -> bool {
+    match places.get(at as usize) {
+        Some(place) => place.stays_due(found),
+        None => false,
+    }
+}
+
+/// Has the poll report the peers of the socket at this place.
+fn register(registry: &Registry, socket: RawFd, at: u32) -> io::Result<()> {
+    let token = Token(at as usize);
+    registry.register(&mut SourceFd(&socket), token, Interest::READABLE)
+}
+
+/// The number of the socket at this place.
+fn number_at(places: &[Place], at: u32) -> u32 {
+    match places.get(at as usize) {
+        Some(place) => place.origin.socket,
+        None => 0,
+    }
+}
+
+impl Sockets {
+    /// No sockets yet.
+    pub(crate) fn start(rt: &impl Net, alloc: Global) -> io::Result<Sockets>
+        ensures { IfOk result (λ s. s.places.items ≡ []) }
+    {
+        let arrivals = Arc::new(alloc, Arrivals::start()).map_err(no_memory)?;
+        let shared = Arc::try_clone(&arrivals).map_err(no_memory)?;
+        let replacements = Replacements::start(alloc, shared);
+        Ok(Sockets {
+            alloc,
+            poll: Poll::new(rt)?,
+            events: Events::with_capacity(alloc, EVENTS).map_err(no_memory)?,
+            places: Vec::new(alloc),
+            doors: Vec::new(alloc),
+            replacements: Arc::new(alloc, replacements).map_err(no_memory)?,
+            due: VecDeque::new(alloc),
+            tried: 0,
+            arrivals,
+        })
+    }
+
+    /// What one who waits for peers watches.
+    pub(crate) fn descriptor(&self) -> RawFd {
+        self.poll.as_raw_fd()
+    }
+
+    /// What one who watches them shares.
+    pub(crate) fn share_arrivals(&self) -> io::Result<Arc<Arrivals>> {
+        Arc::try_clone(&self.arrivals).map_err(no_memory)
+    }
+
+    /// What one who replaces sockets shares.
+    pub(crate) fn share_replacements(&self) -> io::Result<Arc<Replacements>> {
+        Arc::try_clone(&self.replacements).map_err(no_memory)
+    }
+
+    /// Whether an accept may find a link.
+    pub(crate) fn may_have_arrivals(&self) -> bool {
+        !self.due.is_empty() || self.arrivals.are_there()
+    }
+
+    /// The number of the socket that was tried last, 0 at first.
+    pub(crate) fn tried(&self) -> u32 {
+        self.tried
+    }
+
+    /// One more socket, whose links have this origin. So many of them may be open at once.
+    pub(crate) fn add(
+        &mut self,
+        listener: UnixListener,
+        origin: Origin,
+        connections: u32,
+    ) -> io::Result<()>
+        ensures added { OnOk result (map (λ p. socket_of p.origin) self.new.places.items
+            ≡ map (λ p. socket_of p.origin) self.old.places.items ++ socket_of origin ∷ []) }
+        ensures kept { OnErr result (self.new.places.items ≡ self.old.places.items) }
+    {
+        listener.set_nonblocking(true)?;
+        let at = u32::try_from(self.places.len()).map_err(no_memory)?;
+        self.due
+            .reserve(self.places.len().saturating_add(1))
+            .map_err(no_memory)?;
+        self.doors.reserve(1).map_err(no_memory)?;
+        let open = OpenLinks::share(self.alloc, connections).map_err(no_memory)?;
+        let place = Place {
+            at,
+            origin,
+            open,
+            is_due: AtomicBool::new(false),
+            is_full: AtomicBool::new(false),
+        };
+        register(self.poll.registry(), listener.as_raw_fd(), at)?;
+        // A socket for which there is no memory is closed, and so leaves the poll.
+        self.places.push(place).map_err(no_memory)?;
+        // There is room for it.
+        let _ = self.doors.push(listener);
+        Ok(())
+    }
+
+    /// Puts a socket in the place of another. If the system refuses that, the other stays.
+    fn replace(&mut self, replacement: Replacement) -> io::Result<()>
+        ensures { self.new.places ≡ self.old.places }
+    {
+        let Replacement { place, listener } = replacement;
+        let Some(door) = self.doors.get_mut(place as usize) else {
+            return Err(io::Error::from(ErrorKind::NotFound));
+        };
+        listener.set_nonblocking(true)?;
+        register(self.poll.registry(), listener.as_raw_fd(), place)?;
+        // The other leaves the poll as it is closed.
+        *door = listener;
+        self.arrivals.note();
+        Ok(())
+    }
+
+    /// Puts the sockets that wait for it in the places of others. So many were refused.
+    pub(crate) fn replace_all(&mut self) -> u64
+        ensures { self.new.places ≡ self.old.places }
+    {
+        let mut refused: u64 = 0;
+        for _ in 0..MOST_WAITING {
+            let Some(replacement) = self.replacements.take() else {
+                break;
+            };
+            if self.replace(replacement).is_err() {
+                refused = refused.saturating_add(1);
+            }
+        }
+        if refused > 0 {
+            self.arrivals.hurry();
+        }
+        refused
+    }
+
+    /// Notes which sockets have peers.
+    fn look(&mut self) -> io::Result<()>
+        ensures { self.new.places ≡ self.old.places }
+    {
+        self.poll.poll(&mut self.events, Some(Duration::ZERO))?;
+        if self.events.is_empty() {
+            self.arrivals.note_none();
+        }
+        note_all(&self.events, self.places.as_slice(), &mut self.due);
+        Ok(())
+    }
+
+    /// The place of the next socket that is due. None where a look lists none.
+    fn next_due(&mut self) -> io::Result<Option<u32>>
+        ensures { self.new.places ≡ self.old.places }
+    {
+        if self.arrivals.are_there() {
+            self.look()?;
+        }
+        Ok(self.due.pop_front())
+    }
+
+    /// The next connection at this place, which is due from now on only where another peer may wait.
+    fn accept_at(
+        &mut self,
+        at: u32,
+        all: &Arc<OpenLinks>,
+        stop: &Option<Arc<Stop>>,
+    ) -> Result<RealLink, Missed>
+        ensures places { self.new.places ≡ self.old.places }
+        ensures origin { IfOk result (λ l. Contains (map (λ p. socket_of p.origin) self.old.places.items)
+            (socket_of (⟦<RealLink as Link>⟧.origin l))) }
+        ensures fresh { IfOk result (λ l. IsFresh (⟦<RealLink as Link>⟧.told l) (⟦<RealLink as Link>⟧.failed_receives l)
+            (⟦<RealLink as Link>⟧.failed_sends l) (⟦<RealLink as Link>⟧.stalls l)) }
+    {
+        self.tried = number_at(self.places.as_slice(), at);
+        let found = link_at(self.places.as_slice(), self.doors.as_slice(), at, all, stop);
+        if stays_due_at(self.places.as_slice(), at, &found) {
+            // There is room for each place.
+            let _ = self.due.push_back(at);
+        }
+        found
+    }
+
+    /// The next connection as a link, from the sockets in turn. None where there is none, or none for which there is room.
+    pub(crate) fn accept(
+        &mut self,
+        all: &Arc<OpenLinks>,
+        stop: &Option<Arc<Stop>>,
+    ) -> io::Result<Option<RealLink>>
+        ensures places { self.new.places ≡ self.old.places }
+        ensures origin { IfOk result (λ o. IfSome o (λ l. Contains (map (λ p. socket_of p.origin) self.old.places.items)
+            (socket_of (⟦<RealLink as Link>⟧.origin l)))) }
+        ensures fresh { IfOk result (λ o. IfSome o (λ l. IsFresh (⟦<RealLink as Link>⟧.told l)
+            (⟦<RealLink as Link>⟧.failed_receives l) (⟦<RealLink as Link>⟧.failed_sends l) (⟦<RealLink as Link>⟧.stalls l))) }
+    {
+        for _ in 0..TRIES {
+            let Some(at) = self.next_due()? else {
+                return Ok(None);
+            };
+            match self.accept_at(at, all, stop) {
+                Ok(link) => return Ok(Some(link)),
+                Err(Missed::Failed(error)) => return Err(error),
+                Err(_) => {}
+            }
+        }
+        // The others are tried after a wait, which finds what else is to be done.
+        self.arrivals.hurry();
+        Ok(None)
+    }
+
+    /// Notes that a link of the socket at this place has ended: it is due where peers may wait for that.
+    pub(crate) fn make_room(&mut self, at: u32)
+        ensures { self.new.places ≡ self.old.places }
+    {
+        if let Some(place) = self.places.as_slice().get(at as usize)
+            && place.is_full.swap(false, Ordering::SeqCst)
+            && place.become_due()
+        {
+            // There is room for each place.
+            let _ = self.due.push_back(at);
+        }
+        if self.may_have_arrivals() {
+            self.arrivals.hurry();
+        }
+    }
+}
