@@ -386,4 +386,14 @@ impl Conn {
     {
         totals(&self.phase).messages_started
     }
+
+    /// How many bytes it holds that are still to be written: queued control frames and GOAWAY, and the messages of its
+    /// streams. One that several streams share counts for each. It takes no memory.
+    pub fn held(&self) -> usize {
+        match &self.phase {
+            Phase::Open(state) => state.outbox.held(),
+            Phase::Failed { left, .. } => left.len(),
+            Phase::OutOfMemory(_) => 0,
+        }
+    }
 }

@@ -309,6 +309,16 @@ impl Outbox {
         self.failed = false;
         Ok(())
     }
+
+    /// How many bytes it holds: the queued control frames, and the messages of its streams. One that several streams
+    /// share counts for each. It takes no memory.
+    pub fn held(&self) -> usize {
+        let mut held = self.control.len();
+        for stream in self.streams.as_slice() {
+            held = held.saturating_add(stream.held());
+        }
+        held
+    }
 }
 
 /// Whether a stream's window would pass the largest with this initial window.

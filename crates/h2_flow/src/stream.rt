@@ -75,6 +75,15 @@ impl Stream {
         self.trailers = Some(block);
         self.finished = true;
     }
+
+    /// How many bytes its messages hold, those that others share too.
+    pub fn held(&self) -> usize {
+        let waiting = match &self.waiting {
+            Some(message) => message.len(),
+            None => 0,
+        };
+        self.last.len().saturating_add(waiting)
+    }
 }
 
 /// What is left of the message that began last.

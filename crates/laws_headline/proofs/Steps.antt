@@ -80,9 +80,9 @@ left t svids (e ∷ es) all = (sym (found_kept (λ (v : Svid). bytes_eq (svid_ke
 
 pub foreign_syncs : ForeignSyncs
 unfolding with_entries
-foreign_syncs selectors strict p in_flight last d is same =
+foreign_syncs selectors strict p renew in_flight last d is same =
     let own = own_entries selectors p.entries in
-    publishes selectors (with_entries d.entries d.bundles (stored_of strict p in_flight last).store) (stored_of strict p in_flight last) (record {
+    publishes selectors (with_entries d.entries d.bundles d.renew_before (stored_of strict p renew in_flight last).store) (stored_of strict p renew in_flight last) (record {
       entries = same.entries;
       svids = left (λ (v : Svid). is_listed (asks_of d.entries) v.ask) p.svids own
           (all_such (λ (e : Entry). IsAmong own e × IfSome (item_at svid_key p.svids e.id) (λ v. is_ask_of e v.ask ≡ true)) (λ (e : Entry). IfSome (item_at svid_key p.svids e.id) (λ v. is_listed (asks_of d.entries) v.ask ≡ true)) own
@@ -95,8 +95,8 @@ foreign_syncs selectors strict p in_flight last d is same =
 
 pub foreign_claims : ForeignClaims
 unfolding after_claim
-foreign_claims selectors strict p in_flight last now own =
-    publishes selectors (after_claim now (stored_of strict p in_flight last).store) (stored_of strict p in_flight last) (record {
+foreign_claims selectors strict p renew in_flight last now own =
+    publishes selectors (after_claim now (stored_of strict p renew in_flight last).store) (stored_of strict p renew in_flight last) (record {
       entries = refl;
       svids = left (lasts now) p.svids (own_entries selectors p.entries) own;
       bundles = refl;
@@ -121,14 +121,14 @@ others_stay v svids i (e ∷ es) none = (put_after v svids e.id i none.0, others
 
 pub foreign_signings : ForeignSignings
 unfolding after_signed
-foreign_signings selectors strict p in_flight last now ticket ask signed none =
-    publishes selectors (after_signed now ticket ask signed (stored_of strict p in_flight last).store) (stored_of strict p in_flight last) (record {
+foreign_signings selectors strict p renew in_flight last now ticket ask signed none =
+    publishes selectors (after_signed now ticket ask signed (stored_of strict p renew in_flight last).store) (stored_of strict p renew in_flight last) (record {
       entries = refl;
-      svids = others_stay (record { ask = ask; signed = signed }) p.svids (install now ask signed (stored_of strict p in_flight last).store) (own_entries selectors p.entries) none;
+      svids = others_stay (record { ask = ask; signed = signed }) p.svids (install now ask signed (stored_of strict p renew in_flight last).store) (own_entries selectors p.entries) none;
       bundles = refl;
     })
 
 -- ---- a failure
 
 pub foreign_failures : ForeignFailures
-foreign_failures selectors strict p in_flight last ticket = record { domain = refl; entries = refl; svids = svids_same p.svids (own_entries selectors p.entries); bundles = refl }
+foreign_failures selectors strict p renew in_flight last ticket = record { domain = refl; entries = refl; svids = svids_same p.svids (own_entries selectors p.entries); bundles = refl }

@@ -57,9 +57,9 @@ pub record HasSameOwn (selectors : List (List ℕ)) (p : Publication) (d : State
 
 abbrev pub ForeignSyncs : Type 0
 ForeignSyncs =
-    (selectors : List (List ℕ)) (strict : Bool) (p : Publication) (in_flight : List Flight) (last : ℕ) (d : State)
+    (selectors : List (List ℕ)) (strict : Bool) (p : Publication) (renew_before : ℕ) (in_flight : List Flight) (last : ℕ) (d : State)
     → IsPublication p → HasSameOwn selectors p d
-    → PublishesNothingNew selectors p (stored_after (after_sync d (stored_of strict p in_flight last)) (stored_of strict p in_flight last))
+    → PublishesNothingNew selectors p (stored_after (after_sync d (stored_of strict p renew_before in_flight last)) (stored_of strict p renew_before in_flight last))
 
 -- the SVIDs of these entries have not ended at this time
 abbrev pub OwnLast : ℕ → Publication → List Entry → Type 0
@@ -68,9 +68,9 @@ OwnLast now p entries = AllByRecursion (λ (e : Entry). IfSome (item_at svid_key
 -- A claim at any time at which none of its own SVIDs has ended, whatever foreign ones end and are asked for then.
 abbrev pub ForeignClaims : Type 0
 ForeignClaims =
-    (selectors : List (List ℕ)) (strict : Bool) (p : Publication) (in_flight : List Flight) (last now : ℕ)
+    (selectors : List (List ℕ)) (strict : Bool) (p : Publication) (renew_before : ℕ) (in_flight : List Flight) (last now : ℕ)
     → OwnLast now p (own_entries selectors p.entries)
-    → PublishesNothingNew selectors p (stored_after (after_claim now (stored_of strict p in_flight last).store) (stored_of strict p in_flight last))
+    → PublishesNothingNew selectors p (stored_after (after_claim now (stored_of strict p renew_before in_flight last).store) (stored_of strict p renew_before in_flight last))
 
 -- none of these entries has this id
 abbrev pub NoneHas : List ℕ → List Entry → Type 0
@@ -79,12 +79,12 @@ NoneHas id entries = AllByRecursion (λ (e : Entry). bytes_eq id e.id ≡ false)
 -- an identity for a foreign entry, whether or not it is fit
 abbrev pub ForeignSignings : Type 0
 ForeignSignings =
-    (selectors : List (List ℕ)) (strict : Bool) (p : Publication) (in_flight : List Flight) (last now ticket : ℕ) (ask : Ask) (signed : Signed)
+    (selectors : List (List ℕ)) (strict : Bool) (p : Publication) (renew_before : ℕ) (in_flight : List Flight) (last now ticket : ℕ) (ask : Ask) (signed : Signed)
     → NoneHas ask.entry_id (own_entries selectors p.entries)
-    → PublishesNothingNew selectors p (stored_after (after_signed now ticket ask signed (stored_of strict p in_flight last).store) (stored_of strict p in_flight last))
+    → PublishesNothingNew selectors p (stored_after (after_signed now ticket ask signed (stored_of strict p renew_before in_flight last).store) (stored_of strict p renew_before in_flight last))
 
 -- an ask that failed
 abbrev pub ForeignFailures : Type 0
 ForeignFailures =
-    (selectors : List (List ℕ)) (strict : Bool) (p : Publication) (in_flight : List Flight) (last ticket : ℕ)
-    → PublishesNothingNew selectors p (after_failed ticket (stored_of strict p in_flight last))
+    (selectors : List (List ℕ)) (strict : Bool) (p : Publication) (renew_before : ℕ) (in_flight : List Flight) (last ticket : ℕ)
+    → PublishesNothingNew selectors p (after_failed ticket (stored_of strict p renew_before in_flight last))

@@ -19,6 +19,7 @@ use Rattle.wl_core.specs.declared.lines.Line.{Line}
 use Rattle.wl_core.specs.declared.seats.Seat.{Seat}
 use Rattle.wl_core.specs.Counts.{counted}
 use Rattle.wl_core.specs.Seats.{begun_at, seat_at, joined_seat, named_seat, feed_seat, turn_seat, IsReady}
+use Rattle.wl_core.specs.Tokens.{tokens_of}
 use Rattle.wl_core.specs.Moments.{Moment, moment_after, after_document, history_after_document, after_identity, after_no_identity, flight_in, with_told, token_seat, ask_of_seat, history_answered}
 use Rattle.wl_core.specs.Lines.{lines_at, document_lines, claim_lines, identity_lines, no_identity_lines, join_lines, name_lines, told_lines, token_lines, close_lines}
 use Rattle.wl_core.specs.Worlds.{Holds, Steps, WorldState, StandsFor, WorksOn}
@@ -122,8 +123,8 @@ turn_steps conn old seats others begun lines m h set said =
 pub token_steps : (conn now : ℕ) (given : Option JwtToken) (old new : Managed) (seats others : List (Option Seat)) (begun : ℕ) (lines : List Line) (m : Moment) → Holds old seats begun m
     → new.stored ≡ old.stored
     → ((history : List CachedToken) → rings.StandsFor old.tokens history → rings.StandsFor new.tokens (history_answered (ask_of_seat (seat_at seats conn)) old.stored now given history))
-    → ((history : List CachedToken) → rings.StandsFor old.tokens history → others ≡ with_told conn (token_seat history now given) seats)
-    → ((history : List CachedToken) → rings.StandsFor old.tokens history → lines ≡ token_lines conn (token_seat history now given) (seat_at seats conn))
+    → ((history : List CachedToken) → rings.StandsFor old.tokens history → others ≡ with_told conn (token_seat (tokens_of old.stored history) now given) seats)
+    → ((history : List CachedToken) → rings.StandsFor old.tokens history → lines ≡ token_lines conn (token_seat (tokens_of old.stored history) now given) (seat_at seats conn))
     → Steps (events.Token conn now given) new others begun lines m
 unfolding moment_after lines_at
 token_steps conn now given old new seats others begun lines m h stored history set said =
@@ -132,10 +133,10 @@ token_steps conn now given old new seats others begun lines m h stored history s
         stored = stored ∙ h.stored;
         tokens = subst (λ (s : Stored). rings.StandsFor new.tokens (history_answered (ask_of_seat (seat_at m.seats conn)) s now given m.history)) h.stored
             (subst (λ (x : List (Option Seat)). rings.StandsFor new.tokens (history_answered (ask_of_seat (seat_at x conn)) old.stored now given m.history)) h.seats (history m.history h.tokens));
-        seats = set m.history h.tokens ∙ ap (with_told conn (token_seat m.history now given)) h.seats;
+        seats = set m.history h.tokens ∙ (λ i. with_told conn (token_seat (tokens_of (h.stored i) m.history) now given) (h.seats i));
         begun_before = h.begun_before;
       };
-      lines = said m.history h.tokens ∙ ap (λ (s : List (Option Seat)). token_lines conn (token_seat m.history now given) (seat_at s conn)) h.seats;
+      lines = said m.history h.tokens ∙ (λ i. token_lines conn (token_seat (tokens_of (h.stored i) m.history) now given) (seat_at (h.seats i) conn));
     }
 
 counted_more : (begun count more later : ℕ) → begun ≡ counted count → later ≡ counted (begun + more) → later ≡ counted (count + more)

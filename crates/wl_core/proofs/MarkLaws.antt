@@ -29,7 +29,7 @@ use Rattle.wl_core.specs.declared.marks.Mark.{Mark}
 use Rattle.wl_core.specs.declared.seats.Seat.{Seat}
 use Rattle.wl_core.specs.Events.{IsWithin}
 use Rattle.wl_core.specs.Seats.{seat_at, joined_seat, named_seat, told_seat, feed_seat, turn_seat, with_session}
-use Rattle.wl_core.specs.Tokens.{kept_token, outcome_of}
+use Rattle.wl_core.specs.Tokens.{KeptTokens, tokens_of, kept_token, outcome_of}
 use Rattle.wl_core.specs.Moments.{Moment, reading_of, after_reading, signed_with, failed_with, flight_in, answer_ask, token_seat, moment_after}
 use Rattle.wl_core.specs.Worlds.{Holds, WorksOn}
 use Rattle.wl_core.specs.Marks.{Marked, no_mark, mark_at, none_marked, with_number, with_caller, marked_as, without_members, without_callers, marked_by, marked_after, noted_join, noted_caller, noted_name, noted, IsTurnMarked, IsMember, IsSubscribed, IsCaller, IsFollowed, IsFollowedAt, AreOwned, Follows, IsShownAt, IsTurnShown}
@@ -453,21 +453,21 @@ turned_shown_at : (p : Publication) (o : Option Seat) → IsShownAt p (told_seat
 turned_shown_at p None = tt
 turned_shown_at p (Some seat) = turned_shown p seat.session
 
-asked_followed : (p : Publication) (ms : Members) (mark : Mark) (history : List CachedToken) (now : ℕ) (given : Option JwtToken) (seat : Seat) (a : Option JwtAsk) → IsFollowed p ms mark seat
-    → IsFollowed p ms mark (with_session (answer_ask history now given seat a).after seat)
-asked_followed p ms mark history now given seat None f = f
-asked_followed p ms mark history now given seat (Some a) f =
-    let o = outcome_of (kept_token history a now) given now in
+asked_followed : (p : Publication) (ms : Members) (mark : Mark) (kept : KeptTokens) (now : ℕ) (given : Option JwtToken) (seat : Seat) (a : Option JwtAsk) → IsFollowed p ms mark seat
+    → IsFollowed p ms mark (with_session (answer_ask kept now given seat a).after seat)
+asked_followed p ms mark kept now given seat None f = f
+asked_followed p ms mark kept now given seat (Some a) f =
+    let o = outcome_of (kept_token kept a now) given now in
     record {
       caller = f.caller;
       calls = outcome_each (λ sel seen. IsSubscribed ms mark.ids sel) o seat.session f.calls;
       shown = λ is. outcome_shown p o seat.session (f.shown is);
     }
 
-token_followed : (p : Publication) (ms : Members) (mark : Mark) (history : List CachedToken) (now : ℕ) (given : Option JwtToken) (o : Option Seat) → IsFollowedAt p ms mark o
-    → IsFollowedAt p ms mark (told_seat (token_seat history now given) o)
-token_followed p ms mark history now given None f = tt
-token_followed p ms mark history now given (Some seat) f = asked_followed p ms mark history now given seat (asks_in seat.session) f
+token_followed : (p : Publication) (ms : Members) (mark : Mark) (kept : KeptTokens) (now : ℕ) (given : Option JwtToken) (o : Option Seat) → IsFollowedAt p ms mark o
+    → IsFollowedAt p ms mark (told_seat (token_seat kept now given) o)
+token_followed p ms mark kept now given None f = tt
+token_followed p ms mark kept now given (Some seat) f = asked_followed p ms mark kept now given seat (asks_in seat.session) f
 
 noted_follows : (e : Event) (m : Moment) (k : Marked) → IsWithin e → Follows m.stored.published k m.seats → Follows m.stored.published (noted e m.seats k) (moment_after e m).seats
 unfolding moment_after
@@ -489,7 +489,7 @@ noted_follows (events.Turn conn) m k within f =
 noted_follows (events.Token conn now given) m k within f =
     let p = m.stored.published in
     let o = seat_at m.seats conn in
-    seat_follows p k m.seats conn (told_seat (token_seat m.history now given) o) f (token_followed p k.subscribed.members (mark_at k.marks conn) m.history now given o (f.each conn))
+    seat_follows p k m.seats conn (told_seat (token_seat (tokens_of m.stored m.history) now given) o) f (token_followed p k.subscribed.members (mark_at k.marks conn) (tokens_of m.stored m.history) now given o (f.each conn))
 noted_follows (events.Close conn) m k within f =
     let p = m.stored.published in
     let f1 = seat_follows p k m.seats conn None f tt in

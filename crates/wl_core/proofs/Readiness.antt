@@ -40,7 +40,7 @@ use Rattle.wl_core.specs.declared.events.Event.TheVariants as events
 use Rattle.wl_core.specs.declared.seats.Seat.{Seat}
 use Rattle.wl_session.specs.Steps.{fed_by, feed_told, turn_told, outcome_told, unnamed_count, Told, HasMemory}
 use Rattle.wl_core.specs.Seats.{seat_at, joined_seat, named_seat, told_seat, feed_seat, turn_seat, with_session, IsReady, AreReady}
-use Rattle.wl_core.specs.Tokens.{kept_token, outcome_of}
+use Rattle.wl_core.specs.Tokens.{KeptTokens, tokens_of, kept_token, outcome_of}
 use Rattle.wl_core.specs.Moments.{Moment, reading_of, after_reading, signed_with, failed_with, flight_in, answer_ask, token_seat, moment_after}
 use Rattle.wl_core.specs.Worlds.{Holds, WorksOn}
 use Rattle.wl_session.proofs.Attestations.{first_here, first_later, first_of_none, left_among, none_left, left_none, names_leave_none}
@@ -210,10 +210,10 @@ told_ready : (p : Publication) (tell : Seat → Told) (o : Option Seat) → ((se
 told_ready p tell None keeps ready = tt
 told_ready p tell (Some seat) keeps ready = keeps seat ready
 
-ask_ready : (p : Publication) (history : List CachedToken) (now : ℕ) (given : Option JwtToken) (seat : Seat) (o : Option JwtAsk) → IsReady p (Some seat)
-    → IsReady p (Some (with_session (answer_ask history now given seat o).after seat))
-ask_ready p history now given seat None ready = ready
-ask_ready p history now given seat (Some a) ready = outcome_ready p (outcome_of (kept_token history a now) given now) seat.session ready
+ask_ready : (p : Publication) (kept : KeptTokens) (now : ℕ) (given : Option JwtToken) (seat : Seat) (o : Option JwtAsk) → IsReady p (Some seat)
+    → IsReady p (Some (with_session (answer_ask kept now given seat o).after seat))
+ask_ready p kept now given seat None ready = ready
+ask_ready p kept now given seat (Some a) ready = outcome_ready p (outcome_of (kept_token kept a now) given now) seat.session ready
 
 -- ---- an event
 
@@ -240,8 +240,8 @@ ready_after (events.Turn conn) m ready =
 ready_after (events.Token conn now given) m ready =
     let p = m.stored.published in
     let o = seat_at m.seats conn in
-    let tell = token_seat m.history now given in
-    set_ready p m.seats conn (told_seat tell o) ready (told_ready p tell o (λ seat is. ask_ready p m.history now given seat (asks_in seat.session) is) (ready conn))
+    let tell = token_seat (tokens_of m.stored m.history) now given in
+    set_ready p m.seats conn (told_seat tell o) ready (told_ready p tell o (λ seat is. ask_ready p (tokens_of m.stored m.history) now given seat (asks_in seat.session) is) (ready conn))
 ready_after (events.Close conn) m ready = set_ready m.stored.published m.seats conn None ready tt
 
 pub room_after : (e : Event) (m : Moment) → length (moment_after e m).seats ≡ length m.seats

@@ -14,7 +14,7 @@ use Rattle.wl_core.specs.declared.lines.Line.{Line}
 use Rattle.wl_core.specs.declared.seats.Seat.{Seat}
 use Rattle.wl_session.specs.Steps.{Told}
 use Rattle.wl_core.specs.Seats.{seat_at, joined_seat, named_seat, told_seat, feed_seat, turn_seat}
-use Rattle.wl_core.specs.Tokens.{kept_token, outcome_of}
+use Rattle.wl_core.specs.Tokens.{KeptTokens, tokens_of, kept_token, outcome_of}
 use Rattle.wl_core.specs.Moments.{Beginning, Moment, moment, moment_after, reading_of, after_document, flight_in, answer_ask, token_seat, with_told, seat}
 use Rattle.wl_store.specs.Stores.{after_claim, asks_to_claim, flights_from}
 use Rattle.wl_store.specs.Steps.{stored_after}
@@ -84,22 +84,22 @@ told_along conn k before tell more say seats tr false is within here none there 
 
 -- ---- a token
 
-ask_follows : (history : List CachedToken) (now : ℕ) (given : Option JwtToken) (caller : Option (List (List ℕ))) (e : SessionState) (o : Option JwtAsk) (items : List Item) → asks_in e ≡ o → Follows e items
-    → FollowsOn (answer_ask history now given (record { caller = caller; session = e }) o) items (ask_items history now given o)
-ask_follows history now given caller e None items is follows = stays e items follows
-ask_follows history now given caller (Running e t shown) (Some a) items is follows = outcome_follows (outcome_of (kept_token history a now) given now) e t shown items follows
-ask_follows history now given caller (Fallen fault begun) (Some a) items is follows = absurd (cc is)
-ask_follows history now given caller OutOfMemory (Some a) items is follows = absurd (cc is)
+ask_follows : (kept : KeptTokens) (now : ℕ) (given : Option JwtToken) (caller : Option (List (List ℕ))) (e : SessionState) (o : Option JwtAsk) (items : List Item) → asks_in e ≡ o → Follows e items
+    → FollowsOn (answer_ask kept now given (record { caller = caller; session = e }) o) items (ask_items kept now given o)
+ask_follows kept now given caller e None items is follows = stays e items follows
+ask_follows kept now given caller (Running e t shown) (Some a) items is follows = outcome_follows (outcome_of (kept_token kept a now) given now) e t shown items follows
+ask_follows kept now given caller (Fallen fault begun) (Some a) items is follows = absurd (cc is)
+ask_follows kept now given caller OutOfMemory (Some a) items is follows = absurd (cc is)
 
-ask_here : (conn : ℕ) (before : List ℕ) (k : ℕ) (history : List CachedToken) (now : ℕ) (given : Option JwtToken) (seat : Seat) (o : Option JwtAsk) → (k == conn) ≡ true
-    → told_from conn before (ask_lines k seat.session o (answer_ask history now given seat o)) ≡ before ++ (answer_ask history now given seat o).bytes
-ask_here conn before k history now given seat None is = idle_tell conn before k (failure_in seat.session) ∙ sym (append-nil before)
-ask_here conn before k history now given seat (Some a) is = session_here conn before k (answer_ask history now given seat (Some a)) is
+ask_here : (conn : ℕ) (before : List ℕ) (k : ℕ) (kept : KeptTokens) (now : ℕ) (given : Option JwtToken) (seat : Seat) (o : Option JwtAsk) → (k == conn) ≡ true
+    → told_from conn before (ask_lines k seat.session o (answer_ask kept now given seat o)) ≡ before ++ (answer_ask kept now given seat o).bytes
+ask_here conn before k kept now given seat None is = idle_tell conn before k (failure_in seat.session) ∙ sym (append-nil before)
+ask_here conn before k kept now given seat (Some a) is = session_here conn before k (answer_ask kept now given seat (Some a)) is
 
-ask_there : (conn : ℕ) (before : List ℕ) (k : ℕ) (history : List CachedToken) (now : ℕ) (given : Option JwtToken) (seat : Seat) (o : Option JwtAsk) → (k == conn) ≡ false
-    → told_from conn before (ask_lines k seat.session o (answer_ask history now given seat o)) ≡ before
-ask_there conn before k history now given seat None is = idle_tell conn before k (failure_in seat.session)
-ask_there conn before k history now given seat (Some a) is = session_elsewhere conn before k (answer_ask history now given seat (Some a)) is
+ask_there : (conn : ℕ) (before : List ℕ) (k : ℕ) (kept : KeptTokens) (now : ℕ) (given : Option JwtToken) (seat : Seat) (o : Option JwtAsk) → (k == conn) ≡ false
+    → told_from conn before (ask_lines k seat.session o (answer_ask kept now given seat o)) ≡ before
+ask_there conn before k kept now given seat None is = idle_tell conn before k (failure_in seat.session)
+ask_there conn before k kept now given seat (Some a) is = session_elsewhere conn before k (answer_ask kept now given seat (Some a)) is
 
 -- ---- Join, Name, Close
 
@@ -188,10 +188,10 @@ along_after (events.Turn k) conn m tr before within along =
     (λ is s. session_here conn before k (turn_seat p s) is) refl (λ is s. session_elsewhere conn before k (turn_seat p s) is)
     (λ s items follows. turn_follows p s.session items follows) along
 along_after (events.Token k now given) conn m tr before within along =
-    let tell = token_seat m.history now given in
-    told_along conn k before tell (λ s items. ask_items m.history now given (asks_in s.session)) (token_lines k tell) m.seats tr (k == conn) refl within
-    (λ is s. ask_here conn before k m.history now given s (asks_in s.session) is) refl (λ is s. ask_there conn before k m.history now given s (asks_in s.session) is)
-    (λ s items follows. ask_follows m.history now given s.caller s.session (asks_in s.session) items refl follows) along
+    let tell = token_seat (tokens_of m.stored m.history) now given in
+    told_along conn k before tell (λ s items. ask_items (tokens_of m.stored m.history) now given (asks_in s.session)) (token_lines k tell) m.seats tr (k == conn) refl within
+    (λ is s. ask_here conn before k (tokens_of m.stored m.history) now given s (asks_in s.session) is) refl (λ is s. ask_there conn before k (tokens_of m.stored m.history) now given s (asks_in s.session) is)
+    (λ s items follows. ask_follows (tokens_of m.stored m.history) now given s.caller s.session (asks_in s.session) items refl follows) along
 along_after (events.Close k) conn m tr before within along =
     telling (seat_at (slice_set m.seats k None) conn) (trace_after (events.Close k) conn m tr) before _ (close_tell conn before k (seat_at m.seats k))
     (close_along conn k before m.seats tr (k == conn) refl within along)

@@ -16,7 +16,7 @@ use Rattle.wl_session.specs.Sessions.{SessionState, failure_in}
 use Rattle.wl_core.specs.declared.lines.Line.{Line}
 use Rattle.wl_core.specs.declared.seats.Seat.{Seat}
 use Rattle.wl_session.specs.Steps.{Told, outcome_told}
-use Rattle.wl_core.specs.Tokens.{kept_token, outcome_by, outcome_of, history_by, history_after_token}
+use Rattle.wl_core.specs.Tokens.{KeptTokens, kept_token, outcome_by, outcome_of, history_by, history_after_token}
 use Rattle.wl_core.specs.Moments.{answer_ask, ask_of_seat, history_answered}
 use Rattle.wl_core.specs.Lines.{idle_lines, session_lines, ask_lines, token_lines}
 
@@ -51,8 +51,8 @@ history_found asks a now found other given tokens history is stands = subst (λ 
 
 -- ---- the first waiting ask
 
-pub none_told : (history : List CachedToken) (now : ℕ) (given : Option JwtToken) (seat : Seat) (o : Option JwtAsk) → None ≡ o → seat.session ≡ (answer_ask history now given seat o).after
-none_told history now given seat o is = ap (λ (x : Option JwtAsk). (answer_ask history now given seat x).after) is
+pub none_told : (kept : KeptTokens) (now : ℕ) (given : Option JwtToken) (seat : Seat) (o : Option JwtAsk) → None ≡ o → seat.session ≡ (answer_ask kept now given seat o).after
+none_told kept now given seat o is = ap (λ (x : Option JwtAsk). (answer_ask kept now given seat x).after) is
 
 pub none_said : (conn : ℕ) (s : SessionState) (o : Option JwtAsk) (told : Told) (said : List Line) → None ≡ o → said ≡ idle_lines conn (failure_in s) → said ≡ ask_lines conn s o told
 none_said conn s o told said is says = says ∙ ap (λ (x : Option JwtAsk). ask_lines conn s x told) is
@@ -61,17 +61,17 @@ pub answers_found : (o other : Option JwtAsk) (m : Stored) (now : ℕ) (given : 
     → rings.StandsFor tokens (history_answered other m now given history) → rings.StandsFor tokens (history_answered o m now given history)
 answers_found o other m now given tokens history is stands = subst (λ (x : Option JwtAsk). rings.StandsFor tokens (history_answered x m now given history)) is stands
 
-pub some_told : (history : List CachedToken) (now : ℕ) (given : Option JwtToken) (seat : Seat) (o : Option JwtAsk) (a : JwtAsk) (x : JwtOutcome) (s : SessionState) → Some a ≡ o
-    → x ≡ outcome_of (kept_token history a now) given now → s ≡ (outcome_told x seat.session).after → s ≡ (answer_ask history now given seat o).after
-some_told history now given seat o a x s is outcome told =
-    told ∙ (ap (λ (y : JwtOutcome). (outcome_told y seat.session).after) outcome ∙ ap (λ (y : Option JwtAsk). (answer_ask history now given seat y).after) is)
+pub some_told : (kept : KeptTokens) (now : ℕ) (given : Option JwtToken) (seat : Seat) (o : Option JwtAsk) (a : JwtAsk) (x : JwtOutcome) (s : SessionState) → Some a ≡ o
+    → x ≡ outcome_of (kept_token kept a now) given now → s ≡ (outcome_told x seat.session).after → s ≡ (answer_ask kept now given seat o).after
+some_told kept now given seat o a x s is outcome told =
+    told ∙ (ap (λ (y : JwtOutcome). (outcome_told y seat.session).after) outcome ∙ ap (λ (y : Option JwtAsk). (answer_ask kept now given seat y).after) is)
 
-pub some_said : (conn : ℕ) (history : List CachedToken) (now : ℕ) (given : Option JwtToken) (seat : Seat) (o : Option JwtAsk) (a : JwtAsk) (x : JwtOutcome) (said : List Line) → Some a ≡ o
-    → x ≡ outcome_of (kept_token history a now) given now → said ≡ session_lines conn (outcome_told x seat.session)
-    → said ≡ ask_lines conn seat.session o (answer_ask history now given seat o)
-some_said conn history now given seat o a x said is outcome says =
+pub some_said : (conn : ℕ) (kept : KeptTokens) (now : ℕ) (given : Option JwtToken) (seat : Seat) (o : Option JwtAsk) (a : JwtAsk) (x : JwtOutcome) (said : List Line) → Some a ≡ o
+    → x ≡ outcome_of (kept_token kept a now) given now → said ≡ session_lines conn (outcome_told x seat.session)
+    → said ≡ ask_lines conn seat.session o (answer_ask kept now given seat o)
+some_said conn kept now given seat o a x said is outcome says =
     says ∙ (ap (λ (y : JwtOutcome). session_lines conn (outcome_told y seat.session)) outcome
-    ∙ ap (λ (y : Option JwtAsk). ask_lines conn seat.session y (answer_ask history now given seat y)) is)
+    ∙ ap (λ (y : Option JwtAsk). ask_lines conn seat.session y (answer_ask kept now given seat y)) is)
 
 -- ---- on a connection
 

@@ -20,6 +20,7 @@ use Rattle.wl_core.specs.declared.lines.Line.TheVariants as lines
 use Rattle.wl_core.specs.declared.seats.Seat.{Seat}
 use Rattle.wl_session.specs.Steps.{Told}
 use Rattle.wl_core.specs.Seats.{seat_at, feed_seat, turn_seat}
+use Rattle.wl_core.specs.Tokens.{tokens_of}
 use Rattle.wl_core.specs.Moments.{Beginning, Moment, moment, reading_of, after_document, flight_in, after_identity, token_seat}
 
 -- ---- the store
@@ -122,7 +123,7 @@ lines_at (events.Join conn selectors) m = join_lines conn (seat_at m.seats conn)
 lines_at (events.Name conn caller) m = name_lines conn caller (seat_at m.seats conn)
 lines_at (events.Feed conn piece) m = told_lines conn (feed_seat piece) (seat_at m.seats conn)
 lines_at (events.Turn conn) m = told_lines conn (turn_seat m.stored.published) (seat_at m.seats conn)
-lines_at (events.Token conn now given) m = token_lines conn (token_seat m.history now given) (seat_at m.seats conn)
+lines_at (events.Token conn now given) m = token_lines conn (token_seat (tokens_of m.stored m.history) now given) (seat_at m.seats conn)
 lines_at (events.Close conn) m = close_lines conn (seat_at m.seats conn)
 
 -- what is said of an event after these

@@ -19,7 +19,7 @@ use Rattle.wl_core.specs.declared.events.TheConstants.{CONNS}
 use Rattle.wl_core.specs.declared.seats.Seat.{Seat}
 use Rattle.wl_session.specs.Steps.{Told, quiet, outcome_told}
 use Rattle.wl_core.specs.Seats.{begun_at, seat_at, joined_seat, named_seat, told_seat, feed_seat, turn_seat}
-use Rattle.wl_core.specs.Tokens.{kept_token, outcome_of, history_after_token}
+use Rattle.wl_core.specs.Tokens.{KeptTokens, tokens_of, kept_token, outcome_of, history_after_token}
 
 -- with what the world begins: the state of its first document, and whether its store is strict
 pub record Beginning : Type 0 where
@@ -87,12 +87,12 @@ abbrev pub with_told : ℕ → (Seat → Told) → List (Option Seat) → List (
 with_told conn tell seats = slice_set seats conn (told_seat tell (seat_at seats conn))
 
 -- an ask that waits gets an outcome
-abbrev pub answer_ask : List CachedToken → ℕ → Option JwtToken → Seat → Option JwtAsk → Told
-answer_ask history now given seat None = quiet seat.session
-answer_ask history now given seat (Some a) = outcome_told (outcome_of (kept_token history a now) given now) seat.session
+abbrev pub answer_ask : KeptTokens → ℕ → Option JwtToken → Seat → Option JwtAsk → Told
+answer_ask kept now given seat None = quiet seat.session
+answer_ask kept now given seat (Some a) = outcome_told (outcome_of (kept_token kept a now) given now) seat.session
 
-abbrev pub token_seat : List CachedToken → ℕ → Option JwtToken → Seat → Told
-token_seat history now given seat = answer_ask history now given seat (asks_in seat.session)
+abbrev pub token_seat : KeptTokens → ℕ → Option JwtToken → Seat → Told
+token_seat kept now given seat = answer_ask kept now given seat (asks_in seat.session)
 
 -- the first waiting ask of a connection
 abbrev pub ask_of_seat : Option Seat → Option JwtAsk
@@ -101,7 +101,7 @@ ask_of_seat (Some seat) = asks_in seat.session
 
 abbrev pub history_answered : Option JwtAsk → Stored → ℕ → Option JwtToken → List CachedToken → List CachedToken
 history_answered None m now given history = history
-history_answered (Some a) m now given history = history_after_token (asks_of m.store.entries) a now (kept_token history a now) given history
+history_answered (Some a) m now given history = history_after_token (asks_of m.store.entries) a now (kept_token (tokens_of m history) a now) given history
 
 -- ---- one event more
 
@@ -118,7 +118,7 @@ moment_after (events.Token conn now given) m =
     record {
       stored = m.stored;
       history = history_answered (ask_of_seat (seat_at m.seats conn)) m.stored now given m.history;
-      seats = with_told conn (token_seat m.history now given) m.seats;
+      seats = with_told conn (token_seat (tokens_of m.stored m.history) now given) m.seats;
       begun_before = m.begun_before;
     }
 moment_after (events.Close conn) m = record m { seats = slice_set m.seats conn None; begun_before = m.begun_before + begun_at (seat_at m.seats conn) }

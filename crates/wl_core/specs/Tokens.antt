@@ -7,6 +7,7 @@ use Rattle.wl_entry.specs.declared.tokens.JwtToken.{JwtToken}
 use Rattle.wl_entry.specs.declared.unfit.JwtUnfit.{JwtUnfit}
 use Rattle.jwt_cache.specs.declared.rings.CachedToken.{CachedToken}
 use Rattle.jwt_cache.specs.History.{find_in, cached_token_of}
+use Rattle.wl_store.specs.Steps.{Stored}
 use Rattle.wl_manager.specs.declared.keeping.Keeping.{Keeping}
 use Rattle.wl_manager.specs.declared.keeping.Keeping.TheVariants as keeping
 use Rattle.wl_manager.specs.Tokens.{keep_verdict}
@@ -14,9 +15,18 @@ use Rattle.wl_session.specs.declared.asks.JwtAsk.{JwtAsk}
 use Rattle.wl_session.specs.declared.asks.JwtOutcome.{JwtOutcome}
 use Rattle.wl_session.specs.declared.asks.JwtOutcome.TheVariants as outcomes
 
--- the token that is kept for an ask, of the history
-abbrev pub kept_token : List CachedToken → JwtAsk → ℕ → Option JwtToken
-kept_token history a now = find_in history a.ask (sorted_texts a.audience) now
+-- the tokens that were kept, and the second since which one has to be issued to be found
+pub record KeptTokens : Type 0 where
+  pub history : List CachedToken
+  pub renew_before : ℕ
+
+-- those of a store
+abbrev pub tokens_of : Stored → List CachedToken → KeptTokens
+tokens_of m history = record { history = history; renew_before = m.store.renew_before }
+
+-- the token that is kept for an ask
+abbrev pub kept_token : KeptTokens → JwtAsk → ℕ → Option JwtToken
+kept_token kept a now = find_in kept.history a.ask (sorted_texts a.audience) kept.renew_before now
 
 abbrev pub outcome_by : Option JwtUnfit → JwtToken → JwtOutcome
 outcome_by None t = outcomes.Token t

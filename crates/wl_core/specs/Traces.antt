@@ -1,7 +1,6 @@
 -- The trace of a session, taken from the events alone (own rules).
 use Rattle.std.specs.Prelude.{◌≡◌, ℕ, ◌<◌, ◌==◌, if◌then◌else◌, List, [], ◌∷◌, ◌++◌, Option, Some, None}
 use Rattle.wl_entry.specs.declared.tokens.JwtToken.{JwtToken}
-use Rattle.jwt_cache.specs.declared.rings.CachedToken.{CachedToken}
 use Rattle.wl_session.specs.declared.asks.JwtAsk.{JwtAsk}
 use Rattle.wl_session.specs.Sessions.{asks_in}
 use Rattle.wl_session.specs.Items.{Item, OutcomeItem, talk, feed_items, turn_items}
@@ -12,13 +11,13 @@ use Rattle.wl_core.specs.declared.lines.Line.{Line}
 use Rattle.wl_core.specs.declared.lines.Line.TheVariants as lines
 use Rattle.wl_core.specs.declared.seats.Seat.{Seat}
 use Rattle.wl_core.specs.Seats.{seat_at}
-use Rattle.wl_core.specs.Tokens.{kept_token, outcome_of}
+use Rattle.wl_core.specs.Tokens.{KeptTokens, tokens_of, kept_token, outcome_of}
 use Rattle.wl_core.specs.Moments.{Beginning, Moment, moment}
 use Rattle.wl_core.specs.Lines.{transcript}
 
-abbrev pub ask_items : List CachedToken → ℕ → Option JwtToken → Option JwtAsk → List Item
-ask_items history now given None = []
-ask_items history now given (Some a) = OutcomeItem (outcome_of (kept_token history a now) given now) ∷ []
+abbrev pub ask_items : KeptTokens → ℕ → Option JwtToken → Option JwtAsk → List Item
+ask_items kept now given None = []
+ask_items kept now given (Some a) = OutcomeItem (outcome_of (kept_token kept a now) given now) ∷ []
 
 -- ---- the trace
 
@@ -40,7 +39,7 @@ trace_after (events.Join k selectors) conn m trace = if k == conn then joined_tr
 trace_after (events.Name k caller) conn m trace = trace
 trace_after (events.Feed k piece) conn m trace = if k == conn then gain (λ seat before. feed_items piece seat.caller seat.session) (seat_at m.seats conn) trace else trace
 trace_after (events.Turn k) conn m trace = if k == conn then gain (λ seat before. turn_items m.stored.published seat.session before) (seat_at m.seats conn) trace else trace
-trace_after (events.Token k now given) conn m trace = if k == conn then gain (λ seat before. ask_items m.history now given (asks_in seat.session)) (seat_at m.seats conn) trace else trace
+trace_after (events.Token k now given) conn m trace = if k == conn then gain (λ seat before. ask_items (tokens_of m.stored m.history) now given (asks_in seat.session)) (seat_at m.seats conn) trace else trace
 trace_after (events.Close k) conn m trace = if k == conn then None else trace
 
 -- the trace of the session on a connection, in its order

@@ -5,7 +5,7 @@ ghost use Rattle.jwt_cache.specs.Rings.{StandsFor};
 ghost use Rattle.jwt_cache.specs.declared.rings.CachedToken.{CachedToken};
 ghost use Rattle.wl_store.specs.Stores.{asks_of};
 ghost use Rattle.wl_session.specs.Sessions.{asks_in};
-ghost use Rattle.wl_core.specs.Tokens.{kept_token, outcome_by, outcome_of, history_after_token};
+ghost use Rattle.wl_core.specs.Tokens.{tokens_of, kept_token, outcome_by, outcome_of, history_after_token};
 ghost use Rattle.wl_core.specs.Seats.{seat_at};
 ghost use Rattle.wl_core.specs.Moments.{token_seat, with_told, ask_of_seat, history_answered};
 ghost use Rattle.wl_core.specs.Lines.{ask_lines, token_lines};
@@ -55,10 +55,10 @@ fn outcome_of(
     given: Option<JwtToken>,
 ) -> Result<JwtOutcome, Memory>
     ensures value { (history : List CachedToken) → StandsFor manager.old.tokens history
-        → IfOk result (λ o. o ≡ outcome_of (kept_token history ask.now now) given now) }
+        → IfOk result (λ o. o ≡ outcome_of (kept_token (tokens_of manager.old.stored history) ask.now now) given now) }
     ensures stored { OnOk result (manager.new.stored ≡ manager.old.stored) }
     ensures history { (history : List CachedToken) → StandsFor manager.old.tokens history
-        → OnOk result (StandsFor manager.new.tokens (history_after_token (asks_of manager.old.stored.store.entries) ask.now now (kept_token history ask.now now) given history)) }
+        → OnOk result (StandsFor manager.new.tokens (history_after_token (asks_of manager.old.stored.store.entries) ask.now now (kept_token (tokens_of manager.old.stored history) ask.now now) given history)) }
 {
     match manager.token(alloc, &ask.ask, ask.audience.as_slice(), now)? {
         Some(kept) => Ok(JwtOutcome::Token(kept)),
@@ -83,10 +83,10 @@ fn answer(
     given: Option<JwtToken>,
 ) -> Result<Row<Line>, Memory>
     ensures after { (history : List CachedToken) → StandsFor manager.old.tokens history
-        → OnOk result (seat.new.session ≡ (token_seat history now given seat.old).after) }
+        → OnOk result (seat.new.session ≡ (token_seat (tokens_of manager.old.stored history) now given seat.old).after) }
     ensures caller { seat.new.caller ≡ seat.old.caller }
     ensures lines { (history : List CachedToken) → StandsFor manager.old.tokens history
-        → IfOk result (λ l. l ≡ ask_lines conn seat.old.session (asks_in seat.old.session) (token_seat history now given seat.old)) }
+        → IfOk result (λ l. l ≡ ask_lines conn seat.old.session (asks_in seat.old.session) (token_seat (tokens_of manager.old.stored history) now given seat.old)) }
     ensures stored { OnOk result (manager.new.stored ≡ manager.old.stored) }
     ensures history { (history : List CachedToken) → StandsFor manager.old.tokens history
         → OnOk result (StandsFor manager.new.tokens (history_answered (asks_in seat.old.session) manager.old.stored now given history)) }
@@ -118,9 +118,9 @@ pub fn token(
 ) -> Result<Row<Line>, Memory>
     requires { conn < length seats.old.seats.items }
     ensures seats { (history : List CachedToken) → StandsFor manager.old.tokens history
-        → OnOk result (seats.new.seats.items ≡ with_told conn (token_seat history now given) seats.old.seats.items) }
+        → OnOk result (seats.new.seats.items ≡ with_told conn (token_seat (tokens_of manager.old.stored history) now given) seats.old.seats.items) }
     ensures lines { (history : List CachedToken) → StandsFor manager.old.tokens history
-        → IfOk result (λ l. l ≡ token_lines conn (token_seat history now given) (seat_at seats.old.seats.items conn)) }
+        → IfOk result (λ l. l ≡ token_lines conn (token_seat (tokens_of manager.old.stored history) now given) (seat_at seats.old.seats.items conn)) }
     ensures begun { seats.new.begun_before ≡ seats.old.begun_before }
     ensures stored { OnOk result (manager.new.stored ≡ manager.old.stored) }
     ensures history { (history : List CachedToken) → StandsFor manager.old.tokens history

@@ -22,7 +22,7 @@ use Rattle.wl_core.specs.declared.events.Event.TheVariants as events
 use Rattle.wl_core.specs.declared.seats.Seat.{Seat}
 use Rattle.jwt_cache.specs.declared.rings.CachedToken.{CachedToken}
 use Rattle.wl_core.specs.Seats.{joined_seat, named_seat, told_seat, feed_seat, turn_seat, with_session}
-use Rattle.wl_core.specs.Tokens.{kept_token, outcome_of}
+use Rattle.wl_core.specs.Tokens.{KeptTokens, tokens_of, kept_token, outcome_of}
 use Rattle.wl_core.specs.Moments.{Beginning, Moment, moment, publication, seat, answer_ask, token_seat}
 use Rattle.wl_responses.specs.Steps.{Step, FrameCame, BytesBroke, CallAttested, TurnTaken, OutcomeCame, talk_after, FitsStep, AllFit}
 use Rattle.wl_responses.specs.Moves.{Move, session_after, steps_of, HasTalk}
@@ -108,9 +108,9 @@ named_complete : (caller : Option (List (List ℕ))) (o : Option Seat) → IsCom
 named_complete caller None h = tt
 named_complete caller (Some s) h = h
 
-asked_complete : (law : KeepComplete) (history : List CachedToken) (now : ℕ) (given : Option JwtToken) (s : Seat) (o : Option JwtAsk) → asks_in s.session ≡ o → IsCompleteIn s.session → IsCompleteIn (answer_ask history now given s o).after
-asked_complete law history now given s None is h = h
-asked_complete law history now given s (Some a) is h = outcome_complete law (outcome_of (kept_token history a now) given now) a s.session is h
+asked_complete : (law : KeepComplete) (kept : KeptTokens) (now : ℕ) (given : Option JwtToken) (s : Seat) (o : Option JwtAsk) → asks_in s.session ≡ o → IsCompleteIn s.session → IsCompleteIn (answer_ask kept now given s o).after
+asked_complete law kept now given s None is h = h
+asked_complete law kept now given s (Some a) is h = outcome_complete law (outcome_of (kept_token kept a now) given now) a s.session is h
 
 pick : (b : Bool) (o p : Option Seat) → IsCompleteAt o → IsCompleteAt p → IsCompleteAt (if b then o else p)
 pick true o p h k = h
@@ -128,8 +128,8 @@ step_complete law (events.Feed k piece) conn m o h =
 step_complete law (events.Turn k) conn m o h =
     let x = m.stored.published in pick (k == conn) (told_seat (turn_seat x) o) o (told_complete (turn_seat x) o (λ s is. (turn_complete law x s.session is).0) h) h
 step_complete law (events.Token k now given) conn m o h =
-    let tell = token_seat m.history now given in
-    pick (k == conn) (told_seat tell o) o (told_complete tell o (λ s is. asked_complete law m.history now given s (asks_in s.session) refl is) h) h
+    let tell = token_seat (tokens_of m.stored m.history) now given in
+    pick (k == conn) (told_seat tell o) o (told_complete tell o (λ s is. asked_complete law (tokens_of m.stored m.history) now given s (asks_in s.session) refl is) h) h
 step_complete law (events.Close k) conn m o h = pick (k == conn) None o tt h
 
 run_complete : (law : KeepComplete) (d : Beginning) (past : List Event) (conn : ℕ) → conn < CONNS → IsCompleteAt (seat d past conn)
@@ -218,17 +218,17 @@ turns_of_runs_give = behind_turns (λ x old now. OnTalk (HasTurnEnding x) old) (
 
 -- the session after it
 given_on : (d : Beginning) (past : List Event) (conn time : ℕ) (given : Option JwtToken) (a : JwtAsk) (old now : Seat) → conn < CONNS → seat d past conn ≡ Some old → asks_in old.session ≡ Some a → seat d (events.Token conn time given ∷ past) conn ≡ Some now
-    → (outcome_told (outcome_of (kept_token (moment d past).history a time) given time) old.session).after ≡ now.session
+    → (outcome_told (outcome_of (kept_token (tokens_of (moment d past).stored (moment d past).history) a time) given time) old.session).after ≡ now.session
 given_on d past conn time given a old now within was asks is =
-    let tell = token_seat (moment d past).history time given in
+    let tell = token_seat (tokens_of (moment d past).stored (moment d past).history) time given in
     let step : seat_step (events.Token conn time given) conn (moment d past) (seat d past conn) ≡ told_seat tell (Some old) = rw (was, eq-eqb conn conn refl) refl in
-    let told : tell old ≡ outcome_told (outcome_of (kept_token (moment d past).history a time) given time) old.session = ap (answer_ask (moment d past).history time given old) asks in
+    let told : tell old ≡ outcome_told (outcome_of (kept_token (tokens_of (moment d past).stored (moment d past).history) a time) given time) old.session = ap (answer_ask (tokens_of (moment d past).stored (moment d past).history) time given old) asks in
     sym (ap (λ (s : Told). s.after) told) ∙ ap (λ (s : Seat). s.session) (seat_is (with_session (tell old).after old) now (sym step ∙ (sym (seat_next d (events.Token conn time given) past conn within) ∙ is)))
 
 behind_tokens : (P : JwtOutcome → SessionState → SessionState → Type 0) → ((o : JwtOutcome) (d : Beginning) (past : List Event) (conn : ℕ) (s : Seat) → conn < CONNS → seat d past conn ≡ Some s → P o s.session (outcome_told o s.session).after)
     → BehindTokens P
 behind_tokens P go d past conn time given a old now within was asks is =
-    let o = outcome_of (kept_token (moment d past).history a time) given time in
+    let o = outcome_of (kept_token (tokens_of (moment d past).stored (moment d past).history) a time) given time in
     subst (λ (s : SessionState). P o old.session s) (given_on d past conn time given a old now within was asks is) (go o d past conn old within was)
 
 abbrev Takes : JwtOutcome → Talking → Type 0

@@ -22,6 +22,7 @@ use Rattle.wl_core.specs.declared.events.Event.{Event}
 use Rattle.wl_core.specs.declared.events.Event.TheVariants as events
 use Rattle.wl_core.specs.declared.seats.Seat.{Seat}
 use Rattle.wl_core.specs.Seats.{seat_at, joined_seat, named_seat, told_seat, feed_seat, turn_seat}
+use Rattle.wl_core.specs.Tokens.{tokens_of}
 use Rattle.wl_core.specs.Moments.{Beginning, Moment, moment, moment_after, reading_of, after_reading, signed_with, failed_with, flight_in, token_seat, publication, seat}
 use Rattle.wl_core.proofs.Readiness.{room_after}
 use Rattle.wl_responses.specs.Steps.{Step, FrameCame, BytesBroke, CallAttested, TurnTaken, OutcomeCame}
@@ -41,7 +42,7 @@ seat_step (events.Join k selectors) conn m o = if k == conn then joined_seat sel
 seat_step (events.Name k caller) conn m o = if k == conn then named_seat caller o else o
 seat_step (events.Feed k piece) conn m o = if k == conn then told_seat (feed_seat piece) o else o
 seat_step (events.Turn k) conn m o = if k == conn then told_seat (turn_seat m.stored.published) o else o
-seat_step (events.Token k now given) conn m o = if k == conn then told_seat (token_seat m.history now given) o else o
+seat_step (events.Token k now given) conn m o = if k == conn then told_seat (token_seat (tokens_of m.stored m.history) now given) o else o
 seat_step (events.Close k) conn m o = if k == conn then None else o
 
 same_conn : (k conn : ℕ) → (k == conn) ≡ true → k ≡ conn
@@ -66,7 +67,7 @@ seat_after (events.Join k selectors) conn m within = set_go m.seats k conn (join
 seat_after (events.Name k caller) conn m within = set_go m.seats k conn (named_seat caller) (k == conn) refl within
 seat_after (events.Feed k piece) conn m within = set_go m.seats k conn (told_seat (feed_seat piece)) (k == conn) refl within
 seat_after (events.Turn k) conn m within = set_go m.seats k conn (told_seat (turn_seat m.stored.published)) (k == conn) refl within
-seat_after (events.Token k now given) conn m within = set_go m.seats k conn (told_seat (token_seat m.history now given)) (k == conn) refl within
+seat_after (events.Token k now given) conn m within = set_go m.seats k conn (told_seat (token_seat (tokens_of m.stored m.history) now given)) (k == conn) refl within
 seat_after (events.Close k) conn m within = set_go m.seats k conn (λ o. None) (k == conn) refl within
 
 room : (d : Beginning) (past : List Event) → length (moment d past).seats ≡ CONNS

@@ -15,7 +15,7 @@ use Rattle.wl_core.specs.declared.events.Event.{Event}
 use Rattle.wl_core.specs.declared.events.Event.TheVariants as events
 use Rattle.wl_core.specs.declared.seats.Seat.{Seat}
 use Rattle.wl_core.specs.Seats.{seat_at, joined_seat, named_seat, told_seat, feed_seat, turn_seat}
-use Rattle.wl_core.specs.Tokens.{kept_token, outcome_of}
+use Rattle.wl_core.specs.Tokens.{KeptTokens, tokens_of, kept_token, outcome_of}
 use Rattle.wl_core.specs.Moments.{Beginning, Moment, moment, answer_ask, token_seat, publication, seat}
 use Rattle.wl_core.specs.Traces.{ask_items, gain, joined_trace, trace_after, trace}
 use Rattle.wl_core.proofs.SessionTraces.{bytes_of_trace}
@@ -49,17 +49,17 @@ turned_led : (P : Publication → Type 0) (x : Publication) (s : Seat) (items : 
 turned_led P x s items moves is h =
     one_move P x.number (TurnedOn x) s.session items (turn_items x s.session items) moves is (h.above, h.falls) (omega arith, h.above) (turn_follows x s.session items h.follows) h
 
-outcome_on : (history : List CachedToken) (now : ℕ) (given : Option JwtToken) (e : SessionState) (a : JwtAsk) (items : List Item) → asks_in e ≡ Some a → Follows e items
-    → FollowsOn (outcome_told (outcome_of (kept_token history a now) given now) e) items (ask_items history now given (Some a))
-outcome_on history now given (Running e t shown) a items is follows = outcome_follows (outcome_of (kept_token history a now) given now) e t shown items follows
-outcome_on history now given (Fallen fault begun) a items is follows = absurd (cc is)
-outcome_on history now given OutOfMemory a items is follows = absurd (cc is)
+outcome_on : (kept : KeptTokens) (now : ℕ) (given : Option JwtToken) (e : SessionState) (a : JwtAsk) (items : List Item) → asks_in e ≡ Some a → Follows e items
+    → FollowsOn (outcome_told (outcome_of (kept_token kept a now) given now) e) items (ask_items kept now given (Some a))
+outcome_on kept now given (Running e t shown) a items is follows = outcome_follows (outcome_of (kept_token kept a now) given now) e t shown items follows
+outcome_on kept now given (Fallen fault begun) a items is follows = absurd (cc is)
+outcome_on kept now given OutOfMemory a items is follows = absurd (cc is)
 
-asked_led : (P : Publication → Type 0) (most : ℕ) (history : List CachedToken) (now : ℕ) (given : Option JwtToken) (s : Seat) (o : Option JwtAsk) (items : List Item) (moves : List Move) → asks_in s.session ≡ o → Led P most s.session items moves
-    → Led P most (answer_ask history now given s o).after (items ++ ask_items history now given o) (with_outcome_for history now given o moves)
-asked_led P most history now given s None items moves is h = rw (append-nil items) h
-asked_led P most history now given s (Some a) items moves is h =
-    one_move P most (GivenTo (outcome_of (kept_token history a now) given now)) s.session items (ask_items history now given (Some a)) moves tt h.falls h.above (outcome_on history now given s.session a items is h.follows) h
+asked_led : (P : Publication → Type 0) (most : ℕ) (kept : KeptTokens) (now : ℕ) (given : Option JwtToken) (s : Seat) (o : Option JwtAsk) (items : List Item) (moves : List Move) → asks_in s.session ≡ o → Led P most s.session items moves
+    → Led P most (answer_ask kept now given s o).after (items ++ ask_items kept now given o) (with_outcome_for kept now given o moves)
+asked_led P most kept now given s None items moves is h = rw (append-nil items) h
+asked_led P most kept now given s (Some a) items moves is h =
+    one_move P most (GivenTo (outcome_of (kept_token kept a now) given now)) s.session items (ask_items kept now given (Some a)) moves tt h.falls h.above (outcome_on kept now given s.session a items is h.follows) h
 
 -- ---- Join, Name, Close
 
@@ -121,11 +121,11 @@ life_after P (events.Turn k) conn m tr ms is h =
     (told_life P x.number (turn_seat x) more add (λ s items moves l. turned_led P x s items moves is l) o tr ms h) h
 life_after P (events.Token k now given) conn m tr ms is h =
     let o = seat_at m.seats conn in
-    let more : Seat → List Item → List Item = λ s before. ask_items m.history now given (asks_in s.session) in
-    let add : Seat → List Move → List Move = λ s before. with_outcome_for m.history now given (asks_in s.session) before in
-    pick P m.stored.published.number (k == conn) (told_seat (token_seat m.history now given) o) o (gain more o tr) tr (gain_moves add o ms) ms
-    (told_life P m.stored.published.number (token_seat m.history now given) more add
-    (λ s items moves l. asked_led P m.stored.published.number m.history now given s (asks_in s.session) items moves refl l) o tr ms h) h
+    let more : Seat → List Item → List Item = λ s before. ask_items (tokens_of m.stored m.history) now given (asks_in s.session) in
+    let add : Seat → List Move → List Move = λ s before. with_outcome_for (tokens_of m.stored m.history) now given (asks_in s.session) before in
+    pick P m.stored.published.number (k == conn) (told_seat (token_seat (tokens_of m.stored m.history) now given) o) o (gain more o tr) tr (gain_moves add o ms) ms
+    (told_life P m.stored.published.number (token_seat (tokens_of m.stored m.history) now given) more add
+    (λ s items moves l. asked_led P m.stored.published.number (tokens_of m.stored m.history) now given s (asks_in s.session) items moves refl l) o tr ms h) h
 life_after P (events.Close k) conn m tr ms is h = pick P m.stored.published.number (k == conn) None (seat_at m.seats conn) None tr None ms (refl, refl) h
 
 -- ---- a run

@@ -28,7 +28,7 @@ use Rattle.wl_core.specs.declared.events.TheConstants.{CONNS}
 use Rattle.wl_core.specs.declared.events.Event.{Event}
 use Rattle.wl_core.specs.declared.events.Event.TheVariants as events
 use Rattle.wl_core.specs.declared.seats.Seat.{Seat}
-use Rattle.wl_core.specs.Tokens.{kept_token, outcome_of}
+use Rattle.wl_core.specs.Tokens.{tokens_of, kept_token, outcome_of}
 use Rattle.wl_core.specs.Moments.{Beginning, moment, publication, seat}
 use Rattle.wl_responses.specs.Replies.{stage_on}
 use Rattle.wl_responses.specs.Statuses.{HasTurnEnding, HasTokenEnding, AllGiveStatuses}
@@ -91,7 +91,7 @@ abbrev pub BehindTokens : (JwtOutcome → SessionState → SessionState → Type
 BehindTokens P =
     (d : Beginning) (past : List Event) (conn time : ℕ) (given : Option JwtToken) (a : JwtAsk) (old now : Seat)
     → conn < CONNS → seat d past conn ≡ Some old → asks_in old.session ≡ Some a → seat d (events.Token conn time given ∷ past) conn ≡ Some now
-    → P (outcome_of (kept_token (moment d past).history a time) given time) old.session now.session
+    → P (outcome_of (kept_token (tokens_of (moment d past).stored (moment d past).history) a time) given time) old.session now.session
 
 -- ---- laws
 

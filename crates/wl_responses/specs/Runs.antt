@@ -12,7 +12,7 @@ use Rattle.wl_core.specs.declared.events.Event.{Event}
 use Rattle.wl_core.specs.declared.events.Event.TheVariants as events
 use Rattle.wl_core.specs.declared.seats.Seat.{Seat}
 use Rattle.wl_core.specs.Seats.{seat_at}
-use Rattle.wl_core.specs.Tokens.{kept_token, outcome_of}
+use Rattle.wl_core.specs.Tokens.{KeptTokens, tokens_of, kept_token, outcome_of}
 use Rattle.wl_core.specs.Moments.{Beginning, Moment, moment, publication, seat}
 use Rattle.wl_core.specs.Lines.{transcript}
 use Rattle.wl_core.specs.Traces.{told_to}
@@ -31,9 +31,9 @@ joined_moves None = Some []
 joined_moves (Some moves) = Some moves
 
 -- an ask that waits gets its outcome
-abbrev pub with_outcome_for : List CachedToken → ℕ → Option JwtToken → Option JwtAsk → List Move → List Move
-with_outcome_for history now given None moves = moves
-with_outcome_for history now given (Some a) moves = GivenTo (outcome_of (kept_token history a now) given now) ∷ moves
+abbrev pub with_outcome_for : KeptTokens → ℕ → Option JwtToken → Option JwtAsk → List Move → List Move
+with_outcome_for kept now given None moves = moves
+with_outcome_for kept now given (Some a) moves = GivenTo (outcome_of (kept_token kept a now) given now) ∷ moves
 
 -- Bytes are fed with the present answer of the attestor; a turn reads the publication that stands.
 abbrev pub moves_after : Event → ℕ → Moment → Option (List Move) → Option (List Move)
@@ -45,7 +45,7 @@ moves_after (events.Join k selectors) conn m moves = if k == conn then joined_mo
 moves_after (events.Name k caller) conn m moves = moves
 moves_after (events.Feed k piece) conn m moves = if k == conn then gain_moves (λ s before. Fed piece s.caller ∷ before) (seat_at m.seats conn) moves else moves
 moves_after (events.Turn k) conn m moves = if k == conn then gain_moves (λ s before. TurnedOn m.stored.published ∷ before) (seat_at m.seats conn) moves else moves
-moves_after (events.Token k now given) conn m moves = if k == conn then gain_moves (λ s before. with_outcome_for m.history now given (asks_in s.session) before) (seat_at m.seats conn) moves else moves
+moves_after (events.Token k now given) conn m moves = if k == conn then gain_moves (λ s before. with_outcome_for (tokens_of m.stored m.history) now given (asks_in s.session) before) (seat_at m.seats conn) moves else moves
 moves_after (events.Close k) conn m moves = if k == conn then None else moves
 
 -- of the session on a connection, if there is one

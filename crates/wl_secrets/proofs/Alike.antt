@@ -26,7 +26,7 @@ published_both : (ours : List ℕ → Bool) (s t : Store) (m n : Stored) → sha
 published_both ours s t m n store domain = record { store = store; domain = domain_after s m ∙ (domain ∙ sym (domain_after t n)); first = shown_after s m; second = shown_after t n }
 
 read_both : (ours : List ℕ → Bool) (r : Result State DocFault) (m n : Stored) → AreAlike ours m n → AreAlike ours (after_reading r m) (after_reading r n)
-read_both ours (Ok d) m n alike = published_both ours (after_sync d m) (after_sync d n) m n (entries_alike ours d.entries d.bundles m.store n.store alike.store) alike.domain
+read_both ours (Ok d) m n alike = published_both ours (after_sync d m) (after_sync d n) m n (entries_alike ours d.entries d.bundles d.renew_before m.store n.store alike.store) alike.domain
 read_both ours (Err fault) m n alike = alike
 
 -- a document says the same to both

@@ -2,14 +2,13 @@
 use Rattle.std.proofs.Common.{◌≡◌, ℕ, ◌+◌, Bool, true, not, if◌then◌else◌, List, [], ◌∷◌, ◌++◌, map, filter, length, Option, Some, None, option_map, refl, sym, ap, ◌∙◌}
 use Rattle.std.specs.Prelude.{unwrap_or}
 use Rattle.std.proofs.lemmas.List.{map-append}
-use Rattle.wl_entry.specs.Fitness.{is_half_over}
 use Rattle.wl_entry.specs.Same.{same_ask}
 use Rattle.wl_entry.specs.declared.asks.Ask.{Ask}
 use Rattle.wl_entry.specs.declared.entries.Entry.{Entry}
 use Rattle.wl_entry.specs.declared.bundles.Bundle.{Bundle}
 use Rattle.wl_entry.specs.declared.signing.Signed.{Signed}
 use Rattle.wl_entry.specs.declared.signing.Svid.{Svid}
-use Rattle.svid_cache.specs.Caches.{is_listed, kept_for, is_due, due_asks, lasts, without_ended, with_svid, is_below, is_above, unless_older}
+use Rattle.svid_cache.specs.Caches.{is_listed, kept_for, is_to_be_replaced, is_due, due_asks, lasts, without_ended, with_svid, is_below, is_above, unless_older}
 use Rattle.svid_cache.specs.declared.install.Installed.{Installed}
 use Rattle.svid_cache.specs.declared.install.Installed.TheVariants as installed
 use Rattle.wl_store.specs.Stores.{Store, asks_of, cached_of, with_entries, is_in_flight, asks_to_claim, flights_from, after_claim, without_flight, without_ticket, refusal, install, svids_after, after_signed}
@@ -25,7 +24,7 @@ blind ours v = record { ask = v.ask; signed = hidden (ours v.ask.entry_id) v.sig
 
 abbrev pub shade : (List ℕ → Bool) → Store → Store
 shade ours s =
-    record { strict = s.strict; entries = s.entries; bundles = s.bundles; svids = map (blind ours) s.svids; in_flight = s.in_flight; last_ticket = s.last_ticket }
+    record { strict = s.strict; entries = s.entries; bundles = s.bundles; svids = map (blind ours) s.svids; renew_before = s.renew_before; in_flight = s.in_flight; last_ticket = s.last_ticket }
 
 -- an SVID of an entry that isn't foreign stays
 pub blind_ours : (ours : List ℕ → Bool) (v : Svid) → ours v.ask.entry_id ≡ true → blind ours v ≡ v
@@ -33,10 +32,10 @@ blind_ours ours v is = ap (λ (b : Bool). record { ask = v.ask; signed = hidden 
 
 -- ---- a document was read
 
-pub entries_shade : (ours : List ℕ → Bool) (entries : List Entry) (bundles : List Bundle) (s : Store) → shade ours (with_entries entries bundles s) ≡ with_entries entries bundles (shade ours s)
+pub entries_shade : (ours : List ℕ → Bool) (entries : List Entry) (bundles : List Bundle) (renew : ℕ) (s : Store) → shade ours (with_entries entries bundles renew s) ≡ with_entries entries bundles renew (shade ours s)
 unfolding with_entries
-entries_shade ours entries bundles s =
-    ap (λ (xs : List Svid). record { strict = s.strict; entries = entries; bundles = bundles; svids = xs; in_flight = s.in_flight; last_ticket = s.last_ticket })
+entries_shade ours entries bundles renew s =
+    ap (λ (xs : List Svid). record { strict = s.strict; entries = entries; bundles = bundles; svids = xs; renew_before = renew; in_flight = s.in_flight; last_ticket = s.last_ticket })
     (filter_through (blind ours) (λ v. is_listed (asks_of entries) v.ask) (λ v. is_listed (asks_of entries) v.ask) (λ v. refl) s.svids)
 
 -- ---- tickets are claimed
@@ -48,18 +47,18 @@ kept_shade : (ours : List ℕ → Bool) (svids : List Svid) (a : Ask) → option
 unfolding kept_for
 kept_shade ours svids a = find_through (blind ours) (λ v. same_ask v.ask a) (λ v. same_ask v.ask a) (λ v. refl) svids
 
-half_go : (ours : List ℕ → Bool) (now : ℕ) (o : Option Svid) → unwrap_or (option_map (λ (v : Svid). is_half_over now v.signed) (option_map (blind ours) o)) true ≡ unwrap_or (option_map (λ (v : Svid). is_half_over now v.signed) o) true
-half_go ours now None = refl
-half_go ours now (Some v) = refl
+replaced_go : (ours : List ℕ → Bool) (renew now : ℕ) (o : Option Svid) → unwrap_or (option_map (λ (v : Svid). is_to_be_replaced renew now v.signed) (option_map (blind ours) o)) true ≡ unwrap_or (option_map (λ (v : Svid). is_to_be_replaced renew now v.signed) o) true
+replaced_go ours renew now None = refl
+replaced_go ours renew now (Some v) = refl
 
-due_shade : (ours : List ℕ → Bool) (now : ℕ) (svids : List Svid) (a : Ask) → is_due now (map (blind ours) svids) a ≡ is_due now svids a
+due_shade : (ours : List ℕ → Bool) (renew now : ℕ) (svids : List Svid) (a : Ask) → is_due renew now (map (blind ours) svids) a ≡ is_due renew now svids a
 unfolding is_due
-due_shade ours now svids a =
-    ap (λ (o : Option Svid). unwrap_or (option_map (λ (v : Svid). is_half_over now v.signed) o) true) (sym (kept_shade ours svids a)) ∙ half_go ours now (kept_for svids a)
+due_shade ours renew now svids a =
+    ap (λ (o : Option Svid). unwrap_or (option_map (λ (v : Svid). is_to_be_replaced renew now v.signed) o) true) (sym (kept_shade ours svids a)) ∙ replaced_go ours renew now (kept_for svids a)
 
 dues_shade : (ours : List ℕ → Bool) (now : ℕ) (s : Store) → due_asks now (without_ended now (cached_of (shade ours s))) ≡ due_asks now (without_ended now (cached_of s))
 dues_shade ours now s =
-    λ i. filter (λ (a : Ask). (ap (λ (xs : List Svid). is_due now xs a) (sym (lasting ours now s.svids)) ∙ due_shade ours now (filter (lasts now) s.svids) a) i) (asks_of s.entries)
+    λ i. filter (λ (a : Ask). (ap (λ (xs : List Svid). is_due s.renew_before now xs a) (sym (lasting ours now s.svids)) ∙ due_shade ours s.renew_before now (filter (lasts now) s.svids) a) i) (asks_of s.entries)
 
 pub claim_asks_shade : (ours : List ℕ → Bool) (now : ℕ) (s : Store) → asks_to_claim now (shade ours s) ≡ asks_to_claim now s
 unfolding asks_to_claim
@@ -73,21 +72,22 @@ claim_shade ours now s =
       entries = s.entries;
       bundles = s.bundles;
       svids = lasting ours now s.svids i;
+      renew_before = s.renew_before;
       in_flight = s.in_flight ++ flights_from s.last_ticket (sym (claim_asks_shade ours now s) i);
       last_ticket = s.last_ticket + length (sym (claim_asks_shade ours now s) i);
     }
 
 -- ---- a ticket comes back
 
-older_go : (ours : List ℕ → Bool) (g : Signed) (o : Option Svid) → unless_older g (option_map (blind ours) o) ≡ unless_older g o
-older_go ours g None = refl
-older_go ours g (Some v) = refl
+older_go : (ours : List ℕ → Bool) (renew now : ℕ) (g : Signed) (o : Option Svid) → unless_older renew now g (option_map (blind ours) o) ≡ unless_older renew now g o
+older_go ours renew now g None = refl
+older_go ours renew now g (Some v) = refl
 
 -- Install hangs on no chain and key that is kept
 pub install_shade : (ours : List ℕ → Bool) (now : ℕ) (a : Ask) (g : Signed) (s : Store) → install now a g (shade ours s) ≡ install now a g s
 unfolding install refusal
 install_shade ours now a g s =
-    ap (λ (i : Installed). unwrap_or (refusal now a g s) i) (ap (unless_older g) (sym (kept_shade ours s.svids a)) ∙ older_go ours g (kept_for s.svids a))
+    ap (λ (i : Installed). unwrap_or (refusal now a g s) i) (ap (unless_older s.renew_before now g) (sym (kept_shade ours s.svids a)) ∙ older_go ours s.renew_before now g (kept_for s.svids a))
 
 with_shade : (ours : List ℕ → Bool) (v : Svid) (svids : List Svid) → map (blind ours) (with_svid v svids) ≡ with_svid (blind ours v) (map (blind ours) svids)
 unfolding with_svid
@@ -105,13 +105,13 @@ after_shade ours installed.Spent v svids = refl
 
 abbrev put_back : ℕ → Installed → Svid → Store → Store
 put_back n i v s =
-    record { strict = s.strict; entries = s.entries; bundles = s.bundles; svids = svids_after i v s.svids; in_flight = without_flight n s.in_flight; last_ticket = s.last_ticket }
+    record { strict = s.strict; entries = s.entries; bundles = s.bundles; svids = svids_after i v s.svids; renew_before = s.renew_before; in_flight = without_flight n s.in_flight; last_ticket = s.last_ticket }
 
 signed_shade : (ours : List ℕ → Bool) (now n : ℕ) (a : Ask) (g : Signed) (s : Store)
     → shade ours (after_signed now n a g s) ≡ put_back n (install now a g s) (record { ask = a; signed = hidden (ours a.entry_id) g }) (shade ours s)
 unfolding after_signed
 signed_shade ours now n a g s =
-    ap (λ (xs : List Svid). record { strict = s.strict; entries = s.entries; bundles = s.bundles; svids = xs; in_flight = without_flight n s.in_flight; last_ticket = s.last_ticket })
+    ap (λ (xs : List Svid). record { strict = s.strict; entries = s.entries; bundles = s.bundles; svids = xs; renew_before = s.renew_before; in_flight = without_flight n s.in_flight; last_ticket = s.last_ticket })
     (after_shade ours (install now a g s) (record { ask = a; signed = g }) s.svids)
 
 -- identities that are alike, each fit where the other is, leave stores that are alike
@@ -127,8 +127,8 @@ install_alike ours now a g s t alike = sym (install_shade ours now a g s) ∙ (a
 
 -- ---- both stores
 
-pub entries_alike : (ours : List ℕ → Bool) (entries : List Entry) (bundles : List Bundle) (s t : Store) → shade ours s ≡ shade ours t → shade ours (with_entries entries bundles s) ≡ shade ours (with_entries entries bundles t)
-entries_alike ours entries bundles s t alike = entries_shade ours entries bundles s ∙ (ap (with_entries entries bundles) alike ∙ sym (entries_shade ours entries bundles t))
+pub entries_alike : (ours : List ℕ → Bool) (entries : List Entry) (bundles : List Bundle) (renew : ℕ) (s t : Store) → shade ours s ≡ shade ours t → shade ours (with_entries entries bundles renew s) ≡ shade ours (with_entries entries bundles renew t)
+entries_alike ours entries bundles renew s t alike = entries_shade ours entries bundles renew s ∙ (ap (with_entries entries bundles renew) alike ∙ sym (entries_shade ours entries bundles renew t))
 
 pub claim_alike : (ours : List ℕ → Bool) (now : ℕ) (s t : Store) → shade ours s ≡ shade ours t → shade ours (after_claim now s) ≡ shade ours (after_claim now t)
 claim_alike ours now s t alike = claim_shade ours now s ∙ (ap (after_claim now) alike ∙ sym (claim_shade ours now t))

@@ -16,6 +16,7 @@ use Rattle.wl_core.specs.declared.events.Event.{Event}
 use Rattle.wl_core.specs.declared.events.Event.TheVariants as events
 use Rattle.wl_core.specs.declared.seats.Seat.{Seat}
 use Rattle.wl_core.specs.Seats.{seat_at, joined_seat, named_seat, told_seat, feed_seat, turn_seat}
+use Rattle.wl_core.specs.Tokens.{tokens_of}
 use Rattle.wl_core.specs.Moments.{Beginning, Moment, moment, moment_after, reading_of, history_read, history_after_document, token_seat, ask_of_seat, history_answered, store, seat}
 use Rattle.wl_core.specs.Traces.{ask_items, gain, joined_trace, trace_after, trace}
 use Rattle.wl_core.proofs.SessionTraces.{equal_bytes}
@@ -41,20 +42,20 @@ seat_known ours m n (Some s) (Some all) alike covers is =
     let shows : ShowsAlike (bounds (on_side ours true) all) m.published n.published = λ sel among. view_same ours m n sel alike (covers sel among) in
     (turn_near (bounds (on_side ours true) all) m.published n.published (Some s) shows is.1, λ tr. turn_items_near (bounds (on_side ours true) all) m.published n.published (Some s) tr shows is.1)
 
-found_go : (ours : List ℕ → Bool) (h l : List CachedToken) (o : Option JwtAsk) → KeepAlike ours h l → AskIs ours true o → FoundAlike h l o
-found_go ours h l None keeps is = tt
-found_go ours h l (Some a) keeps is = λ now. kept_same ours h l a now keeps is
+found_go : (ours : List ℕ → Bool) (m n : Stored) (h l : List CachedToken) (o : Option JwtAsk) → m.store.renew_before ≡ n.store.renew_before → KeepAlike ours h l → AskIs ours true o → FoundAlike (tokens_of m h) (tokens_of n l) o
+found_go ours m n h l None renew keeps is = tt
+found_go ours m n h l (Some a) renew keeps is = λ now. kept_same ours m n h l a now renew keeps is
 
 near : (ours : List ℕ → Bool) (d : Beginning) (p q : List Event) (conn : ℕ) → conn < CONNS → AreAlike ours (store d p) (store d q) → KeepAlike ours (moment d p).history (moment d q).history → Side ours true d p conn
     → Near (moment d p) (moment d q) (seat d p conn)
 near ours d p q conn within alike keeps side =
     let turns = seat_known ours (store d p) (store d q) (seat d p conn) (attested p conn) alike (covers_now ours true d p conn side) (sided ours true d p conn within side) in
-    let found = found_go ours (moment d p).history (moment d q).history (ask_of_seat (seat d p conn)) keeps (ask_sided ours true d p conn within side) in
+    let found = found_go ours (store d p) (store d q) (moment d p).history (moment d q).history (ask_of_seat (seat d p conn)) (ap (λ (s : Store). s.renew_before) alike.store) keeps (ask_sided ours true d p conn within side) in
     record {
       turn = turns.0;
       turn_items = turns.1;
-      token = λ now given. token_near (moment d p).history (moment d q).history now given (seat d p conn) found;
-      token_items = λ now given tr. token_items_near (moment d p).history (moment d q).history now given (seat d p conn) tr found;
+      token = λ now given. token_near (tokens_of (store d p) (moment d p).history) (tokens_of (store d q) (moment d q).history) now given (seat d p conn) found;
+      token_items = λ now given tr. token_items_near (tokens_of (store d p) (moment d p).history) (tokens_of (store d q) (moment d q).history) now given (seat d p conn) tr found;
     }
 
 -- ---- what two runs share
@@ -71,7 +72,7 @@ record Hid (ours : List ℕ → Bool) (out : ℕ → Bool) (d : Beginning) (p q 
 read_lost : (ours : List ℕ → Bool) (r : Result State DocFault) (m n : Stored) (h l : List CachedToken) → AreAlike ours m n → KeepAlike ours h l → KeepAlike ours (history_read r m h) (history_read r n l)
 read_lost ours (Ok d) m n h l alike keeps =
     lost_alike ours m.store.entries (after_sync d m).entries n.store.entries (after_sync d n).entries h l (ap (λ (s : Store). s.entries) alike.store)
-    (ap (λ (s : Store). s.entries) (entries_alike ours d.entries d.bundles m.store n.store alike.store)) keeps
+    (ap (λ (s : Store). s.entries) (entries_alike ours d.entries d.bundles d.renew_before m.store n.store alike.store)) keeps
 read_lost ours (Err fault) m n h l alike keeps = keeps
 
 document_lost : (ours : List ℕ → Bool) (document : List ℕ) (m n : Stored) (h l : List CachedToken) → AreAlike ours m n → KeepAlike ours h l → KeepAlike ours (history_after_document document m h) (history_after_document document n l)
@@ -109,7 +110,7 @@ token_keeps ours out d p q k now given alike hid here moves closed = go (within_
         → KeepAlike ours (history_answered (asks p) (store d p) now given (moment d p).history) (history_answered (asks q) (store d q) now given (moment d q).history)
     sides within (inl side) =
         let before = side_before ours true d e p k (λ is. is) side in
-        answered_alike ours (asks p) (store d p) (store d q) now given (moment d p).history (moment d q).history (ap (λ (s : Store). s.entries) alike.store) (ask_sided ours true d p k within before) hid.keeps
+        answered_alike ours (asks p) (store d p) (store d q) now given (moment d p).history (moment d q).history (ap (λ (s : Store). s.entries) alike.store) (ap (λ (s : Store). s.renew_before) alike.store) (ask_sided ours true d p k within before) hid.keeps
         ∙ ap (λ (o : Option JwtAsk). filter (is_ours ours) (history_answered o (store d q) now given (moment d q).history)) (ask_alike (seat d p k) (seat d q k) (hid.lives k within here before).0)
     sides within (inr side) =
         let before = side_before ours false d e p k (λ is. is) side in
@@ -234,7 +235,7 @@ seat_only out (events.Join k selectors) conn m o is here = skip out k conn (join
 seat_only out (events.Name k caller) conn m o is here = skip out k conn (named_seat caller o) o is here
 seat_only out (events.Feed k piece) conn m o is here = skip out k conn (told_seat (feed_seat piece) o) o is here
 seat_only out (events.Turn k) conn m o is here = skip out k conn (told_seat (turn_seat m.stored.published) o) o is here
-seat_only out (events.Token k now given) conn m o is here = skip out k conn (told_seat (token_seat m.history now given) o) o is here
+seat_only out (events.Token k now given) conn m o is here = skip out k conn (told_seat (token_seat (tokens_of m.stored m.history) now given) o) o is here
 seat_only out (events.Close k) conn m o is here = skip out k conn None o is here
 
 trace_only : (out : ℕ → Bool) (e : Event) (conn : ℕ) (m : Moment) (tr : Option (List Item)) → is_at out e ≡ true → out conn ≡ false → trace_after e conn m tr ≡ tr
@@ -246,7 +247,7 @@ trace_only out (events.Join k selectors) conn m tr is here = skip out k conn (jo
 trace_only out (events.Name k caller) conn m tr is here = refl
 trace_only out (events.Feed k piece) conn m tr is here = skip out k conn (gain (λ s before. feed_items piece s.caller s.session) (seat_at m.seats conn) tr) tr is here
 trace_only out (events.Turn k) conn m tr is here = skip out k conn (gain (λ s before. turn_items m.stored.published s.session before) (seat_at m.seats conn) tr) tr is here
-trace_only out (events.Token k now given) conn m tr is here = skip out k conn (gain (λ s before. ask_items m.history now given (asks_in s.session)) (seat_at m.seats conn) tr) tr is here
+trace_only out (events.Token k now given) conn m tr is here = skip out k conn (gain (λ s before. ask_items (tokens_of m.stored m.history) now given (asks_in s.session)) (seat_at m.seats conn) tr) tr is here
 trace_only out (events.Close k) conn m tr is here = skip out k conn None tr is here
 
 lives_only : (ours : List ℕ → Bool) (out : ℕ → Bool) (d : Beginning) (e : Event) (p q : List Event) (conn : ℕ) → Hid ours out d p q → is_at out e ≡ true → conn < CONNS → out conn ≡ false

@@ -15,7 +15,7 @@ use Rattle.wl_manager.specs.declared.keeping.Keeping.{Keeping}
 use Rattle.wl_manager.specs.declared.keeping.Keeping.TheVariants as keeping
 use Rattle.wl_manager.specs.Tokens.{changed_ids, without_all, history_after, keep_verdict}
 use Rattle.wl_session.specs.declared.asks.JwtAsk.{JwtAsk}
-use Rattle.wl_core.specs.Tokens.{kept_token, history_by, history_after_token}
+use Rattle.wl_core.specs.Tokens.{tokens_of, kept_token, history_by, history_after_token}
 use Rattle.wl_core.specs.Moments.{history_answered}
 use Rattle.wl_secrets.proofs.Lists.{filter_behind, filter_turned}
 
@@ -32,10 +32,11 @@ ring_ours : (ours : List ℕ → Bool) (id : List ℕ) (h : List CachedToken) �
 unfolding ring_of
 ring_ours ours id h mine = ap (last_of 16) (filter_behind (is_of id) (is_ours ours) (λ k is. ap ours (sym (bytes_are id k.ask.entry_id is)) ∙ mine) h)
 
-pub kept_same : (ours : List ℕ → Bool) (h l : List CachedToken) (a : JwtAsk) (now : ℕ) → KeepAlike ours h l → ours a.ask.entry_id ≡ true → kept_token h a now ≡ kept_token l a now
+pub kept_same : (ours : List ℕ → Bool) (m n : Stored) (h l : List CachedToken) (a : JwtAsk) (now : ℕ) → m.store.renew_before ≡ n.store.renew_before → KeepAlike ours h l → ours a.ask.entry_id ≡ true → kept_token (tokens_of m h) a now ≡ kept_token (tokens_of n l) a now
 unfolding find_in
-kept_same ours h l a now alike mine =
-    ap (find_among a.ask (sorted_texts a.audience) now)
+kept_same ours m n h l a now renew alike mine =
+    ap (λ (r : ℕ). find_among a.ask (sorted_texts a.audience) r now (ring_of h a.ask.entry_id)) renew
+    ∙ ap (find_among a.ask (sorted_texts a.audience) n.store.renew_before now)
     (sym (ring_ours ours a.ask.entry_id h mine) ∙ (ap (λ (k : List CachedToken). ring_of k a.ask.entry_id) alike ∙ ring_ours ours a.ask.entry_id l mine))
 
 -- ---- a document was read
@@ -73,12 +74,12 @@ AskIs ours inside None = Unit {0}
 AskIs ours inside (Some a) = ours a.ask.entry_id ≡ inside
 
 -- an ask for an entry of the set is answered alike
-pub answered_alike : (ours : List ℕ → Bool) (o : Option JwtAsk) (m n : Stored) (now : ℕ) (given : Option JwtToken) (h l : List CachedToken) → m.store.entries ≡ n.store.entries → AskIs ours true o → KeepAlike ours h l
+pub answered_alike : (ours : List ℕ → Bool) (o : Option JwtAsk) (m n : Stored) (now : ℕ) (given : Option JwtToken) (h l : List CachedToken) → m.store.entries ≡ n.store.entries → m.store.renew_before ≡ n.store.renew_before → AskIs ours true o → KeepAlike ours h l
     → KeepAlike ours (history_answered o m now given h) (history_answered o n now given l)
-answered_alike ours None m n now given h l entries is alike = alike
-answered_alike ours (Some a) m n now given h l entries is alike =
-    token_alike ours (asks_of m.store.entries) a now (kept_token h a now) given h l alike
-    ∙ (λ i. filter (is_ours ours) (history_after_token (asks_of (entries i)) a now (kept_same ours h l a now alike is i) given l))
+answered_alike ours None m n now given h l entries renew is alike = alike
+answered_alike ours (Some a) m n now given h l entries renew is alike =
+    token_alike ours (asks_of m.store.entries) a now (kept_token (tokens_of m h) a now) given h l alike
+    ∙ (λ i. filter (is_ours ours) (history_after_token (asks_of (entries i)) a now (kept_same ours m n h l a now renew alike is i) given l))
 
 one_foreign : (b : Bool) (k : CachedToken) → b ≡ false → cond b (k ∷ []) [] ≡ []
 one_foreign true k is = absurd (cc is)
@@ -103,4 +104,4 @@ token_foreign ours asks a now None (Some t) h is = by_foreign ours (keep_verdict
 -- of a foreign ask no token of the set is kept
 pub answered_foreign : (ours : List ℕ → Bool) (o : Option JwtAsk) (m : Stored) (now : ℕ) (given : Option JwtToken) (h : List CachedToken) → AskIs ours false o → KeepAlike ours (history_answered o m now given h) h
 answered_foreign ours None m now given h is = refl
-answered_foreign ours (Some a) m now given h is = token_foreign ours (asks_of m.store.entries) a now (kept_token h a now) given h is
+answered_foreign ours (Some a) m now given h is = token_foreign ours (asks_of m.store.entries) a now (kept_token (tokens_of m h) a now) given h is

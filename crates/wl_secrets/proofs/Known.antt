@@ -15,7 +15,7 @@ use Rattle.wl_core.specs.declared.events.Event.{Event}
 use Rattle.wl_core.specs.declared.events.Event.TheVariants as events
 use Rattle.wl_core.specs.declared.seats.Seat.{Seat}
 use Rattle.wl_core.specs.Seats.{joined_seat, named_seat, told_seat, feed_seat, turn_seat}
-use Rattle.wl_core.specs.Tokens.{kept_token, outcome_of}
+use Rattle.wl_core.specs.Tokens.{KeptTokens, tokens_of, kept_token, outcome_of}
 use Rattle.wl_core.specs.Moments.{Beginning, Moment, moment, answer_ask, token_seat, ask_of_seat, publication, seat}
 use Rattle.wl_secrets.specs.Sides.{Attested, joined_as, named_as, attested_after, attested, Covers, IsOnSide, Side}
 use Rattle.wl_secrets.proofs.Calls.{Bounds, CallerOn, SessionOn, CoversOn, feed_on, turn_on, outcome_on, AskOn, ask_on, session_looser}
@@ -77,7 +77,7 @@ turn_known ids x None (Some all) covers is = absurd is
 turn_known ids x (Some s) None covers is = absurd is
 turn_known ids x (Some s) (Some all) covers is = (is.0, turn_on (bounds ids all) x s.session covers is.1)
 
-answer_on : (on : Bounds) (h : List CachedToken) (now : ℕ) (given : Option JwtToken) (s : Seat) (o : Option JwtAsk) → SessionOn on s.session → SessionOn on (answer_ask h now given s o).after
+answer_on : (on : Bounds) (h : KeptTokens) (now : ℕ) (given : Option JwtToken) (s : Seat) (o : Option JwtAsk) → SessionOn on s.session → SessionOn on (answer_ask h now given s o).after
 answer_on on h now given s None is = is
 answer_on on h now given s (Some a) is = outcome_on on (outcome_of (kept_token h a now) given now) s.session is
 
@@ -102,8 +102,8 @@ known_step ids (events.Feed k piece) conn m o a covers is =
 known_step ids (events.Turn k) conn m o a covers is =
     one_of (λ (q : Option Seat). Known ids q a) (k == conn) (told_seat (turn_seat m.stored.published) o) o (turn_known ids m.stored.published o a covers is) is
 known_step ids (events.Token k now given) conn m o a covers is =
-    one_of (λ (q : Option Seat). Known ids q a) (k == conn) (told_seat (token_seat m.history now given) o) o
-    (told_known ids (token_seat m.history now given) (λ on s by on_s. answer_on on m.history now given s (asks_in s.session) on_s) o a is) is
+    one_of (λ (q : Option Seat). Known ids q a) (k == conn) (told_seat (token_seat (tokens_of m.stored m.history) now given) o) o
+    (told_known ids (token_seat (tokens_of m.stored m.history) now given) (λ on s by on_s. answer_on on (tokens_of m.stored m.history) now given s (asks_in s.session) on_s) o a is) is
 known_step ids (events.Close k) conn m o a covers is = pair_of (Known ids) (k == conn) None o None a tt is
 
 -- ---- a run

@@ -14,7 +14,7 @@ use Rattle.wl_core.specs.declared.events.Event.{Event}
 use Rattle.wl_core.specs.declared.events.Event.TheVariants as events
 use Rattle.wl_core.specs.declared.seats.Seat.{Seat}
 use Rattle.wl_core.specs.Seats.{seat_at, with_session, joined_seat, named_seat, told_seat, feed_seat, turn_seat}
-use Rattle.wl_core.specs.Tokens.{kept_token, outcome_of}
+use Rattle.wl_core.specs.Tokens.{KeptTokens, tokens_of, kept_token, outcome_of}
 use Rattle.wl_core.specs.Moments.{Beginning, Moment, moment, moment_after, answer_ask, token_seat, ask_of_seat, seat}
 use Rattle.wl_core.specs.Traces.{ask_items, gain, joined_trace, trace_after}
 use Rattle.wl_core.proofs.Readiness.{room_after}
@@ -32,7 +32,7 @@ seat_step (events.Join k selectors) conn m o = if k == conn then joined_seat sel
 seat_step (events.Name k caller) conn m o = if k == conn then named_seat caller o else o
 seat_step (events.Feed k piece) conn m o = if k == conn then told_seat (feed_seat piece) o else o
 seat_step (events.Turn k) conn m o = if k == conn then told_seat (turn_seat m.stored.published) o else o
-seat_step (events.Token k now given) conn m o = if k == conn then told_seat (token_seat m.history now given) o else o
+seat_step (events.Token k now given) conn m o = if k == conn then told_seat (token_seat (tokens_of m.stored m.history) now given) o else o
 seat_step (events.Close k) conn m o = if k == conn then None else o
 
 pub same_conn : (k conn : ℕ) → (k == conn) ≡ true → k ≡ conn
@@ -57,7 +57,7 @@ seat_after (events.Join k selectors) conn m within = set_go m.seats k conn (join
 seat_after (events.Name k caller) conn m within = set_go m.seats k conn (named_seat caller) (k == conn) refl within
 seat_after (events.Feed k piece) conn m within = set_go m.seats k conn (told_seat (feed_seat piece)) (k == conn) refl within
 seat_after (events.Turn k) conn m within = set_go m.seats k conn (told_seat (turn_seat m.stored.published)) (k == conn) refl within
-seat_after (events.Token k now given) conn m within = set_go m.seats k conn (told_seat (token_seat m.history now given)) (k == conn) refl within
+seat_after (events.Token k now given) conn m within = set_go m.seats k conn (told_seat (token_seat (tokens_of m.stored m.history) now given)) (k == conn) refl within
 seat_after (events.Close k) conn m within = set_go m.seats k conn (λ o. None) (k == conn) refl within
 
 pub room : (d : Beginning) (past : List Event) → length (moment d past).seats ≡ CONNS
@@ -94,11 +94,11 @@ gain_bare more is (Some s) (Some items) = ap (λ (xs : List Item). Some (items +
 pub gain_alike : (more : Seat → List Item → List Item) → ((s : Seat) (items : List Item) → more s items ≡ more (bare_seat s) items) → (o p : Option Seat) (tr ts : Option (List Item)) → bare o ≡ bare p → tr ≡ ts → gain more o tr ≡ gain more p ts
 gain_alike more is o p tr ts same also = gain_bare more is o tr ∙ ((λ i. gain more (same i) (also i)) ∙ sym (gain_bare more is p ts))
 
-ask_told : (h : List CachedToken) (now : ℕ) (given : Option JwtToken) (s : Seat) (o : Option JwtAsk) → unshown (answer_ask h now given s o).after ≡ unshown (answer_ask h now given (bare_seat s) o).after
+ask_told : (h : KeptTokens) (now : ℕ) (given : Option JwtToken) (s : Seat) (o : Option JwtAsk) → unshown (answer_ask h now given s o).after ≡ unshown (answer_ask h now given (bare_seat s) o).after
 ask_told h now given s None = sym (unshown_twice s.session)
 ask_told h now given s (Some a) = outcome_unshown (outcome_of (kept_token h a now) given now) s.session
 
-token_bare : (h : List CachedToken) (now : ℕ) (given : Option JwtToken) (s : Seat) → unshown (token_seat h now given s).after ≡ unshown (token_seat h now given (bare_seat s)).after
+token_bare : (h : KeptTokens) (now : ℕ) (given : Option JwtToken) (s : Seat) → unshown (token_seat h now given s).after ≡ unshown (token_seat h now given (bare_seat s)).after
 token_bare h now given s =
     ask_told h now given s (asks_in s.session) ∙ ap (λ (o : Option JwtAsk). unshown (answer_ask h now given (bare_seat s) o).after) (asks_unshown s.session)
 
@@ -116,8 +116,8 @@ ask_alike o p same = ask_bare o ∙ (ap ask_of_seat same ∙ sym (ask_bare p))
 pub record Near (m n : Moment) (o : Option Seat) : Type 0 where
   pub turn : bare (told_seat (turn_seat m.stored.published) o) ≡ bare (told_seat (turn_seat n.stored.published) o)
   pub turn_items : (tr : Option (List Item)) → gain (λ s before. turn_items m.stored.published s.session before) o tr ≡ gain (λ s before. turn_items n.stored.published s.session before) o tr
-  pub token : (now : ℕ) (given : Option JwtToken) → bare (told_seat (token_seat m.history now given) o) ≡ bare (told_seat (token_seat n.history now given) o)
-  pub token_items : (now : ℕ) (given : Option JwtToken) (tr : Option (List Item)) → gain (λ s before. ask_items m.history now given (asks_in s.session)) o tr ≡ gain (λ s before. ask_items n.history now given (asks_in s.session)) o tr
+  pub token : (now : ℕ) (given : Option JwtToken) → bare (told_seat (token_seat (tokens_of m.stored m.history) now given) o) ≡ bare (told_seat (token_seat (tokens_of n.stored n.history) now given) o)
+  pub token_items : (now : ℕ) (given : Option JwtToken) (tr : Option (List Item)) → gain (λ s before. ask_items (tokens_of m.stored m.history) now given (asks_in s.session)) o tr ≡ gain (λ s before. ask_items (tokens_of n.stored n.history) now given (asks_in s.session)) o tr
 
 either : {X : Type 0} (b : Bool) (x y z w : X) → x ≡ y → z ≡ w → (if b then x else z) ≡ (if b then y else w)
 either true x y z w one two = one
@@ -150,8 +150,8 @@ step_alike (events.Turn k) conn m n o p near same =
     let x = n.stored.published in
     pick (k == conn) (told_seat (turn_seat m.stored.published) o) (told_seat (turn_seat x) p) o p (near.turn ∙ told_alike (turn_seat x) (λ s. turn_unshown x s.session) o p same) same
 step_alike (events.Token k now given) conn m n o p near same =
-    pick (k == conn) (told_seat (token_seat m.history now given) o) (told_seat (token_seat n.history now given) p) o p
-    (near.token now given ∙ told_alike (token_seat n.history now given) (token_bare n.history now given) o p same) same
+    pick (k == conn) (told_seat (token_seat (tokens_of m.stored m.history) now given) o) (told_seat (token_seat (tokens_of n.stored n.history) now given) p) o p
+    (near.token now given ∙ told_alike (token_seat (tokens_of n.stored n.history) now given) (token_bare (tokens_of n.stored n.history) now given) o p same) same
 step_alike (events.Close k) conn m n o p near same = pick (k == conn) None None o p refl same
 
 pub trace_alike : (e : Event) (conn : ℕ) (m n : Moment) (tr ts : Option (List Item)) → Near m n (seat_at m.seats conn) → bare (seat_at m.seats conn) ≡ bare (seat_at n.seats conn) → tr ≡ ts → trace_after e conn m tr ≡ trace_after e conn n ts
@@ -170,9 +170,9 @@ trace_alike (events.Turn k) conn m n tr ts near same also =
     either (k == conn) (gain (λ s before. turn_items m.stored.published s.session before) (seat_at m.seats conn) tr) (gain more (seat_at n.seats conn) ts) tr ts
     (near.turn_items tr ∙ gain_alike more (λ s items. turn_items_unshown n.stored.published s.session items) (seat_at m.seats conn) (seat_at n.seats conn) tr ts same also) also
 trace_alike (events.Token k now given) conn m n tr ts near same also =
-    let more : Seat → List Item → List Item = λ s before. ask_items n.history now given (asks_in s.session) in
-    either (k == conn) (gain (λ s before. ask_items m.history now given (asks_in s.session)) (seat_at m.seats conn) tr) (gain more (seat_at n.seats conn) ts) tr ts
-    (near.token_items now given tr ∙ gain_alike more (λ s items. ap (ask_items n.history now given) (asks_unshown s.session)) (seat_at m.seats conn) (seat_at n.seats conn) tr ts same also) also
+    let more : Seat → List Item → List Item = λ s before. ask_items (tokens_of n.stored n.history) now given (asks_in s.session) in
+    either (k == conn) (gain (λ s before. ask_items (tokens_of m.stored m.history) now given (asks_in s.session)) (seat_at m.seats conn) tr) (gain more (seat_at n.seats conn) ts) tr ts
+    (near.token_items now given tr ∙ gain_alike more (λ s items. ap (ask_items (tokens_of n.stored n.history) now given) (asks_unshown s.session)) (seat_at m.seats conn) (seat_at n.seats conn) tr ts same also) also
 trace_alike (events.Close k) conn m n tr ts near same also = either (k == conn) None None tr ts refl also
 
 -- ---- sessions that are near
@@ -192,23 +192,23 @@ turn_items_near on x y (Some s) None shows is = refl
 turn_items_near on x y (Some s) (Some items) shows is = ap (λ (xs : List Item). Some (items ++ xs)) (turn_items_same on x y s.session items shows is)
 
 -- the same token is found for the ask that waits
-abbrev pub FoundAlike : List CachedToken → List CachedToken → Option JwtAsk → Type 0
+abbrev pub FoundAlike : KeptTokens → KeptTokens → Option JwtAsk → Type 0
 FoundAlike h l None = Unit {0}
 FoundAlike h l (Some a) = (now : ℕ) → kept_token h a now ≡ kept_token l a now
 
-answer_near : (h l : List CachedToken) (now : ℕ) (given : Option JwtToken) (s : Seat) (o : Option JwtAsk) → FoundAlike h l o → answer_ask h now given s o ≡ answer_ask l now given s o
+answer_near : (h l : KeptTokens) (now : ℕ) (given : Option JwtToken) (s : Seat) (o : Option JwtAsk) → FoundAlike h l o → answer_ask h now given s o ≡ answer_ask l now given s o
 answer_near h l now given s None found = refl
 answer_near h l now given s (Some a) found = ap (λ (t : Option JwtToken). outcome_told (outcome_of t given now) s.session) (found now)
 
-pub token_near : (h l : List CachedToken) (now : ℕ) (given : Option JwtToken) (o : Option Seat) → FoundAlike h l (ask_of_seat o) → bare (told_seat (token_seat h now given) o) ≡ bare (told_seat (token_seat l now given) o)
+pub token_near : (h l : KeptTokens) (now : ℕ) (given : Option JwtToken) (o : Option Seat) → FoundAlike h l (ask_of_seat o) → bare (told_seat (token_seat h now given) o) ≡ bare (told_seat (token_seat l now given) o)
 token_near h l now given None found = refl
 token_near h l now given (Some s) found = ap (λ (t : Told). bare (Some (with_session t.after s))) (answer_near h l now given s (asks_in s.session) found)
 
-items_near : (h l : List CachedToken) (now : ℕ) (given : Option JwtToken) (o : Option JwtAsk) → FoundAlike h l o → ask_items h now given o ≡ ask_items l now given o
+items_near : (h l : KeptTokens) (now : ℕ) (given : Option JwtToken) (o : Option JwtAsk) → FoundAlike h l o → ask_items h now given o ≡ ask_items l now given o
 items_near h l now given None found = refl
 items_near h l now given (Some a) found = ap (λ (t : Option JwtToken). OutcomeItem (outcome_of t given now) ∷ []) (found now)
 
-pub token_items_near : (h l : List CachedToken) (now : ℕ) (given : Option JwtToken) (o : Option Seat) (tr : Option (List Item)) → FoundAlike h l (ask_of_seat o)
+pub token_items_near : (h l : KeptTokens) (now : ℕ) (given : Option JwtToken) (o : Option Seat) (tr : Option (List Item)) → FoundAlike h l (ask_of_seat o)
     → gain (λ s before. ask_items h now given (asks_in s.session)) o tr ≡ gain (λ s before. ask_items l now given (asks_in s.session)) o tr
 token_items_near h l now given None tr found = refl
 token_items_near h l now given (Some s) None found = refl

@@ -1,9 +1,10 @@
--- What a host prepares (own rules): one seat for each socket of the configuration, in its order, of which nothing was used.
-use Rattle.std.specs.Prelude.{◌≡◌, ⊤, ℕ, ◌+◌, List, [], ◌∷◌, None, IsSome, IfSome}
-use Rattle.wl_edge.specs.Listeners.{BoundSocket}
+-- What a host prepares (own rules): seats, to which the sockets of the configuration are dealt out, of which nothing was used.
+use Rattle.std.specs.Prelude.{◌≡◌, ℕ, min, List, [], length, map, None, IsSome, IfSome}
+use Rattle.std.specs.List.{AllZip, range_with_len}
 use Rattle.wl_config.specs.declared.config.SocketFact.{SocketFact}
 use Rattle.wl_config.specs.Configs.{Configuration}
 use Rattle.wl_serve.specs.Views.{SeatView, PartsView}
+use Rattle.wl_dealing.specs.Dealt.{dealt, socket_of, room_of}
 
 -- all that a seat holds tells its content, except its asks
 pub record IsTold (v : SeatView) : Type 0 where
@@ -23,33 +24,30 @@ pub record IsUnused (v : SeatView) : Type 0 where
   pub ask_count : v.ask_faults ≡ 0
   pub starved_count : v.starved ≡ 0
 
--- the socket of this number
-abbrev pub socket_of : ℕ → SocketFact → BoundSocket
-socket_of number fact = record { selectors = fact.selectors; number = number }
+-- The listener's sockets are these, if they are known.
+abbrev pub ListensAt : List (ℕ × SocketFact) → SeatView → Type 0
+ListensAt dealt v = IfSome v.sockets (λ sockets. sockets ≡ map socket_of dealt)
 
--- The listener's sockets are this one alone, if they are known.
-abbrev pub ListensAt : ℕ → SocketFact → SeatView → Type 0
-ListensAt number fact v = IfSome v.sockets (λ sockets. sockets ≡ socket_of number fact ∷ [])
-
--- the seat of the socket of this number
-pub record IsSeat (tells : Type 0) (number : ℕ) (fact : SocketFact) (v : SeatView) : Type 0 where
-  pub sockets : ListensAt number fact v
-  pub room : v.room ≡ fact.connections
+-- a seat that serves these sockets
+pub record IsSeat (tells : Type 0) (dealt : List (ℕ × SocketFact)) (v : SeatView) : Type 0 where
+  pub sockets : ListensAt dealt v
+  pub room : v.room ≡ room_of dealt
   pub pass : v.pass ≡ None
   pub end : v.end ≡ None
   pub unused : IsUnused v
   pub told : tells → IsTold v
 
--- the seats of these sockets, numbered from this one on
+-- n seats, to which these sockets were dealt out
 abbrev pub AreSeats : Type 0 → ℕ → List SocketFact → List SeatView → Type 0
-AreSeats tells n [] [] = ⊤
-AreSeats tells n [] (v ∷ vs) = ⊥
-AreSeats tells n (s ∷ ss) [] = ⊥
-AreSeats tells n (s ∷ ss) (v ∷ vs) = IsSeat tells n s v × AreSeats tells (n + 1) ss vs
+AreSeats tells n sockets seats = AllZip (λ seat v. IsSeat tells (dealt n seat sockets) v) (range_with_len 0 n) seats
+
+-- how many seats serve a configuration: one a thread, and none without a socket
+abbrev pub seat_count : Configuration → ℕ
+seat_count c = min c.threads (length c.sockets)
 
 -- what was prepared for a configuration
 pub record IsPrepared (tells : Type 0) (c : Configuration) (v : PartsView) : Type 0 where
   pub upstream : IfSome v.upstream (λ log. log ≡ record { calls = []; number = 0 })
   pub upstream_told : tells → IsSome v.upstream
   pub upstream_faults : v.upstream_faults ≡ 0
-  pub seats : AreSeats tells 0 c.sockets v.seats
+  pub seats : AreSeats tells (seat_count c) c.sockets v.seats

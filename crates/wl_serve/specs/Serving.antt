@@ -1,6 +1,6 @@
 -- Serving: how it ends, and what stands of the parts then (own rules).
-use Rattle.std.specs.Prelude.{◌≡◌, ◌⊎◌, ⊤, ℕ, ◌+◌, Bool, true, false, if◌then◌else◌, List, [], ◌∷◌, ◌++◌, map, Option, Some, None, IfSome, IsSomeAnd, Result, Ok, Err}
-use Rattle.std.specs.List.{list_any, AllByRecursion, AllZip}
+use Rattle.std.specs.Prelude.{◌≡◌, ◌⊎◌, ℕ, Bool, true, false, if◌then◌else◌, List, [], ◌∷◌, ◌++◌, map, Option, Some, None, IfSome, IsSomeAnd, Result, Ok, Err}
+use Rattle.std.specs.List.{list_any, AllByRecursion, AllZip, range_with_len}
 use mathlib.Core.List.{IsPrefix}
 use Rattle.wl_edge.specs.Edge.{Rose}
 use Rattle.wl_edge.specs.Upstreams.{UpstreamLog, one_more}
@@ -23,7 +23,8 @@ use Rattle.wl_worker.specs.declared.seat.SeatEnd.{SeatEnd}
 use Rattle.wl_worker.specs.declared.seat.SeatEnd.TheVariants as seat
 use Rattle.wl_serve.specs.Views.{SeatView, PartsView, world_of}
 use Rattle.wl_serve.specs.Seating.{ServedFrom}
-use Rattle.wl_serve.specs.Prepared.{IsUnused, IsTold, ListensAt}
+use Rattle.wl_dealing.specs.Dealt.{dealt, room_of}
+use Rattle.wl_serve.specs.Prepared.{IsUnused, IsTold, ListensAt, seat_count}
 use Rattle.wl_serve.specs.declared.ending.ServeEnd.{ServeEnd}
 use Rattle.wl_serve.specs.declared.ending.ServeEnd.TheVariants.{Config, Unprepared, NoDocument, Document, HostFault, Memory, Done}
 
@@ -69,6 +70,10 @@ Pulled old new answer = IfSome old (λ log. new ≡ Some (record { calls = log.c
 abbrev pub PulledOn : Option UpstreamLog → Option UpstreamLog → List ℕ → Type 0
 PulledOn old new document = IfSome old (λ log. (later : List PullCall) × (number : ℕ) × (new ≡ Some (record { calls = (log.calls ++ pull_of (Some document) ∷ []) ++ later; number = number })) × Rose (one_more log.number) number)
 
+-- the upstream was asked once, and gave a document with no fault
+abbrev pub PulledFit : Option UpstreamLog → Option UpstreamLog → Type 0
+PulledFit old new = (document : List ℕ) × (state : State) × Pulled old new (Some document) × (document_state None document ≡ Ok state)
+
 -- ---- what becomes of seats and upstream
 
 -- By which relation tokens are vouched for, and whether links tell their content.
@@ -81,15 +86,16 @@ module _ (vouched : Ask → List (List ℕ) → JwtToken → Type 0) (links : Ty
     pub pulled : PulledOn old new document
     pub seats : AllZip (ServedFrom vouched links (first_of state)) before after
 
-  -- by the end: what became of them
-  abbrev pub SatTells : Option UpstreamLog → Option UpstreamLog → ℕ → ℕ → List SeatView → List SeatView → ServeEnd → Type 0
-  SatTells old new faults now before after (Config e) = ⊥
-  SatTells old new faults now before after Unprepared = ⊥
-  SatTells old new faults now before after NoDocument = (after ≡ before) × Rose faults now
-  SatTells old new faults now before after (Document e) = (after ≡ before) × ((document : List ℕ) × Pulled old new (Some document) × (document_state None document ≡ Err e))
-  SatTells old new faults now before after HostFault = Sat old new before after × (end_of (ends after) ≡ HostFault)
-  SatTells old new faults now before after Memory = (after ≡ before) ⊎ (Sat old new before after × (end_of (ends after) ≡ Memory))
-  SatTells old new faults now before after Done = Sat old new before after × (end_of (ends after) ≡ Done)
+  -- by the end: what became of them, with the host's counts of faults and the upstream's. Sockets that can't be opened end it once
+  -- the first document was taken, and no seat is served.
+  abbrev pub SatTells : ℕ → ℕ → Option UpstreamLog → Option UpstreamLog → ℕ → ℕ → List SeatView → List SeatView → ServeEnd → Type 0
+  SatTells was is old new faults now before after (Config e) = ⊥
+  SatTells was is old new faults now before after Unprepared = (after ≡ before) × Rose was is × PulledFit old new
+  SatTells was is old new faults now before after NoDocument = (after ≡ before) × Rose faults now
+  SatTells was is old new faults now before after (Document e) = (after ≡ before) × ((document : List ℕ) × Pulled old new (Some document) × (document_state None document ≡ Err e))
+  SatTells was is old new faults now before after HostFault = Sat old new before after × (end_of (ends after) ≡ HostFault)
+  SatTells was is old new faults now before after Memory = (after ≡ before) ⊎ (Sat old new before after × (end_of (ends after) ≡ Memory))
+  SatTells was is old new faults now before after Done = Sat old new before after × (end_of (ends after) ≡ Done)
 
 -- ---- what stands of the parts
 
@@ -115,6 +121,10 @@ NoneRan p = AllByRecursion (λ (v : SeatView). v.end ≡ None) p.seats
 abbrev pub GaveFaulted : Type 0 → DocFault → PartsView → Type 0
 GaveFaulted tells e p = (document : List ℕ) × (document_state None document ≡ Err e) × (tells → p.upstream ≡ Some (record { calls = pull_of (Some document) ∷ []; number = 1 }))
 
+-- The upstream's one call gave a document with no fault.
+abbrev pub GaveFit : Type 0 → PartsView → Type 0
+GaveFit tells p = (document : List ℕ) × (state : State) × (document_state None document ≡ Ok state) × (tells → p.upstream ≡ Some (record { calls = pull_of (Some document) ∷ []; number = 1 }))
+
 -- The same, and whether all that was prepared tells its content.
 module _ (vouched : Ask → List (List ℕ) → JwtToken → Type 0) (links tells : Type 0) where
   -- What a seat tended, from what it was when nothing of it was used.
@@ -127,24 +137,22 @@ module _ (vouched : Ask → List (List ℕ) → JwtToken → Type 0) (links tell
     pub mine : pass.mine ≡ []
     pub sent : links → (q : Passing) → v.pass ≡ Some q → Tells vouched v.room end (world_of unused pass) (world_of v q)
 
-  -- The seat of a socket was served. It has its end, which is what its listener's answers came to, and as many links were
+  -- A seat with these sockets was served. It has its end, which is what its listener's answers came to, and as many links were
   -- finished as it gave; a fault only where the count of what failed rose.
-  pub record SeatRan (from : Publication) (number : ℕ) (fact : SocketFact) (v : SeatView) : Type 0 where
+  pub record SeatRan (from : Publication) (dealt : List (ℕ × SocketFact)) (v : SeatView) : Type 0 where
     pub end : SeatEnd
     pub ended : v.end ≡ Some end
-    pub sockets : ListensAt number fact v
-    pub room : v.room ≡ fact.connections
+    pub sockets : ListensAt dealt v
+    pub room : v.room ≡ room_of dealt
     pub first : SawFirst from v.pass
     pub listened : tells → IsSomeAnd v.listener (FinishesAll end unheard)
     pub tended : HasTended from v end
     pub listen : end ≡ seat.ListenFault → Rose 0 v.listener_faults
     pub wait : end ≡ seat.WaitFault → Rose 0 v.ready_faults
 
+  -- each of n seats, to which these sockets were dealt out
   abbrev pub AllRan : Publication → ℕ → List SocketFact → List SeatView → Type 0
-  AllRan first n [] [] = ⊤
-  AllRan first n [] (v ∷ vs) = ⊥
-  AllRan first n (s ∷ ss) [] = ⊥
-  AllRan first n (s ∷ ss) (v ∷ vs) = SeatRan first n s v × AllRan first (n + 1) ss vs
+  AllRan first n sockets seats = AllZip (λ seat v. SeatRan first (dealt n seat sockets) v) (range_with_len 0 n) seats
 
   -- All seats were served, from publication 0 of the first document that the upstream gave.
   pub record Ran (c : Configuration) (p : PartsView) : Type 0 where
@@ -152,12 +160,13 @@ module _ (vouched : Ask → List (List ℕ) → JwtToken → Type 0) (links tell
     pub state : State
     pub is : document_state None document ≡ Ok state
     pub pulled : tells → IsSomeAnd p.upstream (WasPulled document)
-    pub seats : AllRan (first_of state) 0 c.sockets p.seats
+    pub seats : AllRan (first_of state) (seat_count c) c.sockets p.seats
 
-  -- How serving by a configuration ended, with the parts that were prepared for it, and the host's count of faults.
+  -- How serving by a configuration ended, with the parts that were prepared for it, and the host's count of faults. Where it ended
+  -- unprepared with parts, their sockets could not be opened once the first document was taken.
   abbrev pub EndTells : Configuration → ℕ → ℕ → Option PartsView → ServeEnd → Type 0
   EndTells c before now parts (Config e) = ⊥
-  EndTells c before now parts Unprepared = (parts ≡ None) × Rose before now
+  EndTells c before now parts Unprepared = Rose before now × IfSome parts (λ p. NoneRan p × GaveFit tells p)
   EndTells c before now parts NoDocument = IsSomeAnd parts (λ p. NoneRan p × Rose 0 p.upstream_faults)
   EndTells c before now parts (Document e) = IsSomeAnd parts (λ p. NoneRan p × GaveFaulted tells e p)
   EndTells c before now parts HostFault = IsSomeAnd parts (λ p. Ran c p × (end_of (ends p.seats) ≡ HostFault))

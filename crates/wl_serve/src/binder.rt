@@ -16,8 +16,8 @@ use wl_edge::{Attestor, Bell, Clock, EdgeFault, Gate, Listener, Ready, Signer, U
 use wl_octets::Row;
 use wl_worker::{AskHub, Seat, SeatAsks};
 
-/// What a host prepared: a seat for each socket, in the order of the configuration, with a bell for each, and what
-/// upkeep needs.
+/// What a host prepared: seats, to which the sockets of the configuration were dealt out, with a bell for each, and what upkeep
+/// needs.
 #[derive(Drop)]
 pub struct Parts<B: Binder>
 where
@@ -44,7 +44,7 @@ impl<B: Binder> PartsShown for Parts<B> {
     } };
 }
 
-/// Binds the sockets of a configuration, and makes all that serving needs.
+/// Binds the sockets of a configuration, and makes all that serving needs. Peers find the sockets once they are opened.
 pub trait Binder {
     type Up: Upstream + Drop;
 
@@ -68,7 +68,7 @@ pub trait Binder {
     /// How often a call has failed. It never falls; at 2^64-1 it stays.
     ghost faults: { Self → ℕ };
 
-    /// Prepares what this configuration names. Nothing of it was used yet, and no seat has its pass.
+    /// Prepares what this configuration names. Nothing of it was used yet, no seat has its pass, and no peer finds the sockets.
     fn prepare<R: Threads + Wait + Sync>(
         &mut self,
         rt: &R,
@@ -82,6 +82,11 @@ pub trait Binder {
         })) }
         ensures signers { IfOk result (λ p. 0 < length p.upkeep.signers.items) }
         ensures bells { IfOk result (λ p. length p.bells ≡ length p.seats.items) }
+        ensures failed { IsErrOf result EdgeFault.Failed → Rose (faults self.old) (faults self.new) }
+        ensures later { faults self.old ≤ faults self.new };
+
+    /// From now on peers find the sockets that it prepared.
+    fn open(&mut self, alloc: Global) -> Result<(), EdgeFault>
         ensures failed { IsErrOf result EdgeFault.Failed → Rose (faults self.old) (faults self.new) }
         ensures later { faults self.old ≤ faults self.new };
 }

@@ -15,7 +15,7 @@ use wl_worker::{Seat, SeatEnd};
 pub enum ServeEnd {
     /// The configuration has this fault, and nothing was prepared.
     Config(ConfigFault),
-    /// The host could not prepare what the configuration names.
+    /// The host could not prepare what the configuration names, or, once the first document was taken, not open its sockets.
     Unprepared,
     /// The upstream gave no first document.
     NoDocument,

@@ -1,5 +1,5 @@
-//! Serving: what a host prepares is served, a thread for each socket and upkeep beside them, until every seat has
-//! ended.
+//! Serving: what a host prepares is served, a thread for each seat and upkeep beside them, until every seat has ended. The
+//! sockets of the configuration are dealt out to the seats.
 //!
 //! [`serve`] reads a configuration, has a [`Binder`] prepare the [`Parts`], pulls the first document, and serves. What it
 //! comes to is a [`ServeEnd`], which is a function of the seats' ends where they were served. A [`MemoryHost`] is a host

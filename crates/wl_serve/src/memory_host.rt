@@ -7,10 +7,11 @@ use crate::binder::{Binder, Parts};
 use crate::making::{SeatMaker, make_seats};
 use crate::memory_ready::CountedReady;
 use crate::upkeep::Upkeep;
-use std::alloc::{AllocError, Global};
+use std::alloc::Global;
 use std::sync::{Arc, Wait};
 use std::thread::Threads;
 use wl_config::{Config, SocketFact};
+use wl_dealing::{deal, room_of, seat_count};
 use wl_edge::{
     EdgeFault, Gate, ListenerPlan, MemoryAttestor, MemoryBell, MemoryClock, MemoryListener,
     MemorySigner, MemoryUpstream, Script,
@@ -42,29 +43,35 @@ pub struct HostPlan<G> {
     pub keeper_times: Row<u64>,
     pub signer_times: Row<u64>,
     pub gate: G,
-    /// For each socket, that of the first one last.
+    /// Whether its sockets can't be opened.
+    pub is_shut: bool,
+    /// For each seat, that of the first one last. The links of a listener may come over several sockets.
     pub seats: Vec<SeatPlan>,
 }
 
-/// A host in memory, which prepares what it plans, once. Without a plan, and where sockets are more than its seats, it
+/// A host in memory, which prepares what it plans, once. Without a plan, and where more seats are needed than it plans, it
 /// fails.
 #[derive(Drop)]
 pub struct MemoryHost<G> {
     plan: Option<HostPlan<G>>,
+    /// Whether its sockets can't be opened.
+    is_shut: bool,
     faults: u64,
 }
 
 /// A seat in memory.
 type MemorySeat = Seat<MemoryListener, SeatAsks<Free>, MemoryAttestor, MemoryClock, CountedReady>;
 
-/// The plans of the seats that are left to be made, that of the next socket last.
+/// What is left of a plan while seats are made: those of the seats that are still to be made, that of the next one last, and the
+/// gate.
 #[derive(Drop)]
-struct SeatsLeft {
+struct SeatsLeft<G> {
     plans: Vec<SeatPlan>,
     hub: Arc<AskHub<Free>>,
+    gate: G,
 }
 
-impl SeatMaker for SeatsLeft {
+impl<G: Drop> SeatMaker for SeatsLeft<G> {
     type Seat = MemorySeat;
 
     type Ring = MemoryBell;
@@ -74,9 +81,11 @@ impl SeatMaker for SeatsLeft {
     fn make_seat(
         &mut self,
         alloc: Global,
-        number: u32,
-        fact: &SocketFact,
+        seat: u32,
+        seats: u32,
+        sockets: &[SocketFact],
     ) -> Result<(MemorySeat, MemoryBell), EdgeFault> {
+        let dealt = deal(alloc, sockets, seats, seat)?;
         let Some(plan) = self.plans.pop() else {
             return Err(EdgeFault::Failed);
         };
@@ -88,15 +97,16 @@ impl SeatMaker for SeatsLeft {
         } = plan;
         let seat = Seat {
             listener: MemoryListener::start(alloc, listener)?,
-            asks: SeatAsks::start(alloc, &self.hub, number)?,
+            asks: SeatAsks::start(alloc, &self.hub, seat)?,
             connections: 0,
             attestor: MemoryAttestor::start(alloc, selectors),
             clock: MemoryClock::start(times),
             pass: None,
             end: None,
             ready: CountedReady::start(alloc, failing),
-            room: fact.connections,
+            room: room_of(dealt.as_slice()),
             starved: 0,
+            budget: u64::MAX,
         };
         Ok((seat, MemoryBell::start()))
     }
@@ -107,7 +117,13 @@ fn two_owners(
     alloc: Global,
     config: &Config,
 ) -> Result<(Arc<AskHub<Free>>, Arc<AskHub<Free>>), Memory> {
-    let hub = AskHub::start(alloc, config.sockets.len(), 1)?;
+    let sockets = config.sockets.as_slice();
+    let hub = AskHub::start(
+        alloc,
+        seat_count(config.threads, sockets) as usize,
+        sockets.len(),
+        1,
+    )?;
     let other = Arc::try_clone(&hub)?;
     Ok((hub, other))
 }
@@ -118,7 +134,7 @@ fn one_signer(
     identities: Script<Signed>,
     tokens: Script<JwtToken>,
     times: Row<u64>,
-) -> Result<Vec<Signing<MemorySigner, MemoryClock>>, AllocError>
+) -> Result<Vec<Signing<MemorySigner, MemoryClock>>, Memory>
     ensures { IfOk result (λ s. 0 < length s.items) }
 {
     let mut signers = Vec::new(alloc);
@@ -132,7 +148,15 @@ fn one_signer(
 impl<G> MemoryHost<G> {
     /// A host of this plan, if any.
     pub fn start(plan: Option<HostPlan<G>>) -> MemoryHost<G> {
-        MemoryHost { plan, faults: 0 }
+        let is_shut = match &plan {
+            Some(plan) => plan.is_shut,
+            None => false,
+        };
+        MemoryHost {
+            plan,
+            is_shut,
+            faults: 0,
+        }
     }
 
     /// One fault more.
@@ -184,23 +208,23 @@ impl<G: Gate + Sync + Drop> Binder for MemoryHost<G> {
             keeper_times,
             signer_times,
             gate,
+            is_shut: _,
             seats,
         } = plan;
-        let Ok((hub, shared)) = two_owners(alloc, config) else {
-            return Err(EdgeFault::Memory);
-        };
+        let (hub, shared) = two_owners(alloc, config)?;
         let mut left = SeatsLeft {
             plans: seats,
             hub: shared,
+            gate,
         };
-        let (seats, bells) = match make_seats(alloc, &mut left, config.sockets.as_slice()) {
+        let sockets = config.sockets.as_slice();
+        let (seats, bells) = match make_seats(alloc, &mut left, config.threads, sockets) {
             Ok(both) => both,
             Err(EdgeFault::Failed) => return Err(self.failed()),
             Err(EdgeFault::Memory) => return Err(EdgeFault::Memory),
         };
-        let Ok(signers) = one_signer(alloc, identities, tokens, signer_times) else {
-            return Err(EdgeFault::Memory);
-        };
+        let signers = one_signer(alloc, identities, tokens, signer_times)?;
+        let SeatsLeft { gate, .. } = left;
         Ok(Parts {
             upkeep: Upkeep {
                 upstream: MemoryUpstream::start(alloc, documents),
@@ -213,5 +237,12 @@ impl<G: Gate + Sync + Drop> Binder for MemoryHost<G> {
             seats,
             bells,
         })
+    }
+
+    fn open(&mut self, _alloc: Global) -> Result<(), EdgeFault> {
+        if self.is_shut {
+            return Err(self.failed());
+        }
+        Ok(())
     }
 }

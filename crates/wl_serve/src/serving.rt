@@ -117,8 +117,9 @@ fn serve_manager<
     Ok(())
 }
 
-/// Pulls the first document, and serves the seats from its publication on.
+/// Pulls the first document, has the host open its sockets, and serves the seats from the document's publication on.
 fn serve_first<
+    H: Binder,
     L: Listener + Send,
     S: Signer + Send,
     A: Attestor + Send,
@@ -131,6 +132,7 @@ fn serve_first<
 >(
     rt: &R,
     alloc: Global,
+    host: &mut H,
     hub: &Arc<AskHub<S::V>>,
     gate: &G,
     bells: &[B],
@@ -142,6 +144,7 @@ fn serve_first<
     requires idle { AllByRecursion IsIdle (map ⟦<Seat<L, SeatAsks<S::V>, A, C, P> as SeatShown>⟧.shown seats.old) }
     requires signers { 0 < length upkeep.old.signers.items }
     ensures { SatTells S.V.token ((l : L.L) → IsSome (L.L.told l))
+        (H.faults host.old) (H.faults host.new)
         (U.told upkeep.old.upstream) (U.told upkeep.new.upstream)
         (U.faults upkeep.old.upstream) (U.faults upkeep.new.upstream)
         (map ⟦<Seat<L, SeatAsks<S::V>, A, C, P> as SeatShown>⟧.shown seats.old)
@@ -160,16 +163,22 @@ fn serve_first<
             fault => return ServeEnd::Document(fault),
         },
     };
+    match host.open(alloc) {
+        Ok(()) => {}
+        Err(EdgeFault::Failed) => return ServeEnd::Unprepared,
+        Err(EdgeFault::Memory) => return ServeEnd::Memory,
+    }
     match serve_manager(rt, alloc, manager, hub, gate, bells, upkeep, seats) {
         Ok(()) => end_of_all(seats),
         Err(Memory) => ServeEnd::Memory,
     }
 }
 
-/// Serves what was prepared.
+/// Serves what the host prepared.
 fn serve_parts<B: Binder, R: Threads + Wait + Sync>(
     rt: &R,
     alloc: Global,
+    host: &mut B,
     parts: &mut Parts<B>,
 ) -> ServeEnd
     requires some { 0 < length parts.old.seats.items }
@@ -177,6 +186,7 @@ fn serve_parts<B: Binder, R: Threads + Wait + Sync>(
     requires idle { AllByRecursion IsIdle (⟦<Parts<B> as PartsShown>⟧.shown parts.old).seats }
     requires signers { 0 < length parts.old.upkeep.signers.items }
     ensures { SatTells B.Sign.V.token ((l : B.Listen.L) → IsSome (B.Listen.L.told l))
+        (B.faults host.old) (B.faults host.new)
         (⟦<Parts<B> as PartsShown>⟧.shown parts.old).upstream
         (⟦<Parts<B> as PartsShown>⟧.shown parts.new).upstream
         (⟦<Parts<B> as PartsShown>⟧.shown parts.old).upstream_faults
@@ -187,6 +197,7 @@ fn serve_parts<B: Binder, R: Threads + Wait + Sync>(
     serve_first(
         rt,
         alloc,
+        host,
         &parts.hub,
         &parts.gate,
         parts.bells.as_slice(),
@@ -195,9 +206,9 @@ fn serve_parts<B: Binder, R: Threads + Wait + Sync>(
     )
 }
 
-/// Reads a configuration, has the host prepare what it names, pulls and judges the first document, and serves each seat
-/// in a thread of its own, with upkeep beside them, until all have ended. The store is strict. What was prepared is
-/// kept, for its counts and lists to be seen.
+/// Reads a configuration, has the host prepare what it names, pulls and judges the first document, has the host open its
+/// sockets, and serves each seat in a thread of its own, with upkeep beside them, until all have ended. The store is strict.
+/// What was prepared is kept, for its counts and lists to be seen.
 ///
 /// It may wait for as long as links stand, and returns once every seat has ended. After a seat that ended with a fault
 /// point 5 of the gate is passed ([`AFTER_FAILED_SEAT`](crate::AFTER_FAILED_SEAT)), so that the host can have the others end.
@@ -223,7 +234,7 @@ pub fn serve<B: Binder, R: Threads + Wait + Sync>(
         Err(EdgeFault::Failed) => return ServeEnd::Unprepared,
         Err(EdgeFault::Memory) => return ServeEnd::Memory,
     };
-    let end = serve_parts(rt, alloc, &mut parts);
+    let end = serve_parts(rt, alloc, host, &mut parts);
     *kept = Some(parts);
     end
 }

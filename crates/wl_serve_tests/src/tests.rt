@@ -5,6 +5,7 @@ mod failed_seats;
 mod failing;
 mod gates;
 mod hosts;
+mod many_sockets;
 mod neighbours;
 mod ordinary;
 mod refusals;

@@ -245,6 +245,12 @@ impl Session {
     {
         self.talk.begun()
     }
+
+    /// How many bytes it holds that are still to be written: control frames, and the messages of its streams. One that
+    /// several streams share counts for each. It takes no memory.
+    pub fn held(&self) -> usize {
+        self.talk.held()
+    }
 }
 
 /// Whether the last turn's publication had this number.

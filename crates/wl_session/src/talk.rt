@@ -415,4 +415,9 @@ impl Talk {
     {
         self.conn.begun()
     }
+
+    /// How many bytes its connection holds.
+    pub fn held(&self) -> usize {
+        self.conn.held()
+    }
 }

@@ -30,7 +30,7 @@ use Rattle.wl_worker.proofs.TakenRounds.{began}
 use Rattle.wl_worker.proofs.ConnectionRounds.{asked_added}
 use Rattle.wl_worker.proofs.SeatRounds.{adds, stands_on, took_fully}
 use Rattle.wl_worker.proofs.StarvedLinks.{beside_starves, beside_counts}
-use Rattle.wl_worker.proofs.SeatLaws.{HasNone, silent_on, failed_on, tending_none, tending_listened, tending_comes, tending_taken, tending_put, beside_aside, beside_weaken, beside_gains, beside_finishes, beside_breaks, tending_tends}
+use Rattle.wl_worker.proofs.SeatLaws.{HasNone, silent_on, failed_on, tending_none, tending_listened, tending_comes, tending_taken, tending_put, tending_moved, beside_weaken, beside_gains, beside_finishes, beside_breaks, tending_tends}
 
 -- ---- a round of the first link
 
@@ -75,10 +75,10 @@ module _ {connection : ℕ} (valid : Ask → Signed → Type 0) (vouched : Ask �
   runs_on (ends.Ended e) round on tells listener count signed times starved n past runs = absurd on
 
 module _ {next connection : ℕ} (valid : Ask → Signed → Type 0) (vouched : Ask → List (List ℕ) → JwtToken → Type 0) (first : SeatWorld) (sockets : Option (List BoundSocket)) (origin : Origin) (room listener_faults : ℕ) (old new : ServedState) (told told_now : Option LinkLog) (before now : Around) (r s t r2 s2 t2 : ℕ) (origin_now : Origin) (kept : origin_now ≡ origin) where
-  -- it goes to the end of the queue
+  -- it goes on
   pub going_round : (starved ready_faults : ℕ) (listener : Option ListenerLog) (xs : List Under) (end : RoundEnd) (round : RoundTells valid (asker connection vouched) origin old new told told_now before now end) → IsOn end → IsSome told
       → TendsOn vouched first (seat_view room next listener_faults ready_faults (seat_world sockets listener starved before)) (under connection (finished_link origin told r s t) old ∷ xs)
-      → TendsOn vouched first (seat_view room next listener_faults ready_faults (seat_world sockets listener starved now)) (xs ++ under connection (finished_link origin_now told_now r2 s2 t2) new ∷ [])
+      → TendsOn vouched first (seat_view room next listener_faults ready_faults (seat_world sockets listener starved now)) (under connection (finished_link origin_now told_now r2 s2 t2) new ∷ xs)
   going_round starved ready_faults listener xs end round on tells going =
       let u = under connection (finished_link origin told r s t) old in
       let v = under connection (finished_link origin_now told_now r2 s2 t2) new in
@@ -86,8 +86,8 @@ module _ {next connection : ℕ} (valid : Ask → Signed → Type 0) (vouched : 
       let x : SeatWorld = seat_world sockets listener starved now in
       let apart = tending_taken vouched first w 0 [] xs u going.0 in
       let gained = beside_gains (λ k n past. Runs k n u past) (λ k n past. Runs k n v past) vouched first w x 0 [] xs round.added round.signed round.times (adds valid (asker connection vouched) origin old new told told_now before now end round sockets listener starved) (runs_on valid vouched first sockets origin room listener_faults old new told told_now before now r s t r2 s2 t2 origin_now kept end round on tells listener starved) apart in (
-        tending_put vouched first x 0 xs [] v (beside_aside (λ k n past. Runs k n v past) vouched first x 0 xs gained),
-        omega (arith, going.1, length-append xs (v ∷ [])),
+        tending_put vouched first x 0 [] xs v gained,
+        omega (arith, going.1),
       )
 
   -- It was over, and is finished. Where memory ran out in it, it is counted.
@@ -114,16 +114,23 @@ module _ {next connection : ℕ} (valid : Ask → Signed → Type 0) (vouched : 
       )) counted in
       (beside_finishes vouched first x y [] xs f gained (rest_kept sockets sockets_now starved_now now sockets_kept) finishes, omega (arith, going.1))
 
--- ---- the queue
+-- ---- where links stand
 
 module _ (vouched : Ask → List (List ℕ) → JwtToken → Type 0) (first : SeatWorld) where
-  -- the first link waits for its turn
-  pub going_aside : (w : SeatView) (u : Under) (xs : List Under) → TendsOn vouched first w (u ∷ xs) → TendsOn vouched first w (xs ++ u ∷ [])
-  going_aside w u xs going =
-      let apart = tending_taken vouched first w.world 0 [] xs u going.0 in (
-        tending_put vouched first w.world 0 xs [] u (beside_aside (λ k n past. Runs k n u past) vouched first w.world 0 xs apart),
-        omega (arith, going.1, length-append xs (u ∷ [])),
-      )
+  -- a link comes to stand between others
+  pub going_moved : (w : SeatView) (u : Under) (front back front_then back_then : List Under) → front ++ back ≡ front_then ++ back_then → TendsOn vouched first w (front ++ u ∷ back) → TendsOn vouched first w (front_then ++ u ∷ back_then)
+  going_moved w u front back front_then back_then same going = (
+    tending_moved vouched first w.world 0 u front back front_then back_then same going.0,
+    omega (arith, going.1, length-append front (u ∷ back), length-append front_then (u ∷ back_then), length-append front back, length-append front_then back_then, ap length same),
+  )
+
+  -- the same, once the seat has ended
+  pub last_moved : (w : SeatView) (n : ℕ) (u : Under) (front back front_then back_then : List Under) → front ++ back ≡ front_then ++ back_then → TendsLast vouched first w n (front ++ u ∷ back) → TendsLast vouched first w n (front_then ++ u ∷ back_then)
+  last_moved w n u front back front_then back_then same left = (
+    left.0,
+    tending_moved vouched first w.world left.0 u front back front_then back_then same left.1,
+    omega (arith, left.2, length-append front (u ∷ back), length-append front_then (u ∷ back_then), length-append front back, length-append front_then back_then, ap length same),
+  )
 
   pub rest_on : (w : SeatView) (xs : List Under) → TendsOn vouched first w xs → TendsRest vouched first w xs
   rest_on w xs going = (0, going.0, omega (arith, going.1))
@@ -212,6 +219,26 @@ module _ (vouched : Ask → List (List ℕ) → JwtToken → Type 0) (first : Se
         fully_at (known vouched v signed times hungry) n told r s past none.1 (part_at (known vouched v signed times hungry) n told new past (runs_new (known vouched v signed times hungry) n told r s t new past fresh refl none.0.1)),
       )) counted in
       (subst (λ (l : List Under). Tending vouched (next + 1) first y 0 l) (append-nil xs) (beside_finishes vouched first v y xs [] f full (rest_kept sockets_now sockets_then starved_now around sockets_still) finishes), omega (arith, going.1))
+
+  starved_at : (k : Known) (n : ℕ) (told : Option LinkLog) (served : ServedState) (receives sends : ℕ) (past : List Round) → IsIn n k.starved → IfSome told (λ log. Stands log served k.seen past × AreJudged k n past) → IfSome told (λ log. Began log k.seen past × AreJudged k n past × (IsIn n k.starved ⊎ TookAllUnless receives sends log past))
+  starved_at k n told served receives sends past starved runs = fully_at k n told receives sends past starved (part_at k n told served past runs)
+
+  -- Memory ran out for a link that is served, and it is finished as it stands.
+  pub going_starves_served : {next : ℕ} (room listener_faults listens_now ready_faults faults_now starved starved_now : ℕ) (around : Around) (sockets sockets_now : Option (List BoundSocket)) (listener listener_now : Option ListenerLog) (u : Under) (xs : List Under)
+      → RoseBy 1 starved starved_now → sockets_now ≡ sockets → Finishes listener listener_now u.link
+      → TendsOn vouched first (seat_view room next listener_faults ready_faults (seat_world sockets listener starved around)) (u ∷ xs)
+      → TendsOn vouched first (seat_view room next listens_now faults_now (seat_world sockets_now listener_now starved_now around)) xs
+  going_starves_served {next} room listener_faults listens_now ready_faults faults_now starved starved_now around sockets sockets_now listener listener_now u xs rose sockets_kept finishes going =
+      let w : SeatWorld = seat_world sockets listener starved around in
+      let v : SeatWorld = seat_world sockets listener starved_now around in
+      let y : SeatWorld = seat_world sockets_now listener_now starved_now around in
+      let apart = tending_taken vouched first w 0 [] xs u going.0 in
+      let counted = beside_starves (λ k n past. Runs k n u past) vouched first sockets listener starved starved_now around 0 [] xs (λ signed times hungry n past runs. runs) rose apart in
+      let full = beside_weaken (λ k n past. Runs k n u past × IsIn n k.starved) (λ k n past. TookFully k n u.link past) vouched first v 0 [] xs (λ signed times hungry n past both. (
+        both.0.1,
+        starved_at (known vouched v signed times hungry) n u.link.log u.served u.link.failed_receives u.link.failed_sends past both.1 both.0.2,
+      )) counted in
+      (beside_finishes vouched first v y [] xs u.link full (rest_kept sockets sockets_now starved_now around sockets_kept) finishes, omega (arith, going.1))
 
   -- it could not be watched, and is finished at once
   pub rest_new : {next : ℕ} (origin : Origin) (room listener_faults ready_faults faults_now count_now starved : ℕ) (around : Around) (sockets sockets_now sockets_then : Option (List BoundSocket)) (listener listener_now listener_then : Option ListenerLog) (told : Option LinkLog) (r s t : ℕ) (xs : List Under)

@@ -15,6 +15,7 @@ pub mod RoundNumbers
 pub mod LinkEnds
 pub mod ConnectionRounds
 pub mod Determinacy
+pub mod SlotLinks
 pub mod SeatParts
 pub mod NumberedLinks
 pub mod SeatLaws
@@ -22,3 +23,4 @@ pub mod StarvedLinks
 pub mod SeatRounds
 pub mod AllLinks
 pub mod LinkParts
+pub mod SeatPlaces

@@ -1,7 +1,6 @@
 -- What the parts of a seat's serving do for its links, one after another.
-use Rattle.std.specs.Prelude.{◌≡◌, ◌⊎◌, ℕ, ◌+◌, ◌<◌, ◌≤◌, List, [], ◌∷◌, ◌++◌, length, map, Option, Some, IfSome, IsSome}
+use Rattle.std.specs.Prelude.{◌≡◌, ◌⊎◌, ℕ, ◌+◌, ◌<◌, ◌≤◌, List, [], ◌∷◌, ◌++◌, length, Option, Some, IfSome, IsSome}
 use Rattle.std.proofs.Common.{arith, refl, sym, ◌∙◌, subst}
-use Rattle.std.proofs.lemmas.List.{length-map}
 use Rattle.wl_entry.specs.declared.asks.Ask.{Ask}
 use Rattle.wl_entry.specs.declared.signing.Signed.{Signed}
 use Rattle.wl_entry.specs.declared.tokens.JwtToken.{JwtToken}
@@ -27,8 +26,11 @@ use Rattle.wl_worker.specs.Outcomes.{asker}
 use Rattle.wl_worker.specs.Served.{ServedState, Around, RoundTells}
 use Rattle.wl_worker.specs.Tended.{SeatWorld, seat_world, Tends}
 use Rattle.wl_worker.specs.Seating.{Under, under, finished_link, SeatView, seat_view, CountsStarved, seat_end_of, TendsRest, TendsBy, KeepsTending, FinishesTending}
+use Rattle.slab.specs.Slab.{Slab, slab_len}
+use Rattle.wl_worker.specs.Slots.{links_of}
+use Rattle.wl_worker.proofs.SlotLinks.{count_links}
 use Rattle.wl_worker.proofs.SeatParts.{IsOnStep}
-use Rattle.wl_worker.proofs.AllLinks.{IsOn, going_round, going_over, going_aside, rest_on, last_more, last_by, last_tends, going_comes, going_starves, rest_new, going_answered, going_failed, going_none}
+use Rattle.wl_worker.proofs.AllLinks.{IsOn, going_round, going_over, going_moved, last_moved, rest_on, last_more, last_by, last_tends, going_comes, going_starves, going_starves_served, rest_new, going_answered, going_failed, going_none}
 
 -- ---- one part, and then another
 
@@ -49,24 +51,24 @@ module _ (tells : Type 0) (vouched : Ask → List (List ℕ) → JwtToken → Ty
   keeps_on a b xs ys (step.Over end) is keeps = absurd is
 
   -- there will be no more links, and those that are left are served
+  pub keeps_ended : (a b : SeatView) (xs ys : List Under) → ys ≡ [] → KeepsTending tells vouched a b xs ys step.On → KeepsTending tells vouched a b xs ys (step.Over seat.End)
+  keeps_ended a b xs ys none one = record { keeps = λ t first on. (one.keeps t first on, none) }
+
   pub keeps_closed : (a b c : SeatView) (xs ys zs : List Under) (s : Step) → KeepsTending tells vouched a b xs ys step.Closed → KeepsTending tells vouched b c ys zs s → KeepsTending tells vouched a c xs zs s
   keeps_closed a b c xs ys zs s one other = record { keeps = λ t first on. other.keeps t first (one.keeps t first on) }
 
   pub keeps_to : (a b : SeatView) (xs ys zs : List Under) (s : Step) → ys ≡ zs → KeepsTending tells vouched a b xs zs s → KeepsTending tells vouched a b xs ys s
   keeps_to a b xs ys zs s same keeps = subst (λ (l : List Under). KeepsTending tells vouched a b xs l s) (sym same) keeps
 
-  pub keeps_first : {A : Type 0} (a b : SeatView) (f : A → Under) (x : A) (xs ys : List A) (zs : List Under) (s : Step) → xs ≡ x ∷ ys → KeepsTending tells vouched a b (f x ∷ map f ys) zs s → KeepsTending tells vouched a b (map f xs) zs s
-  keeps_first {A} a b f x xs ys zs s is keeps = subst (λ (l : List A). KeepsTending tells vouched a b (map f l) zs s) (sym is) keeps
-
-  pub keeps_from_none : {A : Type 0} (a b : SeatView) (f : A → Under) (xs : List A) (ys : List Under) (s : Step) → xs ≡ [] → KeepsTending tells vouched a b (map f xs) ys s → KeepsTending tells vouched a b [] ys s
-  keeps_from_none {A} a b f xs ys s none keeps = subst (λ (l : List A). KeepsTending tells vouched a b (map f l) ys s) none keeps
+  pub keeps_from_none : {A : Type 0} (a b : SeatView) (f : A → Under) (slots : List (Option A)) (ys : List Under) (s : Step) → slots ≡ [] → KeepsTending tells vouched a b (links_of f slots) ys s → KeepsTending tells vouched a b [] ys s
+  keeps_from_none {A} a b f slots ys s none keeps = subst (λ (l : List (Option A)). KeepsTending tells vouched a b (links_of f l) ys s) none keeps
 
   pub keeps_end : (a b : SeatView) (xs ys : List Under) (end other : SeatEnd) → end ≡ other → KeepsTending tells vouched a b xs ys (step.Over other) → KeepsTending tells vouched a b xs ys (step.Over end)
   keeps_end a b xs ys end other is keeps = subst (λ (e : SeatEnd). KeepsTending tells vouched a b xs ys (step.Over e)) (sym is) keeps
 
-  -- the first link waits for its turn
-  pub keeps_aside : (w : SeatView) (u : Under) (xs : List Under) → KeepsTending tells vouched w w (u ∷ xs) (xs ++ u ∷ []) step.On
-  keeps_aside w u xs = record { keeps = λ t first on. going_aside vouched first w u xs on }
+  -- a link comes to stand between others
+  pub keeps_moved : (w : SeatView) (u : Under) (front back front_then back_then : List Under) → front ++ back ≡ front_then ++ back_then → KeepsTending tells vouched w w (front ++ u ∷ back) (front_then ++ u ∷ back_then) step.On
+  keeps_moved w u front back front_then back_then same = record { keeps = λ t first on. going_moved vouched first w u front back front_then back_then same on }
 
 -- ---- the watcher
 
@@ -85,9 +87,9 @@ module _ {next : ℕ} (tells : Type 0) (vouched : Ask → List (List ℕ) → Jw
 -- ---- a round of the first link
 
 module _ {next connection starved : ℕ} {sockets : Option (List BoundSocket)} (tells : Type 0) (valid : Ask → Signed → Type 0) (vouched : Ask → List (List ℕ) → JwtToken → Type 0) (origin : Origin) (room listener_faults : ℕ) (old new : ServedState) (told told_now : Option LinkLog) (before now : Around) (r s t r2 s2 t2 : ℕ) (shows : tells → IsSome told) (origin_now : Origin) (kept : origin_now ≡ origin) where
-  -- it goes to the end of the queue
+  -- it goes on
   pub keeps_round : (ready_faults : ℕ) (listener : Option ListenerLog) (xs : List Under) (end : RoundEnd) (round : RoundTells valid (asker connection vouched) origin old new told told_now before now end) → IsOn end
-      → KeepsTending tells vouched (seat_view room next listener_faults ready_faults (seat_world sockets listener starved before)) (seat_view room next listener_faults ready_faults (seat_world sockets listener starved now)) (under connection (finished_link origin told r s t) old ∷ xs) (xs ++ under connection (finished_link origin_now told_now r2 s2 t2) new ∷ []) step.On
+      → KeepsTending tells vouched (seat_view room next listener_faults ready_faults (seat_world sockets listener starved before)) (seat_view room next listener_faults ready_faults (seat_world sockets listener starved now)) (under connection (finished_link origin told r s t) old ∷ xs) (under connection (finished_link origin_now told_now r2 s2 t2) new ∷ xs) step.On
   keeps_round ready_faults listener xs end round on = record { keeps = λ tell first going. going_round valid vouched first sockets origin room listener_faults old new told told_now before now r s t r2 s2 t2 origin_now kept starved ready_faults listener xs end round on (shows tell) going }
 
   -- it is over, and is finished
@@ -96,6 +98,13 @@ module _ {next connection starved : ℕ} {sockets : Option (List BoundSocket)} (
       → KeepsTending tells vouched (seat_view room next listener_faults ready_faults (seat_world sockets listener starved before)) (seat_view room next listens_now faults_now (seat_world sockets_now listener_now starved_now now)) (under connection (finished_link origin told r s t) old ∷ xs) xs step.On
   keeps_over {starved_now} {sockets_now} ready_faults faults_now listens_now listener listener_now xs e round counts reads writes sockets_kept finishes =
       record { keeps = λ tell first going. going_over valid vouched first sockets origin room listener_faults old new told told_now before now r s t r2 s2 t2 origin_now kept starved starved_now ready_faults faults_now listens_now sockets_now listener listener_now xs e round counts reads writes (shows tell) sockets_kept finishes going }
+
+-- Memory ran out for a link that is served, and it is finished as it stands.
+pub keeps_starved_served : {next starved starved_now : ℕ} {sockets sockets_now : Option (List BoundSocket)} (tells : Type 0) (vouched : Ask → List (List ℕ) → JwtToken → Type 0) (room listener_faults listens_now ready_faults faults_now : ℕ) (around : Around) (listener listener_now : Option ListenerLog) (u : Under) (xs : List Under)
+    → RoseBy 1 starved starved_now → sockets_now ≡ sockets → Finishes listener listener_now u.link
+    → KeepsTending tells vouched (seat_view room next listener_faults ready_faults (seat_world sockets listener starved around)) (seat_view room next listens_now faults_now (seat_world sockets_now listener_now starved_now around)) (u ∷ xs) xs step.On
+keeps_starved_served {next} {starved} {starved_now} {sockets} {sockets_now} tells vouched room listener_faults listens_now ready_faults faults_now around listener listener_now u xs rose sockets_kept finishes =
+    record { keeps = λ tell first going. going_starves_served vouched first room listener_faults listens_now ready_faults faults_now starved starved_now around sockets sockets_now listener listener_now u xs rose sockets_kept finishes going }
 
 -- ---- an accept
 
@@ -135,8 +144,10 @@ module _ {next starved : ℕ} {sockets sockets_now : Option (List BoundSocket)} 
       record { keeps = λ tell first on. rest_fault vouched first fault (seat_view room (next + 1) faults_now waits_now (seat_world sockets_then listener_then starved around)) xs (rest_new vouched first origin room faults ready_faults waits_now faults_now starved around sockets sockets_now sockets_then listener listener_now listener_then told r s t xs sockets_kept sockets_still came answers finishes fresh few on) }
 
 -- there is a place for one more
-pub few_of : {A : Type 0} (f : A → Under) (xs : List A) (n room : ℕ) → n ≡ length xs → n < room → length (map f xs) < room
-few_of {A} f xs n room is below = omega (arith, length-map xs f, is, below)
+pub few_of : {A : Type 0} (f : A → Under) (links : Slab A) (n room : ℕ) → n ≡ slab_len links → n < room → length (links_of f links.slots) < room
+few_of {A} f links n room is below =
+    let same : n ≡ length (links_of f links.slots) = is ∙ sym (count_links f links.slots) in
+    omega (arith, same, below)
 
 -- a watcher was lent a link that is fresh
 pub still_fresh : (told told_then : Option LinkLog) (r r2 s s2 t t2 : ℕ) → told_then ≡ told → r2 ≡ r → s2 ≡ s → t2 ≡ t → IsFresh told r s t → IsFresh told_then r2 s2 t2
@@ -161,11 +172,12 @@ module _ (vouched : Ask → List (List ℕ) → JwtToken → Type 0) where
   pub finishes_then : (a b c : SeatView) (xs ys zs : List Under) → FinishesTending vouched a b xs ys → FinishesTending vouched b c ys zs → FinishesTending vouched a c xs zs
   finishes_then a b c xs ys zs one other = record { keeps = λ first n last. other.keeps first n (one.keeps first n last) }
 
-  pub finishes_to : {A : Type 0} (a b : SeatView) (f : A → Under) (xs : List Under) (ys : List A) → ys ≡ [] → FinishesTending vouched a b xs (map f ys) → FinishesTending vouched a b xs []
-  finishes_to {A} a b f xs ys none keeps = subst (λ (l : List A). FinishesTending vouched a b xs (map f l)) none keeps
+  pub finishes_to : (a b : SeatView) (xs ys : List Under) → ys ≡ [] → FinishesTending vouched a b xs ys → FinishesTending vouched a b xs []
+  finishes_to a b xs ys none keeps = subst (λ (l : List Under). FinishesTending vouched a b xs l) none keeps
 
-  pub finishes_first : {A : Type 0} (a b : SeatView) (f : A → Under) (x : A) (xs ys : List A) (zs : List Under) → xs ≡ x ∷ ys → FinishesTending vouched a b (f x ∷ map f ys) zs → FinishesTending vouched a b (map f xs) zs
-  finishes_first {A} a b f x xs ys zs is keeps = subst (λ (l : List A). FinishesTending vouched a b (map f l) zs) (sym is) keeps
+  -- a link comes to stand between others
+  pub finishes_moved : (w : SeatView) (u : Under) (front back front_then back_then : List Under) → front ++ back ≡ front_then ++ back_then → FinishesTending vouched w w (front ++ u ∷ back) (front_then ++ u ∷ back_then)
+  finishes_moved w u front back front_then back_then same = record { keeps = λ first n last. last_moved vouched first w n u front back front_then back_then same last }
 
   -- the first one is finished
   pub finishes_one : {next starved : ℕ} {sockets sockets_now : Option (List BoundSocket)} (room listener_faults listens_now ready_faults faults_now : ℕ) (around : Around) (listener listener_now : Option ListenerLog) (u : Under) (xs : List Under) → sockets_now ≡ sockets → Finishes listener listener_now u.link

@@ -236,7 +236,7 @@ module _ (vouched : Ask → List (List ℕ) → JwtToken → Type 0) (mid new : 
 
 -- ---- what was finished
 
-no_items : {A : Type 0} (xs : List A) → length xs ≡ 0 → xs ≡ []
+pub no_items : {A : Type 0} (xs : List A) → length xs ≡ 0 → xs ≡ []
 no_items [] none = refl
 no_items (x ∷ xs) none = absurd (omega (arith, none))
 
@@ -382,14 +382,32 @@ tending_put {next} vouched old new broken before after u beside =
       numbered = numbering.put (Runs (known vouched new beside.signed beside.times beside.starved)) (TookFully (known vouched new beside.signed beside.times beside.starved)) (TookPart (known vouched new beside.signed beside.times beside.starved)) beside.front beside.back beside.owner u beside.fulls beside.lates beside.rounds next beside.numbered beside.one;
     }
 
--- to the end of the queue
-pub beside_aside : {next : ℕ} (P : Known → ℕ → List Round → Type 0) (vouched : Ask → List (List ℕ) → JwtToken → Type 0) (old new : SeatWorld) (broken : ℕ) (links : List Under) →
-    Beside P vouched next old new broken [] links → Beside P vouched next old new broken links []
-beside_aside {next} P vouched old new broken links beside =
-    let count : 0 + length links + 1 ≡ length links + 0 + 1 = omega arith in
+-- the list of links falls apart where its items do
+record Halves {A : Type 0} (xs ys : List A) (all : List (ℕ × A)) : Type 0 where
+  front : List (ℕ × A)
+  back : List (ℕ × A)
+  is : all ≡ front ++ back
+  front_is : items_of front ≡ xs
+  back_is : items_of back ≡ ys
+
+halves : {A : Type 0} (xs ys : List A) (all : List (ℕ × A)) → items_of all ≡ xs ++ ys → Halves xs ys all
+halves [] ys all is = record { front = []; back = all; is = refl; front_is = refl; back_is = is }
+halves (x ∷ xs) ys [] is = absurd (grind (arith, is))
+halves (x ∷ xs) ys (n ∷ all) is =
+    let head : n.1 ≡ x = grind (arith, is) in
+    let tail : items_of all ≡ xs ++ ys = grind (arith, is) in
+    let rest = halves xs ys all tail in
+    record { front = n ∷ rest.front; back = rest.back; is = λ i. n ∷ rest.is i; front_is = λ i. head i ∷ rest.front_is i; back_is = rest.back_is }
+
+-- It comes to stand between others.
+pub beside_moved : {next : ℕ} (P : Known → ℕ → List Round → Type 0) (vouched : Ask → List (List ℕ) → JwtToken → Type 0) (old new : SeatWorld) (broken : ℕ) (before after before_then after_then : List Under) →
+    before ++ after ≡ before_then ++ after_then → Beside P vouched next old new broken before after → Beside P vouched next old new broken before_then after_then
+beside_moved {next} P vouched old new broken before after before_then after_then same beside =
+    let parts = halves before_then after_then (beside.front ++ beside.back) (items_append beside.front beside.back ∙ (λ i. beside.before_are i ++ beside.after_are i) ∙ same) in
+    let count : length before + length after + 1 ≡ length before_then + length after_then + 1 = omega (arith, length-append before after, length-append before_then after_then, ap length same) in
     record {
-      front = beside.front ++ beside.back;
-      back = [];
+      front = parts.front;
+      back = parts.back;
       owner = beside.owner;
       fulls = beside.fulls;
       lates = beside.lates;
@@ -397,13 +415,19 @@ beside_aside {next} P vouched old new broken links beside =
       signed = beside.signed;
       times = beside.times;
       starved = beside.starved;
-      before_are = items_append beside.front beside.back ∙ (λ i. beside.before_are i ++ beside.after_are i);
-      after_are = refl;
+      before_are = parts.front_is;
+      after_are = parts.back_is;
       count = beside.count;
       gathers = subst (λ (n : ℕ). SeatGathers old new (items_of beside.rounds) beside.signed beside.times beside.starved (items_of beside.fulls ++ items_of beside.lates) n) count beside.gathers;
-      numbered = subst (λ (running : List (ℕ × Under)). Numbered (Runs (known vouched new beside.signed beside.times beside.starved)) (TookFully (known vouched new beside.signed beside.times beside.starved)) (TookPart (known vouched new beside.signed beside.times beside.starved)) (one_apart beside.owner) running beside.fulls beside.lates beside.rounds next) (sym (none_after (beside.front ++ beside.back))) beside.numbered;
+      numbered = subst (λ (running : List (ℕ × Under)). Numbered (Runs (known vouched new beside.signed beside.times beside.starved)) (TookFully (known vouched new beside.signed beside.times beside.starved)) (TookPart (known vouched new beside.signed beside.times beside.starved)) (one_apart beside.owner) running beside.fulls beside.lates beside.rounds next) parts.is beside.numbered;
       one = beside.one;
     }
+
+-- a link comes to stand between others
+pub tending_moved : {next : ℕ} (vouched : Ask → List (List ℕ) → JwtToken → Type 0) (old new : SeatWorld) (broken : ℕ) (u : Under) (before after before_then after_then : List Under) →
+    before ++ after ≡ before_then ++ after_then → Tending vouched next old new broken (before ++ u ∷ after) → Tending vouched next old new broken (before_then ++ u ∷ after_then)
+tending_moved {next} vouched old new broken u before after before_then after_then same held =
+    tending_put vouched old new broken before_then after_then u (beside_moved (λ k n past. Runs k n u past) vouched old new broken before after before_then after_then same (tending_taken vouched old new broken before after u held))
 
 pub beside_weaken : {next : ℕ} (P Q : Known → ℕ → List Round → Type 0) (vouched : Ask → List (List ℕ) → JwtToken → Type 0) (old new : SeatWorld) (broken : ℕ) (before after : List Under) →
     ((signed : List Delivery) (times starved : List ℕ) (n : ℕ) (past : List Round) → P (known vouched new signed times starved) n past → Q (known vouched new signed times starved) n past) → Beside P vouched next old new broken before after → Beside Q vouched next old new broken before after

@@ -16,6 +16,7 @@ use Rattle.wl_edge.specs.declared.listener.AcceptKind.TheVariants as kind
 use Rattle.wl_session.specs.Sessions.{fresh_session}
 use Rattle.wl_edge.specs.Links.{LinkLog}
 use Rattle.wl_worker.specs.Rounds.{Round}
+use Rattle.wl_worker.specs.Slots.{links_of}
 use Rattle.wl_worker.specs.declared.ended.RoundEnd.{RoundEnd}
 use Rattle.wl_worker.specs.Outcomes.{Asker}
 use Rattle.wl_worker.specs.Served.{Around, ServedState, HasSeenLast, ReadBy, RoundTells}
@@ -132,6 +133,21 @@ pub all_seen_longer : (seen list : List Publication) (links : List Under) → Is
 all_seen_longer seen list [] pre all = tt
 all_seen_longer seen list (u ∷ links) pre all = (seen_longer seen list u.served.session pre all.0, all_seen_longer seen list links pre all.1)
 
+seen_first : (seen : List Publication) (front back : List Under) (u : Under) → HaveSeenLast seen (front ++ u ∷ back) → HasSeenLast seen u.served.session × HaveSeenLast seen (front ++ back)
+seen_first seen [] back u all = (all.0, all.1)
+seen_first seen (x ∷ front) back u all =
+    let rest = seen_first seen front back u all.1 in
+    (rest.0, (all.0, rest.1))
+
+seen_among : (seen : List Publication) (front back : List Under) (u : Under) → HasSeenLast seen u.served.session → HaveSeenLast seen (front ++ back) → HaveSeenLast seen (front ++ u ∷ back)
+seen_among seen [] back u one all = (one, all)
+seen_among seen (x ∷ front) back u one all = (all.0, seen_among seen front back u one all.1)
+
+seen_moved : (seen : List Publication) (u : Under) (front back front_then back_then : List Under) → front ++ back ≡ front_then ++ back_then → HaveSeenLast seen (front ++ u ∷ back) → HaveSeenLast seen (front_then ++ u ∷ back_then)
+seen_moved seen u front back front_then back_then same all =
+    let parts = seen_first seen front back u all in
+    seen_among seen front_then back_then u parts.0 (subst (λ (l : List Under). HaveSeenLast seen l) same parts.1)
+
 pub all_seen_push : (seen : List Publication) (links : List Under) (u : Under) → HaveSeenLast seen links → HasSeenLast seen u.served.session → HaveSeenLast seen (links ++ u ∷ [])
 all_seen_push seen [] u all one = (one, tt)
 all_seen_push seen (x ∷ links) u all one = (all.0, all_seen_push seen links u all.1 one)
@@ -179,37 +195,43 @@ fit_on a b xs ys j goes fit = record { is_open = open_on a.world.listener b.worl
 pub goes_to : (a b : SeatView) (xs ys zs : List Under) (j : List AcceptKind) → ys ≡ zs → Goes a b xs zs j → Goes a b xs ys j
 goes_to a b xs ys zs j same goes = subst (λ (l : List Under). Goes a b xs l j) (sym same) goes
 
--- ---- queues
+-- ---- where links stand
 
-abbrev pub each_of : {A B : Type 0} → List A → (A → B) → List B
-each_of {A} {B} xs f = map f xs
+abbrev pub each_slot : {A B : Type 0} → List (Option A) → (A → B) → List B
+each_slot {A} {B} slots f = links_of f slots
 
-pub pushed : {A B : Type 0} (f : A → B) (xs ys : List A) (x : A) → ys ≡ xs ++ x ∷ [] → map f ys ≡ map f xs ++ f x ∷ []
-pushed {A} {B} f xs ys x is = ap (λ (l : List A). map f l) is ∙ map-append f xs (x ∷ [])
+pub same_links : {A B : Type 0} (f : A → B) (xs ys : List (Option A)) → xs ≡ ys → links_of f xs ≡ links_of f ys
+same_links {A} {B} f xs ys is = ap (λ (l : List (Option A)). links_of f l) is
 
-pub same_map : {A B : Type 0} (f : A → B) (xs ys : List A) → xs ≡ ys → map f xs ≡ map f ys
-same_map {A} {B} f xs ys is = ap (λ (l : List A). map f l) is
-
--- the first one is taken out
-pub goes_first : {A : Type 0} (a b : SeatView) (f : A → Under) (x : A) (xs ys : List A) (zs : List Under) (j : List AcceptKind) → xs ≡ x ∷ ys → Goes a b (f x ∷ map f ys) zs j → Goes a b (map f xs) zs j
-goes_first {A} a b f x xs ys zs j is goes = subst (λ (l : List A). Goes a b (map f l) zs j) (sym is) goes
+-- a link comes to stand between others
+pub goes_moved : (w : SeatView) (u : Under) (front back front_then back_then : List Under) → front ++ back ≡ front_then ++ back_then → Goes w w (front ++ u ∷ back) (front_then ++ u ∷ back_then) []
+goes_moved w u front back front_then back_then same =
+    let count : length (front ++ u ∷ back) ≡ length (front_then ++ u ∷ back_then) = omega (arith, length-append front (u ∷ back), length-append front_then (u ∷ back_then), length-append front back, length-append front_then back_then, ap length same) in
+    record {
+      room = refl;
+      sockets = refl;
+      listens = omega arith;
+      waits = omega arith;
+      sees = prefix_same (seen_by w);
+      listener = subst (λ (n : ℕ). ListensOn w.world.listener w.world.listener (length (front ++ u ∷ back)) n []) count (listens_none w.world.listener (length (front ++ u ∷ back)));
+      keep_seen = seen_moved (seen_by w) u front back front_then back_then same;
+    }
 
 -- ---- a round of the first link
 
 module _ {next starved : ℕ} {sockets : Option (List BoundSocket)} (room listener_faults : ℕ) (before now : Around) (sees : IsPrefix before.pass.seen now.pass.seen) where
-  -- it goes to the end of the queue
+  -- it goes on
   pub goes_round : (ready_faults : ℕ) (listener : Option ListenerLog) (u v : Under) (xs : List Under) → HasSeenLast now.pass.seen v.served.session
-      → Goes (seat_view room next listener_faults ready_faults (seat_world sockets listener starved before)) (seat_view room next listener_faults ready_faults (seat_world sockets listener starved now)) (u ∷ xs) (xs ++ v ∷ []) []
+      → Goes (seat_view room next listener_faults ready_faults (seat_world sockets listener starved before)) (seat_view room next listener_faults ready_faults (seat_world sockets listener starved now)) (u ∷ xs) (v ∷ xs) []
   goes_round ready_faults listener u v xs last =
-      let same : length (u ∷ xs) ≡ length (xs ++ v ∷ []) = omega (arith, length-append xs (v ∷ [])) in
       record {
         room = refl;
         sockets = refl;
         listens = omega arith;
         waits = omega arith;
         sees = sees;
-        listener = subst (λ (n : ℕ). ListensOn listener listener (length (u ∷ xs)) n []) same (listens_none listener (length (u ∷ xs)));
-        keep_seen = λ all. all_seen_push now.pass.seen xs v (all_seen_longer before.pass.seen now.pass.seen xs sees all.1) last;
+        listener = listens_none listener (length (u ∷ xs));
+        keep_seen = λ all. (last, all_seen_longer before.pass.seen now.pass.seen xs sees all.1);
       }
 
   -- it was over, and is finished
@@ -515,17 +537,15 @@ step_unwatched a b xs fault end is goes rose =
 pub stepped_to : (a b : SeatView) (xs ys zs : List Under) (s : Step) → ys ≡ zs → Stepped a b xs zs s → Stepped a b xs ys s
 stepped_to a b xs ys zs s same stepped = subst (λ (l : List Under). Stepped a b xs l s) (sym same) stepped
 
-pub came_behind : {A B : Type 0} (f : A → B) (old mid new : List A) (x : A) → mid ≡ old → new ≡ mid ++ x ∷ [] → map f new ≡ map f old ++ f x ∷ []
-came_behind {A} {B} f old mid new x same is = pushed f old new x (is ∙ ap (λ (l : List A). l ++ x ∷ []) same)
+-- the same, with the links where they stand then
+pub stepped_on : (a b : SeatView) (xs ys zs : List Under) (s : Step) → Stepped a b xs ys s → Goes b b ys zs [] → Stepped a b xs zs s
+stepped_on a b xs ys zs s stepped goes = record { kinds = stepped.kinds; goes = goes_on a b b xs ys zs stepped.kinds stepped.goes goes; accepts = stepped.accepts; fits = stepped.fits }
 
 -- ---- what is seen by any pass
 
 -- a pass that has seen nothing
 abbrev pub no_pass : Passing
 no_pass = record { store = record { number = 0; log_name = 0; cells_name = 0 }; seen = []; mine = []; told = [] }
-
-pub open_popped : {A : Type 0} (told : Option ListenerLog) (f : A → Under) (x : A) (xs ys : List A) → xs ≡ x ∷ ys → HasOpen told (length (map f xs)) → HasOpenLink told
-open_popped {A} told f x xs ys is all = open_first told (f x) (map f ys) (subst (λ (l : List A). HasOpen told (length (map f l))) is all)
 
 pub on_step_of : (s : Step) → (s ≡ step.Closed → ⊥) → ((end : SeatEnd) → s ≡ step.Over end → ⊥) → IsOnStep s
 on_step_of step.On closed over = tt
@@ -541,10 +561,6 @@ listen_rose end a b fits is = subst (λ (e : SeatEnd). EndFits e a b) is fits
 pub wait_rose : (end : SeatEnd) (a b : SeatView) → EndFits end a b → end ≡ seat.WaitFault → Rose a.ready_faults b.ready_faults
 wait_rose end a b fits is = subst (λ (e : SeatEnd). EndFits e a b) is fits
 
-pub none_left : {A : Type 0} (xs ys : List A) → xs ≡ ys → ys ≡ drop 1 xs → xs ≡ []
-none_left {A} [] ys is rest = refl
-none_left {A} (x ∷ xs) ys is rest = absurd (omega (arith, ap length (is ∙ rest)))
-
 pub no_less : (n : ℕ) → n ≤ n
 no_less n = omega arith
 
@@ -553,8 +569,5 @@ pub where_failed : {T A : Type 0} (fault : EdgeFault) → (IsErrOf {T = T} (Err 
 where_failed {T} {A} edge.Failed then is = then refl
 where_failed {T} {A} edge.Memory then is = absurd (cc is)
 
-pub ended_from_none : {A : Type 0} (a b : SeatView) (f : A → Under) (xs : List A) (ys : List Under) (end : SeatEnd) → xs ≡ [] → EndedBy a b (map f xs) ys end → EndedBy a b [] ys end
-ended_from_none {A} a b f xs ys end none ended = subst (λ (l : List A). EndedBy a b (map f l) ys end) none ended
-
-pub goes_to_none : {A : Type 0} (a b : SeatView) (f : A → Under) (xs : List Under) (ys : List A) (j : List AcceptKind) → ys ≡ [] → Goes a b xs (map f ys) j → Goes a b xs [] j
-goes_to_none {A} a b f xs ys j none goes = subst (λ (l : List A). Goes a b xs (map f l) j) none goes
+pub ended_from_none : {A : Type 0} (a b : SeatView) (f : A → Under) (slots : List (Option A)) (ys : List Under) (end : SeatEnd) → slots ≡ [] → EndedBy a b (links_of f slots) ys end → EndedBy a b [] ys end
+ended_from_none {A} a b f slots ys end none ended = subst (λ (l : List (Option A)). EndedBy a b (links_of f l) ys end) none ended

@@ -1,6 +1,7 @@
 pub mod Counts
 pub mod Owners
 pub mod Numbering
+pub mod Slots
 pub mod Upkeep
 pub mod Rounds
 pub mod Outcomes

@@ -4,7 +4,7 @@ use Rattle.std.specs.List.{Contains, AllByRecursion}
 use Rattle.wl_entry.specs.declared.asks.Ask.{Ask}
 use Rattle.wl_entry.specs.declared.signing.Signed.{Signed}
 use Rattle.wl_entry.specs.declared.signing.Svid.{Svid}
-use Rattle.wl_entry.specs.Fitness.{is_half_over}
+use Rattle.svid_cache.specs.Caches.{is_to_be_replaced}
 use Rattle.wl_document.specs.declared.fault.DocFault.{DocFault}
 use Rattle.wl_document.specs.States.{State}
 use Rattle.wl_document.specs.Documents.{document_state}
@@ -60,19 +60,31 @@ IsRefused document fault list = (p : Publication) × IsLast list p × (document_
 abbrev pub TakeGives : {V : Type 0} → List ℕ → Synced V → Type 0
 TakeGives {V} document (synced.Done note) = IsTaken document note.list
 TakeGives {V} document (synced.Refused fault note) = IsRefused document fault note.list
+TakeGives {V} document synced.Same = ⊥
 TakeGives {V} document synced.Failed = ⊥
 TakeGives {V} document synced.Memory = ⊤
 
--- What one pull and the taking of its document come to. Out of memory nothing is said but that it was one pull.
-abbrev pub SyncGives : {V : Type 0} → Option UpstreamLog → Option UpstreamLog → ℕ → ℕ → Synced V → Type 0
-SyncGives {V} old new before now (synced.Done note) = (document : List ℕ) × Pulled old new (Some document) × IsTaken document note.list
-SyncGives {V} old new before now (synced.Refused fault note) = (document : List ℕ) × Pulled old new (Some document) × IsRefused document fault note.list
-SyncGives {V} old new before now synced.Failed = Pulled old new None × Rose before now
-SyncGives {V} old new before now synced.Memory = ⊤
+-- the same, where `last` is the document that was taken last, if any: it is not taken anew, and another that is taken is
+-- the last one from then on
+abbrev pub NewGives : {V : Type 0} → List ℕ → Option (List ℕ) → Option (List ℕ) → Synced V → Type 0
+NewGives {V} document last now (synced.Done note) = IsTaken document note.list × (now ≡ Some document)
+NewGives {V} document last now (synced.Refused fault note) = IsRefused document fault note.list × (now ≡ last)
+NewGives {V} document last now synced.Same = (last ≡ Some document) × (now ≡ last)
+NewGives {V} document last now synced.Failed = ⊥
+NewGives {V} document last now synced.Memory = now ≡ last
 
--- one sync, with the count of the upstream's faults, which never falls
-pub record Syncs {V : Type 0} (old new : Option UpstreamLog) (before now : ℕ) (answer : Synced V) : Type 0 where
-  pub gives : SyncGives old new before now answer
+-- What one pull and the taking of its document come to, where `last` is the document that was taken last. Out of memory no
+-- more is said than that it was one pull, and that the last document stays.
+abbrev pub SyncGives : {V : Type 0} → Option UpstreamLog → Option UpstreamLog → ℕ → ℕ → Option (List ℕ) → Option (List ℕ) → Synced V → Type 0
+SyncGives {V} old new before now last last_now (synced.Done note) = (document : List ℕ) × Pulled old new (Some document) × IsTaken document note.list × (last_now ≡ Some document)
+SyncGives {V} old new before now last last_now (synced.Refused fault note) = (document : List ℕ) × Pulled old new (Some document) × IsRefused document fault note.list × (last_now ≡ last)
+SyncGives {V} old new before now last last_now synced.Same = (document : List ℕ) × Pulled old new (Some document) × (last ≡ Some document) × (last_now ≡ last)
+SyncGives {V} old new before now last last_now synced.Failed = Pulled old new None × Rose before now × (last_now ≡ last)
+SyncGives {V} old new before now last last_now synced.Memory = last_now ≡ last
+
+-- one sync, with the count of the upstream's faults, which never falls, and the document that was taken last
+pub record Syncs {V : Type 0} (old new : Option UpstreamLog) (before now : ℕ) (last last_now : Option (List ℕ)) (answer : Synced V) : Type 0 where
+  pub gives : SyncGives old new before now last last_now answer
   pub pulled : PulledOnce old new
   pub later : before ≤ now
 
@@ -99,8 +111,8 @@ pub record Asks {V : Type 0} (ask : Ask) (old new : Option (List SignerCall)) (b
   pub later : before ≤ now
 
 -- For how many seconds an identity that was kept is not asked for again: none, unless it is due again at once.
-abbrev pub rest_after : ℕ → Signed → ℕ
-rest_after now signed = if is_half_over now signed then max ((signed.not_after - now) / 4) 1 else 0
+abbrev pub rest_after : ℕ → ℕ → Signed → ℕ
+rest_after renew_before now signed = if is_to_be_replaced renew_before now signed then max ((signed.not_after - now) / 4) 1 else 0
 
 -- a signer's list only grew
 abbrev pub AskedOn : Option (List SignerCall) → Option (List SignerCall) → Type 0

@@ -1,10 +1,11 @@
-//! Asks of seats on their way to the signers, and their answers on the way back.
+//! Asks on their way to the signers, and their answers on the way back.
 
 ghost use Rattle.std.specs.Prelude.{IfOk, IfSome};
 ghost use Rattle.wl_selector.specs.Selectors.{sorted_texts};
 
 use ask_mail::{Answered, AskQueue, Asked, Mailbox, Opened};
 use std::alloc::Global;
+use std::collections::VecDeque;
 use std::sync::{Arc, Condvar, Mutex, Wait};
 use wl_entry::{Ask, JwtToken, Voucher};
 use wl_octets::{Memory, Octets};
@@ -32,37 +33,33 @@ pub(crate) enum Putting {
     Memory,
 }
 
-/// An ask that a signer took, and the number of its seat.
-pub(crate) struct SeatAsk {
-    pub seat: u32,
-    pub asked: Asked,
-}
-
 /// What a signer is to do next.
 pub(crate) enum Turn {
     /// This ask for a token.
-    Ask(SeatAsk),
+    Ask(Asked),
     /// A ticket, if there is one.
     Ticket,
     /// There will be no more.
     Over,
 }
 
-/// The asks of one seat, and the answers to them.
+/// The asks of one socket.
 #[derive(Drop)]
-struct Post<V: Voucher> {
+struct Post {
+    /// Those that wait.
     queue: AskQueue,
-    mailbox: Mailbox<V>,
-    /// How many of its asks are under way.
+    /// How many are under way.
     under_way: u32,
+    /// Whether the socket stands among those whose turn comes.
+    in_turn: bool,
 }
 
-impl<V: Voucher> Post<V> {
-    fn start(alloc: Global) -> Post<V> {
+impl Post {
+    fn start(alloc: Global) -> Post {
         Post {
             queue: AskQueue::empty(alloc),
-            mailbox: Mailbox::empty(alloc),
             under_way: 0,
+            in_turn: false,
         }
     }
 
@@ -71,38 +68,27 @@ impl<V: Voucher> Post<V> {
         self.under_way < most && !self.queue.is_empty()
     }
 
-    /// Puts an ask, whose answer is awaited then.
-    fn put(&mut self, asked: Asked) -> Putting {
-        let connection = asked.connection;
-        if self.mailbox.await_one(connection).is_err() {
-            return Putting::Memory;
+    /// Its oldest ask, where a signer may take one.
+    fn take(&mut self, most: u32) -> Option<Asked> {
+        if !self.is_ready(most) {
+            return None;
         }
-        match self.queue.put(asked) {
-            Ok(()) => Putting::Done,
-            Err(Memory) => {
-                self.mailbox.forget(connection);
-                Putting::Memory
-            }
-        }
-    }
-
-    /// The asks that wait fail.
-    fn fail_all(&mut self) {
-        for _ in 0..self.queue.len() {
-            if let Some(asked) = self.queue.take() {
-                let _ = self.mailbox.put(Answered::new(asked, None));
-            }
-        }
+        let asked = self.queue.take()?;
+        self.under_way = self.under_way.saturating_add(1);
+        Some(asked)
     }
 }
 
-/// The posts of all seats, as they stand under the lock.
+/// The asks of all sockets and the answers for all seats, as they stand under the lock.
 #[derive(Drop)]
 struct Posts<V: Voucher> {
-    seats: Vec<Post<V>>,
-    /// The seat whose turn it is.
-    turn: usize,
-    /// How many asks of one seat are under way at most.
+    /// By seat.
+    mailboxes: Vec<Mailbox<V>>,
+    /// By socket.
+    sockets: Vec<Post>,
+    /// The sockets of which a signer may take an ask, each once, in their turn.
+    turns: VecDeque<u32>,
+    /// How many asks of one socket are under way at most.
     most: u32,
     /// The time, as it was last told.
     now: u64,
@@ -116,41 +102,134 @@ struct Posts<V: Voucher> {
 impl<V: Voucher> Posts<V> {
     /// Whether a signer has something to do.
     fn is_ready(&self) -> bool {
-        let most = self.most;
-        self.tickets || self.seats.iter().any(|post| post.is_ready(most))
+        self.tickets || !self.turns.is_empty()
     }
 
-    /// The first seat of these that has an ask which a signer may take.
-    fn ready_seat(&self, from: usize, to: usize) -> Option<usize> {
-        for seat in from..to {
-            if let Some(post) = self.seats.get(seat) {
-                if post.is_ready(self.most) {
-                    return Some(seat);
-                }
-            }
-        }
-        None
-    }
-
-    /// An ask that a signer may take: the oldest of a seat, each seat in its turn.
-    fn take(&mut self) -> Option<SeatAsk> {
-        let seat = match self.ready_seat(self.turn, self.seats.len()) {
-            Some(seat) => seat,
-            None => self.ready_seat(0, self.turn)?,
+    /// Has a socket wait for its turn, where a signer may take an ask of it.
+    fn give_turn(&mut self, socket: u32) {
+        let Some(post) = self.sockets.get_mut(socket as usize) else {
+            return;
         };
-        let post = self.seats.get_mut(seat)?;
-        let asked = post.queue.take()?;
-        post.under_way = post.under_way.saturating_add(1);
-        self.turn = seat.saturating_add(1);
-        Some(SeatAsk {
-            seat: u32::try_from(seat).ok()?,
-            asked,
-        })
+        if post.in_turn || !post.is_ready(self.most) {
+            return;
+        }
+        // There is room for all sockets, so that none is lost.
+        post.in_turn = self.turns.push_back(socket).is_ok();
+    }
+
+    /// Puts an ask, whose answer is awaited then.
+    fn put(&mut self, asked: Asked) -> Putting {
+        let Some(mailbox) = self.mailboxes.get_mut(asked.seat as usize) else {
+            return Putting::Refused;
+        };
+        let Some(post) = self.sockets.get_mut(asked.socket as usize) else {
+            return Putting::Refused;
+        };
+        let (socket, connection) = (asked.socket, asked.connection);
+        if mailbox.await_one(connection, socket).is_err() {
+            return Putting::Memory;
+        }
+        if post.queue.put(asked).is_err() {
+            mailbox.forget(connection);
+            return Putting::Memory;
+        }
+        self.give_turn(socket);
+        Putting::Done
+    }
+
+    /// An ask that a signer may take: the oldest of a socket, each socket in its turn.
+    fn take(&mut self) -> Option<Asked> {
+        let socket = self.turns.pop_front()?;
+        let post = self.sockets.get_mut(socket as usize)?;
+        post.in_turn = false;
+        let asked = post.take(self.most);
+        self.give_turn(socket);
+        asked
+    }
+
+    /// Gives up the ask of a connection of a seat.
+    fn forget(&mut self, seat: u32, connection: u64) {
+        let Some(mailbox) = self.mailboxes.get_mut(seat as usize) else {
+            return;
+        };
+        let Some(socket) = mailbox.socket_of(connection) else {
+            return;
+        };
+        mailbox.forget(connection);
+        if let Some(post) = self.sockets.get_mut(socket as usize) {
+            post.queue.forget(seat, connection);
+        }
+    }
+
+    /// Puts an answer into the mailbox of its seat. It comes back where nobody awaits it any more.
+    fn deliver(&mut self, letter: Answered<V>) -> Option<Answered<V>> {
+        match self.mailboxes.get_mut(letter.seat() as usize) {
+            Some(mailbox) => mailbox.put(letter),
+            None => Some(letter),
+        }
+    }
+
+    /// An ask of a socket is under way no more.
+    fn came_back(&mut self, socket: u32) {
+        if let Some(post) = self.sockets.get_mut(socket as usize) {
+            post.under_way = post.under_way.saturating_sub(1);
+        }
+        self.give_turn(socket);
+    }
+
+    /// The oldest ask of a socket that waits fails.
+    fn fail_one(&mut self, socket: usize) {
+        let Some(post) = self.sockets.get_mut(socket) else {
+            return;
+        };
+        if let Some(asked) = post.queue.take() {
+            let _ = self.deliver(Answered::new(asked, None));
+        }
+    }
+
+    /// How many asks of a socket wait.
+    fn waiting(&self, socket: usize) -> usize {
+        match self.sockets.get(socket) {
+            Some(post) => post.queue.len(),
+            None => 0,
+        }
+    }
+
+    /// The asks of a socket that wait fail.
+    fn fail_socket(&mut self, socket: usize) {
+        for _ in 0..self.waiting(socket) {
+            self.fail_one(socket);
+        }
+    }
+
+    /// All asks that wait fail.
+    fn fail_all(&mut self) {
+        for socket in 0..self.sockets.len() {
+            self.fail_socket(socket);
+        }
     }
 }
 
-/// The posts of all seats. Seats put asks into it and look for answers; signers take asks out and put answers in. `next`
-/// waits for something to do; the other calls wait for the lock alone.
+/// So many mailboxes, all empty.
+fn empty_mailboxes<V: Voucher>(alloc: Global, seats: usize) -> Result<Vec<Mailbox<V>>, Memory> {
+    let mut mailboxes = Vec::with_capacity(alloc, seats)?;
+    for _ in 0..seats {
+        mailboxes.push(Mailbox::empty(alloc))?;
+    }
+    Ok(mailboxes)
+}
+
+/// The posts of so many sockets, all empty.
+fn empty_posts(alloc: Global, sockets: usize) -> Result<Vec<Post>, Memory> {
+    let mut posts = Vec::with_capacity(alloc, sockets)?;
+    for _ in 0..sockets {
+        posts.push(Post::start(alloc))?;
+    }
+    Ok(posts)
+}
+
+/// The asks of all sockets, and the answers for all seats. Seats put asks into it and look for answers; signers take asks
+/// out and put answers in. `next` waits for something to do; the other calls wait for the lock alone.
 #[derive(Drop)]
 pub struct AskHub<V: Voucher> {
     posts: Mutex<Posts<V>>,
@@ -158,17 +237,19 @@ pub struct AskHub<V: Voucher> {
 }
 
 impl<V: Voucher> AskHub<V> {
-    /// The posts of so many seats, for so many signers. Of one seat at most half of the signers' asks are under way at once,
-    /// and at least one.
-    pub fn start(alloc: Global, seats: usize, signers: u32) -> Result<Arc<AskHub<V>>, Memory> {
-        let mut posts = Vec::new(alloc);
-        for _ in 0..seats {
-            posts.push(Post::start(alloc))?;
-        }
+    /// The asks of so many sockets, the answers for so many seats, and so many signers. Of one socket at most half of the
+    /// signers' asks are under way at once, and at least one.
+    pub fn start(
+        alloc: Global,
+        seats: usize,
+        sockets: usize,
+        signers: u32,
+    ) -> Result<Arc<AskHub<V>>, Memory> {
         let hub = AskHub {
             posts: Mutex::new(Posts {
-                seats: posts,
-                turn: 0,
+                mailboxes: empty_mailboxes(alloc, seats)?,
+                sockets: empty_posts(alloc, sockets)?,
+                turns: VecDeque::with_capacity(alloc, sockets)?,
                 most: (signers / 2).max(1),
                 now: 0,
                 silent_until: 0,
@@ -196,29 +277,26 @@ impl<V: Voucher> AskHub<V> {
         ensures { IfOk result (λ answer. IfSome answer (V.token ask.now (sorted_texts audience.now))) }
     {
         let mut posts = self.posts.lock(rt);
-        let Some(post) = posts.seats.get_mut(seat as usize) else {
+        let Some(mailbox) = posts.mailboxes.get_mut(seat as usize) else {
             return Err(Missing::NoAsk);
         };
-        match post.mailbox.take(connection) {
+        match mailbox.take(connection) {
             Some(letter) => match letter.open(ask, audience) {
                 Opened::This(answer) => Ok(answer),
                 Opened::Other(_, _, _) => Err(Missing::NoAsk),
             },
-            None if post.mailbox.awaits(connection) => Err(Missing::Waits),
+            None if mailbox.awaits(connection) => Err(Missing::Waits),
             None => Err(Missing::NoAsk),
         }
     }
 
-    /// Puts an ask of a seat.
-    pub(crate) fn put<R: Wait>(&self, rt: &R, seat: u32, asked: Asked) -> Putting {
+    /// Puts an ask.
+    pub(crate) fn put<R: Wait>(&self, rt: &R, asked: Asked) -> Putting {
         let mut posts = self.posts.lock(rt);
         if posts.over || posts.now < posts.silent_until {
             return Putting::Refused;
         }
-        let Some(post) = posts.seats.get_mut(seat as usize) else {
-            return Putting::Refused;
-        };
-        let put = post.put(asked);
+        let put = posts.put(asked);
         drop(posts);
         self.moved.notify_one();
         put
@@ -226,30 +304,16 @@ impl<V: Voucher> AskHub<V> {
 
     /// The ask of this connection is given up; what still comes for it is awaited by nobody.
     pub(crate) fn forget<R: Wait>(&self, rt: &R, seat: u32, connection: u64) {
-        let mut posts = self.posts.lock(rt);
-        if let Some(post) = posts.seats.get_mut(seat as usize) {
-            if post.mailbox.awaits(connection) {
-                post.queue.forget(connection);
-                post.mailbox.forget(connection);
-            }
-        }
+        self.posts.lock(rt).forget(seat, connection);
     }
 
-    /// Puts the answer to an ask of a seat, which was under way. It comes back where nobody awaits it any more.
-    pub(crate) fn answered<R: Wait>(
-        &self,
-        rt: &R,
-        seat: u32,
-        letter: Answered<V>,
-    ) -> Option<Answered<V>> {
+    /// Puts the answer to an ask that was under way. It comes back where nobody awaits it any more.
+    pub(crate) fn answered<R: Wait>(&self, rt: &R, letter: Answered<V>) -> Option<Answered<V>> {
         let mut posts = self.posts.lock(rt);
-        let Some(post) = posts.seats.get_mut(seat as usize) else {
-            return Some(letter);
-        };
-        post.under_way = post.under_way.saturating_sub(1);
-        let back = post.mailbox.put(letter);
+        posts.came_back(letter.socket());
+        let back = posts.deliver(letter);
         drop(posts);
-        // another ask of the seat may be taken now
+        // another ask of the socket may be taken now
         self.moved.notify_one();
         back
     }
@@ -258,9 +322,7 @@ impl<V: Voucher> AskHub<V> {
     pub(crate) fn silence<R: Wait>(&self, rt: &R, now: u64) {
         let mut posts = self.posts.lock(rt);
         posts.silent_until = now.saturating_add(SILENCE);
-        for post in posts.seats.iter_mut() {
-            post.fail_all();
-        }
+        posts.fail_all();
     }
 
     /// Says what time it is.

@@ -8,7 +8,7 @@ ghost use Rattle.wl_worker.specs.Completeness.{Completes, link_faults};
 ghost use Rattle.wl_worker.specs.Connections.{ConnectionTells};
 
 use crate::ended::{Ended, RoundEnd};
-use crate::served::Served;
+use crate::served::{Buffer, Served};
 use ask_mail::TokenAsks;
 use std::alloc::Global;
 use std::sync::{Mutex, Wait};
@@ -63,9 +63,22 @@ pub fn serve_connection<L: Link, A: Attestor, T: TokenAsks, C: Clock, G: Gate, R
         Ok(served) => served,
         Err(Memory) => return Ended::Memory,
     };
+    let mut buffer = match Buffer::new(alloc) {
+        Ok(buffer) => buffer,
+        Err(Memory) => return Ended::Memory,
+    };
     'rounds: for _ in rt.forever() {
         let end = served.round(
-            rt, desk, pass, link, attestor, connection, asks, clock, gate,
+            rt,
+            desk,
+            pass,
+            link,
+            attestor,
+            connection,
+            asks,
+            clock,
+            gate,
+            &mut buffer,
         );
         if let RoundEnd::Ended(end) = end {
             asks.forget(rt, connection);

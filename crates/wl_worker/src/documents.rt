@@ -1,6 +1,7 @@
 //! The present document is taken.
 
-ghost use Rattle.wl_worker.specs.Upkeep.{Syncs, TakeGives};
+ghost use Rattle.std.specs.Prelude.{◌≡◌, true, Some};
+ghost use Rattle.wl_worker.specs.Upkeep.{Syncs, TakeGives, NewGives};
 
 use std::alloc::Global;
 use std::sync::{Mutex, Wait};
@@ -16,6 +17,8 @@ use wl_publish::Note;
 pub enum Synced<V: Voucher> {
     /// It was taken, and the note's last publication shows its entries and bundles.
     Done(Note<V>),
+    /// It is the one that was taken last, and nothing has changed.
+    Same,
     /// It has this fault, and nothing has changed.
     Refused(DocFault, Note<V>),
     /// The upstream gave none.
@@ -24,26 +27,55 @@ pub enum Synced<V: Voucher> {
     Memory,
 }
 
-/// Pulls once, and takes the document that came; a note is made under the same lock. The document's own
-/// domain has to be that of the publications so far.
+/// Pulls once, and takes the document that came, unless it is `last`, the one that was taken last; a note is made under
+/// the same lock. The document's own domain has to be that of the publications so far. So an authority that has nothing
+/// new costs a comparison of bytes, and the desk isn't locked for it.
 pub fn sync_once<V: Voucher, U: Upstream, R: Wait>(
     rt: &R,
     alloc: Global,
     desk: &Mutex<Desk<V>>,
     upstream: &mut U,
+    last: &mut Option<Octets>,
 ) -> Synced<V>
     ensures { Syncs (U.told upstream.old) (U.told upstream.new)
-        (U.faults upstream.old) (U.faults upstream.new) result }
+        (U.faults upstream.old) (U.faults upstream.new) last.old last.new result }
 {
     let mut document = Octets::empty(alloc);
     match upstream.pull(&mut document) {
-        Ok(()) => {
-            let mut held = desk.lock(rt);
-            take_document(rt, alloc, &mut held, document.as_slice())
-        }
+        Ok(()) => take_new(rt, alloc, desk, document, last),
         Err(EdgeFault::Failed) => Synced::Failed,
         Err(EdgeFault::Memory) => Synced::Memory,
     }
+}
+
+/// Whether the document is the one that was taken last.
+fn is_last(last: &Option<Octets>, document: &Octets) -> bool
+    ensures { result ≡ true → last.now ≡ Some document.now }
+{
+    match last {
+        Some(last) => *last == *document,
+        None => false,
+    }
+}
+
+/// Takes a document that isn't the last one, under the desk's lock.
+fn take_new<V: Voucher, R: Wait>(
+    rt: &R,
+    alloc: Global,
+    desk: &Mutex<Desk<V>>,
+    document: Octets,
+    last: &mut Option<Octets>,
+) -> Synced<V>
+    ensures { NewGives document last.old last.new result }
+{
+    if is_last(last, &document) {
+        return Synced::Same;
+    }
+    let synced = take_document(rt, alloc, &mut desk.lock(rt), document.as_slice());
+    if let Synced::Done(_) = &synced {
+        *last = Some(document);
+    }
+    synced
 }
 
 /// The desk takes a document, and makes a note of all publications so far.

@@ -40,6 +40,6 @@ pub use laws::rounds_are_determined;
 pub use queue::{QueuedTicket, TicketQueue};
 pub use seat::{Seat, SeatEnd, serve_seat};
 pub use seat_asks::SeatAsks;
-pub use served::Served;
+pub use served::{Buffer, Served};
 pub use signing::{Asked, Signing, sign_once};
 pub use upkeep::{keep_time, pull_documents, sign_asks, sign_next};

@@ -40,12 +40,13 @@ fn attest_one<A: Attestor>(
     }
 }
 
-/// Each of them does, lowest stream first. Out of memory some may be left.
+/// Each of them does, lowest stream first. Out of memory some may be left. Where one does, `attested` says so.
 pub fn attest_all<A: Attestor>(
     origin: &Origin,
     attestor: &mut A,
     session: &mut Session,
     out: &mut Octets,
+    attested: &mut bool,
 ) -> Result<(), Memory>
     ensures attests { Attests origin.now session.old session.new out.old out.new (A.calls attestor.old)
         (A.calls attestor.new) (A.faults attestor.old) (A.faults attestor.new) result }
@@ -53,6 +54,7 @@ pub fn attest_all<A: Attestor>(
 {
     'calls: while session.unnamed().is_some() {
         attest_one(origin, attestor, session, out)?;
+        *attested = true;
     }
     Ok(())
 }

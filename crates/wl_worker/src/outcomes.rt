@@ -64,6 +64,7 @@ fn came<T: TokenAsks, R: Wait>(
     desk: &Mutex<Desk<T::V>>,
     ask: &JwtAsk,
     connection: u64,
+    socket: u32,
     asks: &mut T,
     now: u64,
 ) -> Result<Option<JwtOutcome>, Memory>
@@ -71,7 +72,7 @@ fn came<T: TokenAsks, R: Wait>(
         (T.faults asks.old) (T.faults asks.new) result }
     ensures waits { result ≡ Ok None → T.holds asks.new connection }
 {
-    let token = match asks.look(rt, connection, &ask.ask, ask.audience.as_slice()) {
+    let token = match asks.look(rt, connection, socket, &ask.ask, ask.audience.as_slice()) {
         Ok(token) => token,
         Err(NoAnswer::Waits) => return Ok(None),
         Err(NoAnswer::Failed) => return Ok(Some(JwtOutcome::Failed)),
@@ -93,6 +94,7 @@ fn outcome<T: TokenAsks, C: Clock, R: Wait>(
     desk: &Mutex<Desk<T::V>>,
     ask: &JwtAsk,
     connection: u64,
+    socket: u32,
     asks: &mut T,
     clock: &mut C,
 ) -> Result<Option<JwtOutcome>, Memory>
@@ -103,7 +105,7 @@ fn outcome<T: TokenAsks, C: Clock, R: Wait>(
     let now = clock.now();
     match kept(rt, alloc, desk, ask, now)? {
         Some(token) => Ok(Some(JwtOutcome::Token(token))),
-        None => came(rt, alloc, desk, ask, connection, asks, now),
+        None => came(rt, alloc, desk, ask, connection, socket, asks, now),
     }
 }
 
@@ -113,6 +115,7 @@ fn answer_one<T: TokenAsks, C: Clock, R: Wait>(
     alloc: Global,
     desk: &Mutex<Desk<T::V>>,
     connection: u64,
+    socket: u32,
     asks: &mut T,
     clock: &mut C,
     session: &mut Session,
@@ -126,7 +129,7 @@ fn answer_one<T: TokenAsks, C: Clock, R: Wait>(
     ensures waits { result ≡ Ok false → T.holds asks.new connection }
 {
     let outcome = match session.asks() {
-        Some(ask) => outcome(rt, alloc, desk, ask, connection, asks, clock)?,
+        Some(ask) => outcome(rt, alloc, desk, ask, connection, socket, asks, clock)?,
         None => unreachable!(),
     };
     match outcome {
@@ -145,6 +148,7 @@ pub fn answer_ready<T: TokenAsks, C: Clock, R: Wait>(
     alloc: Global,
     desk: &Mutex<Desk<T::V>>,
     connection: u64,
+    socket: u32,
     asks: &mut T,
     clock: &mut C,
     session: &mut Session,
@@ -156,7 +160,9 @@ pub fn answer_ready<T: TokenAsks, C: Clock, R: Wait>(
     ensures all { OnOk result ((asks_in session.new ≡ None) ⊎ T.holds asks.new connection) }
 {
     'waiting: while session.asks().is_some() {
-        if !answer_one(rt, alloc, desk, connection, asks, clock, session, out)? {
+        if !answer_one(
+            rt, alloc, desk, connection, socket, asks, clock, session, out,
+        )? {
             return Ok(());
         }
     }

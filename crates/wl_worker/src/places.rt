@@ -1,87 +1,72 @@
-//! The places of a seat: the links that it serves, and the numbers under which they are watched.
+//! The places of a seat: the links that it serves, and what they hold.
 
-ghost use Rattle.std.specs.Prelude.{◌≡◌, ◌≤◌, ◌<◌, false, get_or, vec_len};
+ghost use Rattle.std.specs.Prelude.{◌≡◌, ◌≤◌, [], IfOk};
 ghost use Rattle.wl_edge.specs.Listeners.{HasOpenLink, Finishes};
 ghost use Rattle.wl_worker.specs.Seating.{finished_link};
 
-use crate::served::Served;
+use crate::ended::Ended;
+use crate::served::{Buffer, Served};
+use slab::Slab;
 use std::alloc::Global;
 use wl_edge::{Link, Listener, Ready};
 use wl_octets::Memory;
 
 /// A link that is served, and the numbers under which it is watched and asks for tokens.
+#[derive(Drop)]
 pub(crate) struct Connection<L> {
+    /// Its key in the slab of links.
     pub number: u32,
     pub asker: u64,
     pub link: L,
     pub served: Served,
+    /// How many bytes it held after its last round.
+    pub held: usize,
 }
 
-/// Numbers for links, one for each place of a seat.
+/// The links that a seat serves.
 #[derive(Drop)]
-pub(crate) struct Numbers {
-    /// Those of no link.
-    pub free: Vec<u32>,
-    /// By number, whether it was listed and not yet unlisted.
-    listed: Vec<bool>,
+pub(crate) struct Places<L> {
+    /// Each under the number by which it is watched.
+    pub links: Slab<Connection<L>>,
+    /// What a receive is lent.
+    pub buffer: Buffer,
+    /// How many bytes all links together held after their last rounds.
+    pub held: usize,
 }
 
-impl Numbers {
-    /// The numbers of so many places, all of them free.
-    pub fn start(alloc: Global, room: u32) -> Result<Numbers, Memory> {
-        let mut free = Vec::with_capacity(alloc, room as usize)?;
-        for number in 0..room {
-            free.push(number)?;
-        }
-        Ok(Numbers {
-            free,
-            listed: vec![in alloc; false; room as usize]?,
+impl<L> Places<L> {
+    /// No links.
+    pub fn start(alloc: Global) -> Result<Places<L>, Memory>
+        ensures { IfOk result (λ p. p.links.slots ≡ []) }
+    {
+        let buffer = Buffer::new(alloc)?;
+        Ok(Places {
+            links: Slab::new(alloc),
+            buffer,
+            held: 0,
         })
     }
+}
 
-    /// A number of no link.
-    pub fn take(&mut self) -> u32
-        requires { 0 < vec_len self.old.free }
-    {
-        self.free.pop().unwrap()
-    }
-
-    /// The number's link is gone.
-    pub fn give_back(&mut self, number: u32) {
-        // There is room for all numbers, so that none is lost.
-        let _ = self.free.push(number);
-    }
-
-    /// These numbers are listed.
-    pub fn list(&mut self, numbers: &[u32]) {
-        for number in numbers {
-            let at = *number as usize;
-            if at < self.listed.len() {
-                self.listed[at] = true;
+/// The number of the link that holds most.
+pub(crate) fn greatest<L>(links: &Slab<Connection<L>>) -> usize {
+    let mut greatest = 0;
+    let mut most = 0;
+    for number in 0..links.capacity() {
+        if let Some(connection) = links.get(number) {
+            if connection.held > most {
+                most = connection.held;
+                greatest = number;
             }
         }
     }
-
-    /// Whether a number was listed. It isn't any more.
-    pub fn unlist(&mut self, number: u32) -> bool
-        ensures was { result ≡ get_or self.old.listed.items number false }
-        ensures gone { get_or self.new.listed.items number false ≡ false }
-    {
-        let at = number as usize;
-        if at < self.listed.len() {
-            let was = self.listed[at];
-            self.listed[at] = false;
-            return was;
-        }
-        false
-    }
+    greatest
 }
 
 /// Gives up a link, which is watched no more and finished.
 pub(crate) fn release<L: Listener, P: Ready<L::L>>(
     listener: &mut L,
     ready: &mut P,
-    numbers: &mut Numbers,
     number: u32,
     link: L::L,
 )
@@ -96,5 +81,38 @@ pub(crate) fn release<L: Listener, P: Ready<L::L>>(
     let mut link = link;
     ready.remove(number, &mut link);
     listener.finish(link);
-    numbers.give_back(number);
+}
+
+/// Gives a link the error code with which its connection ends, where its peer broke a rule of HTTP/2.
+fn note_end<L: Link>(link: &mut L, ended: Ended)
+    ensures told { L.told link.new ≡ L.told link.old }
+    ensures receives { L.failed_receives link.new ≡ L.failed_receives link.old }
+    ensures sends { L.failed_sends link.new ≡ L.failed_sends link.old }
+    ensures stalls { L.stalls link.new ≡ L.stalls link.old }
+    ensures origin { L.origin link.new ≡ L.origin link.old }
+{
+    if let Ended::Protocol(fault) = ended {
+        link.note_error(fault.code);
+    }
+}
+
+/// Gives up a link whose connection ended so.
+pub(crate) fn end_link<L: Listener, P: Ready<L::L>>(
+    listener: &mut L,
+    ready: &mut P,
+    number: u32,
+    link: L::L,
+    ended: Ended,
+)
+    requires { HasOpenLink (L.told listener.old) }
+    ensures finishes { Finishes (L.told listener.old) (L.told listener.new)
+        (finished_link (L.L.origin link) (L.L.told link) (L.L.failed_receives link) (L.L.failed_sends link)
+        (L.L.stalls link)) }
+    ensures sockets { L.sockets listener.new ≡ L.sockets listener.old }
+    ensures listens { L.faults listener.new ≡ L.faults listener.old }
+    ensures waits { P.faults ready.old ≤ P.faults ready.new }
+{
+    let mut link = link;
+    note_end(&mut link, ended);
+    release(listener, ready, number, link);
 }

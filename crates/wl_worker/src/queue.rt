@@ -1,6 +1,7 @@
 //! What waits for a signer: tickets, and asks for tokens.
 
-use crate::asks::{AskHub, SeatAsk, Turn};
+use crate::asks::{AskHub, Turn};
+use ask_mail::Asked;
 use std::alloc::{AllocFailed, Global};
 use std::collections::VecDeque;
 use std::sync::{Arc, Mutex, Wait};
@@ -22,7 +23,7 @@ pub struct QueuedTicket {
 /// What a signer is to do.
 pub(crate) enum Work {
     /// This ask for a token.
-    Token(SeatAsk),
+    Token(Asked),
     /// This ticket.
     Identity(QueuedTicket),
 }

@@ -32,6 +32,9 @@ pub struct Seat<L: Listener, T: TokenAsks, A, C, P> {
     pub ready: P,
     /// How many links are served at once.
     pub room: u32,
+    /// How many bytes its links hold together at most, after each round: what is unsent, and the messages that wait in
+    /// their sessions. Where they hold more, the link that holds most ends, as one for which memory ran out.
+    pub budget: u64,
     /// How many links it finished since memory ran out for them. At 2^64-1 it stays.
     pub starved: u64,
     // All listeners of its type tell their content, or none does.
@@ -52,9 +55,10 @@ pub enum SeatEnd {
 }
 
 /// Serves the links of a seat, as many at once as it has room for, each a round at a time: those that may be
-/// ready, or all where none is listed. Each link is given to `finish`, whatever its end was. A link for which memory
-/// runs out ends alone, and is counted. After the listener's end the seat goes on until all its links are finished; at
-/// any other end of its own it first finishes every link as it stands. It tells the desk once that it has ended.
+/// ready, in the order in which they are listed. Each link is given to `finish`, whatever its end was. A link
+/// for which memory runs out ends alone, and is counted; so does the link that holds most where all together
+/// pass the budget. After the listener's end the seat goes on until all its links are finished; at any other
+/// end of its own it first finishes every link as it stands. It tells the desk once that it has ended.
 pub fn serve_seat<
     L: Listener,
     T: TokenAsks,

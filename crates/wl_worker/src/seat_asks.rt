@@ -38,6 +38,23 @@ impl<V: Voucher + Send + Sync> SeatAsks<V> {
 }
 
 impl<V: Voucher> SeatAsks<V> {
+    /// An ask of a connection of the seat, with its audiences.
+    fn asked(
+        &self,
+        connection: u64,
+        socket: u32,
+        ask: &Ask,
+        audience: &[Octets],
+    ) -> Result<Asked, Memory> {
+        Ok(Asked {
+            seat: self.seat,
+            socket,
+            connection,
+            ask: ask.copy(self.alloc)?,
+            audience: clone_all(self.alloc, audience)?,
+        })
+    }
+
     /// One failure more.
     fn fail(&mut self) -> NoAnswer
         ensures failed { result ≡ NoAnswer.Failed }
@@ -59,15 +76,6 @@ impl<V: Voucher> SeatAsks<V> {
     }
 }
 
-/// An ask of a connection, with its audiences.
-fn asked(alloc: Global, connection: u64, ask: &Ask, audience: &[Octets]) -> Result<Asked, Memory> {
-    Ok(Asked {
-        connection,
-        ask: ask.copy(alloc)?,
-        audience: clone_all(alloc, audience)?,
-    })
-}
-
 impl<V: Voucher + Send + Sync> TokenAsks for SeatAsks<V> {
     type V = V;
 
@@ -82,6 +90,7 @@ impl<V: Voucher + Send + Sync> TokenAsks for SeatAsks<V> {
         &mut self,
         rt: &R,
         connection: u64,
+        socket: u32,
         ask: &Ask,
         audience: &[Octets],
     ) -> Result<JwtToken, NoAnswer> {
@@ -91,10 +100,10 @@ impl<V: Voucher + Send + Sync> TokenAsks for SeatAsks<V> {
             Err(Missing::Waits) => return Err(self.wait(connection)),
             Err(Missing::NoAsk) => {}
         }
-        let Ok(asked) = asked(self.alloc, connection, ask, audience) else {
+        let Ok(asked) = self.asked(connection, socket, ask, audience) else {
             return Err(NoAnswer::Memory);
         };
-        match self.hub.put(rt, self.seat, asked) {
+        match self.hub.put(rt, asked) {
             Putting::Done => Err(self.wait(connection)),
             Putting::Refused => Err(self.fail()),
             Putting::Memory => Err(NoAnswer::Memory),

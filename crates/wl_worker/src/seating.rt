@@ -1,22 +1,23 @@
 //! A seat takes links and serves them until it ends.
 
-ghost use Rattle.std.specs.Prelude.{◌≡◌, ◌≤◌, ◌<◌, [], map, length, IfOk, OnOk, IsSome, vec_len};
-ghost use Rattle.std.specs.VecDeque.{deque_len, deque_capacity};
+ghost use Rattle.std.specs.Prelude.{◌≡◌, [], None, length, IfOk, OnOk, IsSome};
+ghost use Rattle.slab.specs.Slab.{HasRoomFor, Updates};
 ghost use Rattle.wl_publish.specs.Listings.{Passing};
 ghost use Rattle.wl_session.specs.Sessions.{fresh_session};
 ghost use Rattle.wl_worker.specs.Seating.{HasOpen, Fit, Goes, Stepped, Rests, EndedBy, seat_end_of};
 ghost use Rattle.wl_worker.specs.Seating.{KeepsTending, FinishesTending};
+ghost use Rattle.wl_worker.specs.Slots.{links_of};
 ghost use Rattle.wl_worker.specs.Tended.{Tends};
 
 use crate::ended::{Ended, starved_after};
-use crate::places::{Connection, Numbers, release};
+use crate::places::{Connection, Places, release};
 use crate::seat::{Seat, SeatEnd};
 use crate::seat_rounds::{LinkShown, SeatShown, serve_turn};
 use crate::served::Served;
 use crate::step::Step;
 use ask_mail::TokenAsks;
+use slab::Slab;
 use std::alloc::Global;
-use std::collections::VecDeque;
 use std::sync::{Mutex, Wait};
 use wl_desk::Desk;
 use wl_edge::{Accepted, Attestor, Clock, EdgeFault, Gate, Listener, Ready};
@@ -34,9 +35,9 @@ fn end_of(fault: EdgeFault) -> SeatEnd
 }
 
 /// A place for one more link, and the connection on it.
-fn prepare<L>(alloc: Global, links: &mut VecDeque<Connection<L>>) -> Result<Served, Memory>
-    ensures items { links.new.items ≡ links.old.items }
-    ensures place { OnOk result (deque_len links.new < deque_capacity links.new) }
+fn prepare<L>(alloc: Global, links: &mut Slab<Connection<L>>) -> Result<Served, Memory>
+    ensures items { links.new.slots ≡ links.old.slots }
+    ensures place { OnOk result (HasRoomFor links.new 1) }
     ensures fresh { IfOk result (λ s. s ≡ record { session = fresh_session; unsent = [] }) }
 {
     links.reserve(1)?;
@@ -47,26 +48,28 @@ fn prepare<L>(alloc: Global, links: &mut VecDeque<Connection<L>>) -> Result<Serv
 fn admit<L: Listener, T: TokenAsks, A: Attestor, C: Clock, P: Ready<L::L>>(
     alloc: Global,
     seat: &mut Seat<L, T, A, C, P>,
-    links: &mut VecDeque<Connection<L::L>>,
-    numbers: &mut Numbers,
+    places: &mut Places<L::L>,
 ) -> Step
     requires { HasOpen (L.told seat.old.listener)
-        (length (map ⟦<Connection<L::L> as LinkShown>⟧.shown links.old.items)) }
+        (length (links_of ⟦<Connection<L::L> as LinkShown>⟧.shown places.old.links.slots)) }
     ensures goes { (p : Passing) → Stepped (⟦<Seat<L, T, A, C, P> as SeatShown>⟧.view seat.old p)
         (⟦<Seat<L, T, A, C, P> as SeatShown>⟧.view seat.new p)
-        (map ⟦<Connection<L::L> as LinkShown>⟧.shown links.old.items)
-        (map ⟦<Connection<L::L> as LinkShown>⟧.shown links.new.items) result }
+        (links_of ⟦<Connection<L::L> as LinkShown>⟧.shown places.old.links.slots)
+        (links_of ⟦<Connection<L::L> as LinkShown>⟧.shown places.new.links.slots) result }
     ensures tends { (p : Passing) → KeepsTending ((l : L.L) → IsSome (L.L.told l)) T.V.token
         (⟦<Seat<L, T, A, C, P> as SeatShown>⟧.view seat.old p)
         (⟦<Seat<L, T, A, C, P> as SeatShown>⟧.view seat.new p)
-        (map ⟦<Connection<L::L> as LinkShown>⟧.shown links.old.items)
-        (map ⟦<Connection<L::L> as LinkShown>⟧.shown links.new.items) result }
+        (links_of ⟦<Connection<L::L> as LinkShown>⟧.shown places.old.links.slots)
+        (links_of ⟦<Connection<L::L> as LinkShown>⟧.shown places.new.links.slots) result }
 {
-    // There is a number for each place, and one for each connection.
+    // There is a number for each connection.
     let asker = seat.connections;
-    if links.len() >= seat.room as usize || numbers.free.is_empty() || asker == u64::MAX {
+    if places.links.len() >= seat.room as usize || asker == u64::MAX {
         return Step::Idle;
     }
+    let Ok(number) = u32::try_from(places.links.vacant_key()) else {
+        return Step::Idle;
+    };
     let mut link = match seat.listener.accept() {
         Accepted::Link(link) => link,
         Accepted::Idle => return Step::Idle,
@@ -74,7 +77,7 @@ fn admit<L: Listener, T: TokenAsks, A: Attestor, C: Clock, P: Ready<L::L>>(
         Accepted::Failed => return Step::Over(SeatEnd::ListenFault),
     };
     seat.connections = asker + 1;
-    let served = match prepare(alloc, links) {
+    let served = match prepare(alloc, &mut places.links) {
         Ok(served) => served,
         Err(Memory) => {
             seat.starved = starved_after(seat.starved, Ended::Memory);
@@ -82,16 +85,16 @@ fn admit<L: Listener, T: TokenAsks, A: Attestor, C: Clock, P: Ready<L::L>>(
             return Step::On;
         }
     };
-    let number = numbers.take();
     if let Err(fault) = seat.ready.add(number, &mut link) {
         seat.listener.finish(link);
         return Step::Over(end_of(fault));
     }
-    links.push_back_reserved(Connection {
+    places.links.insert_reserved(Connection {
         number,
         asker,
         link,
         served,
+        held: 0,
     });
     Step::On
 }
@@ -100,23 +103,22 @@ fn admit<L: Listener, T: TokenAsks, A: Attestor, C: Clock, P: Ready<L::L>>(
 fn admit_all<L: Listener, T: TokenAsks, A: Attestor, C: Clock, P: Ready<L::L>>(
     alloc: Global,
     seat: &mut Seat<L, T, A, C, P>,
-    links: &mut VecDeque<Connection<L::L>>,
-    numbers: &mut Numbers,
+    places: &mut Places<L::L>,
 ) -> Step
     requires { HasOpen (L.told seat.old.listener)
-        (length (map ⟦<Connection<L::L> as LinkShown>⟧.shown links.old.items)) }
+        (length (links_of ⟦<Connection<L::L> as LinkShown>⟧.shown places.old.links.slots)) }
     ensures goes { (p : Passing) → Stepped (⟦<Seat<L, T, A, C, P> as SeatShown>⟧.view seat.old p)
         (⟦<Seat<L, T, A, C, P> as SeatShown>⟧.view seat.new p)
-        (map ⟦<Connection<L::L> as LinkShown>⟧.shown links.old.items)
-        (map ⟦<Connection<L::L> as LinkShown>⟧.shown links.new.items) result }
+        (links_of ⟦<Connection<L::L> as LinkShown>⟧.shown places.old.links.slots)
+        (links_of ⟦<Connection<L::L> as LinkShown>⟧.shown places.new.links.slots) result }
     ensures tends { (p : Passing) → KeepsTending ((l : L.L) → IsSome (L.L.told l)) T.V.token
         (⟦<Seat<L, T, A, C, P> as SeatShown>⟧.view seat.old p)
         (⟦<Seat<L, T, A, C, P> as SeatShown>⟧.view seat.new p)
-        (map ⟦<Connection<L::L> as LinkShown>⟧.shown links.old.items)
-        (map ⟦<Connection<L::L> as LinkShown>⟧.shown links.new.items) result }
+        (links_of ⟦<Connection<L::L> as LinkShown>⟧.shown places.old.links.slots)
+        (links_of ⟦<Connection<L::L> as LinkShown>⟧.shown places.new.links.slots) result }
 {
     'places: for _ in 0..seat.room {
-        match admit(alloc, seat, links, numbers) {
+        match admit(alloc, seat, places) {
             Step::On => {}
             step => return step,
         }
@@ -131,26 +133,25 @@ fn go_on<L: Listener, T: TokenAsks, A: Attestor, C: Clock, P: Ready<L::L>, G: Ga
     desk: &Mutex<Desk<T::V>>,
     seat: &mut Seat<L, T, A, C, P>,
     pass: &mut Pass<T::V>,
-    links: &mut VecDeque<Connection<L::L>>,
-    numbers: &mut Numbers,
+    places: &mut Places<L::L>,
     gate: &G,
 ) -> Step
     requires { Fit (⟦<Seat<L, T, A, C, P> as SeatShown>⟧.view seat.old pass.old)
-        (map ⟦<Connection<L::L> as LinkShown>⟧.shown links.old.items) }
+        (links_of ⟦<Connection<L::L> as LinkShown>⟧.shown places.old.links.slots) }
     ensures goes { Stepped (⟦<Seat<L, T, A, C, P> as SeatShown>⟧.view seat.old pass.old)
         (⟦<Seat<L, T, A, C, P> as SeatShown>⟧.view seat.new pass.new)
-        (map ⟦<Connection<L::L> as LinkShown>⟧.shown links.old.items)
-        (map ⟦<Connection<L::L> as LinkShown>⟧.shown links.new.items) result }
+        (links_of ⟦<Connection<L::L> as LinkShown>⟧.shown places.old.links.slots)
+        (links_of ⟦<Connection<L::L> as LinkShown>⟧.shown places.new.links.slots) result }
     ensures tends { KeepsTending ((l : L.L) → IsSome (L.L.told l)) T.V.token
         (⟦<Seat<L, T, A, C, P> as SeatShown>⟧.view seat.old pass.old)
         (⟦<Seat<L, T, A, C, P> as SeatShown>⟧.view seat.new pass.new)
-        (map ⟦<Connection<L::L> as LinkShown>⟧.shown links.old.items)
-        (map ⟦<Connection<L::L> as LinkShown>⟧.shown links.new.items) result }
+        (links_of ⟦<Connection<L::L> as LinkShown>⟧.shown places.old.links.slots)
+        (links_of ⟦<Connection<L::L> as LinkShown>⟧.shown places.new.links.slots) result }
 {
-    match admit_all(alloc, seat, links, numbers) {
+    match admit_all(alloc, seat, places) {
         Step::Closed => Step::Closed,
         Step::Over(end) => Step::Over(end),
-        _ => match serve_turn(rt, alloc, desk, seat, pass, links, numbers, gate) {
+        _ => match serve_turn(rt, alloc, desk, seat, pass, places, gate) {
             Ok(()) => Step::On,
             Err(fault) => Step::Over(end_of(fault)),
         },
@@ -164,27 +165,26 @@ fn serve_rest<L: Listener, T: TokenAsks, A: Attestor, C: Clock, P: Ready<L::L>, 
     desk: &Mutex<Desk<T::V>>,
     seat: &mut Seat<L, T, A, C, P>,
     pass: &mut Pass<T::V>,
-    links: &mut VecDeque<Connection<L::L>>,
-    numbers: &mut Numbers,
+    places: &mut Places<L::L>,
     gate: &G,
 ) -> SeatEnd
     requires { Fit (⟦<Seat<L, T, A, C, P> as SeatShown>⟧.view seat.old pass.old)
-        (map ⟦<Connection<L::L> as LinkShown>⟧.shown links.old.items) }
+        (links_of ⟦<Connection<L::L> as LinkShown>⟧.shown places.old.links.slots) }
     ensures goes { Rests (⟦<Seat<L, T, A, C, P> as SeatShown>⟧.view seat.old pass.old)
         (⟦<Seat<L, T, A, C, P> as SeatShown>⟧.view seat.new pass.new)
-        (map ⟦<Connection<L::L> as LinkShown>⟧.shown links.old.items)
-        (map ⟦<Connection<L::L> as LinkShown>⟧.shown links.new.items) result }
+        (links_of ⟦<Connection<L::L> as LinkShown>⟧.shown places.old.links.slots)
+        (links_of ⟦<Connection<L::L> as LinkShown>⟧.shown places.new.links.slots) result }
     ensures tends { KeepsTending ((l : L.L) → IsSome (L.L.told l)) T.V.token
         (⟦<Seat<L, T, A, C, P> as SeatShown>⟧.view seat.old pass.old)
         (⟦<Seat<L, T, A, C, P> as SeatShown>⟧.view seat.new pass.new)
-        (map ⟦<Connection<L::L> as LinkShown>⟧.shown links.old.items)
-        (map ⟦<Connection<L::L> as LinkShown>⟧.shown links.new.items) (Step.Over result) }
+        (links_of ⟦<Connection<L::L> as LinkShown>⟧.shown places.old.links.slots)
+        (links_of ⟦<Connection<L::L> as LinkShown>⟧.shown places.new.links.slots) (Step.Over result) }
 {
     'rest: for _ in rt.forever() {
-        if links.is_empty() {
+        if places.links.is_empty() {
             return SeatEnd::End;
         }
-        if let Err(fault) = serve_turn(rt, alloc, desk, seat, pass, links, numbers, gate) {
+        if let Err(fault) = serve_turn(rt, alloc, desk, seat, pass, places, gate) {
             return end_of(fault);
         }
     }
@@ -198,25 +198,24 @@ fn serve_all<L: Listener, T: TokenAsks, A: Attestor, C: Clock, P: Ready<L::L>, G
     desk: &Mutex<Desk<T::V>>,
     seat: &mut Seat<L, T, A, C, P>,
     pass: &mut Pass<T::V>,
-    links: &mut VecDeque<Connection<L::L>>,
-    numbers: &mut Numbers,
+    places: &mut Places<L::L>,
     gate: &G,
 ) -> SeatEnd
     requires { Fit (⟦<Seat<L, T, A, C, P> as SeatShown>⟧.view seat.old pass.old)
-        (map ⟦<Connection<L::L> as LinkShown>⟧.shown links.old.items) }
+        (links_of ⟦<Connection<L::L> as LinkShown>⟧.shown places.old.links.slots) }
     ensures goes { EndedBy (⟦<Seat<L, T, A, C, P> as SeatShown>⟧.view seat.old pass.old)
         (⟦<Seat<L, T, A, C, P> as SeatShown>⟧.view seat.new pass.new)
-        (map ⟦<Connection<L::L> as LinkShown>⟧.shown links.old.items)
-        (map ⟦<Connection<L::L> as LinkShown>⟧.shown links.new.items) result }
+        (links_of ⟦<Connection<L::L> as LinkShown>⟧.shown places.old.links.slots)
+        (links_of ⟦<Connection<L::L> as LinkShown>⟧.shown places.new.links.slots) result }
     ensures tends { KeepsTending ((l : L.L) → IsSome (L.L.told l)) T.V.token
         (⟦<Seat<L, T, A, C, P> as SeatShown>⟧.view seat.old pass.old)
         (⟦<Seat<L, T, A, C, P> as SeatShown>⟧.view seat.new pass.new)
-        (map ⟦<Connection<L::L> as LinkShown>⟧.shown links.old.items)
-        (map ⟦<Connection<L::L> as LinkShown>⟧.shown links.new.items) (Step.Over result) }
+        (links_of ⟦<Connection<L::L> as LinkShown>⟧.shown places.old.links.slots)
+        (links_of ⟦<Connection<L::L> as LinkShown>⟧.shown places.new.links.slots) (Step.Over result) }
 {
     'seat: for _ in rt.forever() {
-        match go_on(rt, alloc, desk, seat, pass, links, numbers, gate) {
-            Step::Closed => return serve_rest(rt, alloc, desk, seat, pass, links, numbers, gate),
+        match go_on(rt, alloc, desk, seat, pass, places, gate) {
+            Step::Closed => return serve_rest(rt, alloc, desk, seat, pass, places, gate),
             Step::Over(end) => return end,
             _ => {}
         }
@@ -224,35 +223,63 @@ fn serve_all<L: Listener, T: TokenAsks, A: Attestor, C: Clock, P: Ready<L::L>, G
     unreachable!()
 }
 
+/// Finishes the link of this number as it stands, if there is one.
+fn finish_one<L: Listener, T: TokenAsks, A: Attestor, C: Clock, P: Ready<L::L>, R: Wait>(
+    rt: &R,
+    seat: &mut Seat<L, T, A, C, P>,
+    places: &mut Places<L::L>,
+    number: usize,
+)
+    requires { HasOpen (L.told seat.old.listener)
+        (length (links_of ⟦<Connection<L::L> as LinkShown>⟧.shown places.old.links.slots)) }
+    ensures gone { Updates places.old.links places.new.links number None }
+    ensures within { length places.new.links.slots ≡ length places.old.links.slots }
+    ensures goes { (p : Passing) → Goes (⟦<Seat<L, T, A, C, P> as SeatShown>⟧.view seat.old p)
+        (⟦<Seat<L, T, A, C, P> as SeatShown>⟧.view seat.new p)
+        (links_of ⟦<Connection<L::L> as LinkShown>⟧.shown places.old.links.slots)
+        (links_of ⟦<Connection<L::L> as LinkShown>⟧.shown places.new.links.slots) [] }
+    ensures tends { (p : Passing) → FinishesTending T.V.token
+        (⟦<Seat<L, T, A, C, P> as SeatShown>⟧.view seat.old p)
+        (⟦<Seat<L, T, A, C, P> as SeatShown>⟧.view seat.new p)
+        (links_of ⟦<Connection<L::L> as LinkShown>⟧.shown places.old.links.slots)
+        (links_of ⟦<Connection<L::L> as LinkShown>⟧.shown places.new.links.slots) }
+{
+    let connection = match places.links.try_remove(number) {
+        Some(connection) => connection,
+        None => return,
+    };
+    let Connection {
+        number,
+        asker,
+        link,
+        served: _served,
+        held: _held,
+    } = connection;
+    seat.asks.forget(rt, asker);
+    release(&mut seat.listener, &mut seat.ready, number, link);
+}
+
 /// Finishes every link as it stands.
 fn finish_all<L: Listener, T: TokenAsks, A: Attestor, C: Clock, P: Ready<L::L>, R: Wait>(
     rt: &R,
     seat: &mut Seat<L, T, A, C, P>,
-    links: &mut VecDeque<Connection<L::L>>,
-    numbers: &mut Numbers,
+    places: &mut Places<L::L>,
 )
     requires { HasOpen (L.told seat.old.listener)
-        (length (map ⟦<Connection<L::L> as LinkShown>⟧.shown links.old.items)) }
-    ensures empty { deque_len links.new ≡ 0 }
+        (length (links_of ⟦<Connection<L::L> as LinkShown>⟧.shown places.old.links.slots)) }
     ensures goes { (p : Passing) → Goes (⟦<Seat<L, T, A, C, P> as SeatShown>⟧.view seat.old p)
         (⟦<Seat<L, T, A, C, P> as SeatShown>⟧.view seat.new p)
-        (map ⟦<Connection<L::L> as LinkShown>⟧.shown links.old.items)
+        (links_of ⟦<Connection<L::L> as LinkShown>⟧.shown places.old.links.slots)
         [] [] }
     ensures tends { (p : Passing) → FinishesTending T.V.token
         (⟦<Seat<L, T, A, C, P> as SeatShown>⟧.view seat.old p)
         (⟦<Seat<L, T, A, C, P> as SeatShown>⟧.view seat.new p)
-        (map ⟦<Connection<L::L> as LinkShown>⟧.shown links.old.items)
+        (links_of ⟦<Connection<L::L> as LinkShown>⟧.shown places.old.links.slots)
         [] }
 {
-    'links: while let Some(connection) = links.pop_front() {
-        let Connection {
-            number,
-            asker,
-            link,
-            served: _served,
-        } = connection;
-        seat.asks.forget(rt, asker);
-        release(&mut seat.listener, &mut seat.ready, numbers, number, link);
+    let capacity = places.links.capacity();
+    'links: for number in 0..capacity {
+        finish_one(rt, seat, places, number);
     }
 }
 
@@ -282,13 +309,11 @@ pub(crate) fn serve_links<
         (⟦<Seat<L, T, A, C, P> as SeatShown>⟧.view seat.old pass.old).world
         (⟦<Seat<L, T, A, C, P> as SeatShown>⟧.view seat.new pass.new).world }
 {
-    let mut numbers = match Numbers::start(alloc, seat.room) {
-        Ok(numbers) => numbers,
+    let mut places = match Places::start(alloc) {
+        Ok(places) => places,
         Err(Memory) => return SeatEnd::Memory,
     };
-    let mut links = VecDeque::new(alloc);
-    let end = serve_all(rt, alloc, desk, seat, pass, &mut links, &mut numbers, gate);
-    finish_all(rt, seat, &mut links, &mut numbers);
-    links.destroy_empty();
+    let end = serve_all(rt, alloc, desk, seat, pass, &mut places, gate);
+    finish_all(rt, seat, &mut places);
     end
 }

@@ -1,6 +1,6 @@
 //! A served connection.
 
-ghost use Rattle.std.specs.Prelude.{◌≡◌, ◌⊎◌, ◌<◌, ◌≤◌, [], None, IfOk, vec_len};
+ghost use Rattle.std.specs.Prelude.{◌≡◌, ◌⊎◌, ◌≤◌, [], None, IfOk};
 ghost use Rattle.wl_edge.specs.Edge.{Rose};
 ghost use Rattle.wl_session.specs.Sessions.{asks_in, fresh_session};
 ghost use Rattle.wl_worker.specs.Sending.{IsDue, Settles, end_of};
@@ -24,15 +24,14 @@ use wl_session::{Session, SessionFault};
 /// How many bytes one receive may give.
 const PIECE_LIMIT: usize = 16_384;
 
-/// How many bytes may have been written at once for their room to be kept: a response of the greatest length.
-const KEPT_ROOM: usize = 4_194_304;
+/// How many bytes may have been written at once for their room to be kept: what a peer's first window takes.
+const KEPT_ROOM: usize = 65_536;
 
 /// A served connection. A contract sees its session, and what that wrote and the link did not take yet.
 #[derive(Drop)]
 pub struct Served {
     alloc: Global,
     session: Session,
-    buffer: Vec<u8>,
     /// What the last step wrote.
     written: Octets,
     /// How many bytes of it the link took.
@@ -40,14 +39,39 @@ pub struct Served {
 }
 
 impl Model for Served {
-    ghost use Rattle.std.specs.Prelude.{◌<◌, ◌≤◌, length, drop, vec_len};
+    ghost use Rattle.std.specs.Prelude.{◌≤◌, length, drop};
     ghost use Rattle.wl_worker.specs.Served.{ServedState};
 
     ghost Value = { ServedState };
 
     ghost view = { λ s. record { session = s.session; unsent = drop s.sent s.written } };
 
-    ghost invariant = { λ s. (0 < vec_len s.buffer) × (s.sent ≤ length s.written) };
+    ghost invariant = { λ s. s.sent ≤ length s.written };
+}
+
+/// What a receive is lent. One serves all connections of a seat, since their rounds are taken one after the other.
+#[derive(Drop)]
+pub struct Buffer {
+    bytes: Vec<u8>,
+}
+
+impl Model for Buffer {
+    ghost use Rattle.std.specs.Prelude.{◌<◌, List, ℕ, vec_len};
+
+    ghost Value = { List ℕ };
+
+    ghost view = { λ b. b.bytes.items };
+
+    ghost invariant = { λ b. 0 < vec_len b.bytes };
+}
+
+impl Buffer {
+    /// A buffer of 16,384 bytes.
+    pub fn new(alloc: Global) -> Result<Buffer, Memory> {
+        Ok(Buffer {
+            bytes: vec![in alloc; 0; PIECE_LIMIT]?,
+        })
+    }
 }
 
 /// The end that a session is due to, once nothing is unsent.
@@ -62,13 +86,6 @@ fn due(session: &Session) -> Option<Ended>
     }
 }
 
-/// What a receive is lent.
-fn buffer(alloc: Global) -> Result<Vec<u8>, Memory>
-    ensures { IfOk result (λ b. 0 < vec_len b) }
-{
-    Ok(vec![in alloc; 0; PIECE_LIMIT]?)
-}
-
 impl Served {
     /// A connection of which no round was taken.
     pub fn start(alloc: Global) -> Result<Served, Memory>
@@ -77,15 +94,23 @@ impl Served {
         Ok(Served {
             alloc,
             session: Session::start(alloc)?,
-            buffer: buffer(alloc)?,
             written: Octets::empty(alloc),
             sent: 0,
         })
     }
 
+    /// How many bytes it holds: what the last step wrote, while some of it is unsent, and what waits in its session.
+    pub(crate) fn held(&self) -> usize {
+        let held = self.session.held();
+        if self.sent == self.written.len() {
+            return held;
+        }
+        held.saturating_add(self.written.len())
+    }
+
     /// Sends what is unsent, as far as the link takes it: the end that is due then, or `Later`, or that a
     /// sending failed.
-    fn settle<L: Link>(&mut self, link: &mut L) -> Option<RoundEnd>
+    fn send_unsent<L: Link>(&mut self, link: &mut L) -> Option<RoundEnd>
         ensures settles { Settles self.old self.new (L.told link.old) (L.told link.new) result }
         ensures later { result ≡ Some RoundEnd.Later → Rose (L.stalls link.old) (L.stalls link.new) }
         ensures failed { result ≡ Some (RoundEnd.Ended Ended.WriteFault)
@@ -107,8 +132,33 @@ impl Served {
         }
     }
 
-    /// An output of no byte, in the room of the last one, all of which was sent: so that long responses round after
-    /// round take no fresh memory. The room of a longer one than `KEPT_ROOM` is given back.
+    /// Gives back the room of a long output, once all of it was sent.
+    fn give_back(&mut self)
+        ensures { self.new ≡ self.old }
+    {
+        if self.sent > KEPT_ROOM && self.sent == self.written.len() {
+            self.written = Octets::empty(self.alloc);
+            self.sent = 0;
+        }
+    }
+
+    /// Sends what is unsent, as `send_unsent` does, and gives back the room of a long output.
+    fn settle<L: Link>(&mut self, link: &mut L) -> Option<RoundEnd>
+        ensures settles { Settles self.old self.new (L.told link.old) (L.told link.new) result }
+        ensures later { result ≡ Some RoundEnd.Later → Rose (L.stalls link.old) (L.stalls link.new) }
+        ensures failed { result ≡ Some (RoundEnd.Ended Ended.WriteFault)
+            → Rose (L.failed_sends link.old) (L.failed_sends link.new) }
+        ensures sends { L.failed_sends link.old ≤ L.failed_sends link.new }
+        ensures stalls { L.stalls link.old ≤ L.stalls link.new }
+        ensures receives { L.failed_receives link.new ≡ L.failed_receives link.old }
+        ensures origin { L.origin link.new ≡ L.origin link.old }
+    {
+        let end = self.send_unsent(link);
+        self.give_back();
+        end
+    }
+
+    /// An output of no byte, in the room of the last one, all of which was sent, so that it takes no fresh memory.
     fn take_output(&mut self) -> Octets
         ensures empty { result ≡ [] }
         ensures session { self.new.session ≡ self.old.session }
@@ -116,9 +166,6 @@ impl Served {
     {
         self.sent = 0;
         let last = mem::replace(&mut self.written, Octets::empty(self.alloc));
-        if last.len() > KEPT_ROOM {
-            return Octets::empty(self.alloc);
-        }
         let mut bytes = last.into_vec();
         bytes.clear();
         Octets::from_vec(bytes)
@@ -128,7 +175,7 @@ impl Served {
     /// or the end that is due. Else it receives once; feeds what came; has each call attested that became
     /// ready, by the origin of the link; passes the point before turns; reads the pass; takes the turn; answers
     /// the asks that wait, while an outcome has come; and sends what was written. What the link does not take
-    /// stays unsent. It waits for no answer to an ask.
+    /// stays unsent. It waits for no answer to an ask. What comes is received into `buffer`.
     ///
     /// An end other than `WriteFault` and `Memory` is answered once all that is due was sent; after an end
     /// no round is to be taken. What the pass has seen has to begin with what it had seen at the end of the
@@ -144,6 +191,7 @@ impl Served {
         asks: &mut T,
         clock: &mut C,
         gate: &G,
+        buffer: &mut Buffer,
     ) -> RoundEnd
         // The publication of the last turn is one of those that the pass has seen.
         requires { HasSeenLast pass.old.seen self.old.session }
@@ -172,11 +220,11 @@ impl Served {
             return end;
         }
         let mut out = self.take_output();
-        let buffer = self.buffer.as_mut_slice();
+        let lent = buffer.bytes.as_mut_slice();
         let session = &mut self.session;
         if let Err(end) = hear_and_step(
             rt, self.alloc, desk, pass, link, attestor, connection, asks, clock, gate, session,
-            buffer, &mut out,
+            lent, &mut out,
         ) {
             return RoundEnd::Ended(end);
         }

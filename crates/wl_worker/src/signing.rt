@@ -51,8 +51,8 @@ pub fn sign_once<S: Signer, C: Clock, R: Wait>(
     match signer.sign_x509(&ticket.ask) {
         Ok(signed) => {
             let now = clock.now();
-            let rest = rest_of(&signed, now);
             let mut held = desk.lock(rt);
+            let rest = rest_of(&signed, held.renew_before(), now);
             match install(rt, alloc, &mut held, ticket, signed, now) {
                 Ok(Some(note)) => Asked::Kept(note, rest),
                 Ok(None) => Asked::Refused,
@@ -65,11 +65,12 @@ pub fn sign_once<S: Signer, C: Clock, R: Wait>(
 }
 
 /// For how many seconds an identity that was kept at this time is not asked for again. It is due again at once where its
-/// signer backdates it by half of its time or more: then for a quarter of what is left of it, at least a second.
-fn rest_of(signed: &Signed, now: u64) -> u64
-    ensures { result ≡ rest_after now signed.now }
+/// signer dates it before `renew_before`, after now, or back by half of its time or more: then for a quarter of what is left
+/// of it, at least a second.
+fn rest_of(signed: &Signed, renew_before: u64, now: u64) -> u64
+    ensures { result ≡ rest_after renew_before now signed.now }
 {
-    if !signed.is_due(now) {
+    if signed.is_wanted(renew_before, now) && !signed.is_due(now) {
         return 0;
     }
     (signed.not_after.saturating_sub(now) / 4).max(1)

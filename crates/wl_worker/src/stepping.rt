@@ -42,8 +42,8 @@ fn take_turn(
 }
 
 /// Feeds what came, has each call attested that became ready, reads the last publication, takes the turn,
-/// and answers the asks that wait, while an outcome has come. Where the talk fails there is no turn. What is to be sent is put after
-/// `out`; out of memory that is of no use.
+/// and answers the asks that wait, while an outcome has come. Where the talk fails there is no turn. What is
+/// to be sent is put after `out`; out of memory that is of no use. Where a call was attested, `attested` says so.
 pub fn step<A: Attestor, T: TokenAsks, C: Clock, G: Gate, R: Wait>(
     rt: &R,
     alloc: Global,
@@ -58,6 +58,7 @@ pub fn step<A: Attestor, T: TokenAsks, C: Clock, G: Gate, R: Wait>(
     piece: &[u8],
     session: &mut Session,
     out: &mut Octets,
+    attested: &mut bool,
 ) -> Result<(), Memory>
     requires { HasSeenLast pass.old.seen session.old }
     ensures tells { StepTells T.V.signed (asker connection T.V.token) origin.now piece.now session.old session.new out.old out.new
@@ -73,16 +74,39 @@ pub fn step<A: Attestor, T: TokenAsks, C: Clock, G: Gate, R: Wait>(
         Err(SessionFault::Protocol(_)) => return Ok(()),
         Err(SessionFault::Memory) => return Err(Memory),
     }
-    attest_all(origin, attestor, session, out)?;
+    attest_all(origin, attestor, session, out, attested)?;
     gate.pass(BEFORE_TURN);
     let published_snapshot = pass.read()?;
     take_turn(session, &published_snapshot, out)?;
-    answer_ready(rt, alloc, desk, connection, asks, clock, session, out)?;
+    answer_ready(
+        rt,
+        alloc,
+        desk,
+        connection,
+        origin.socket,
+        asks,
+        clock,
+        session,
+        out,
+    )?;
     Ok(())
 }
 
+/// Notes at a link that a call of it was attested, where one was.
+fn note_attested<L: Link>(link: &mut L, attested: bool)
+    ensures told { L.told link.new ≡ L.told link.old }
+    ensures receives { L.failed_receives link.new ≡ L.failed_receives link.old }
+    ensures sends { L.failed_sends link.new ≡ L.failed_sends link.old }
+    ensures stalls { L.stalls link.new ≡ L.stalls link.old }
+    ensures origin { L.origin link.new ≡ L.origin link.old }
+{
+    if attested {
+        link.note_call();
+    }
+}
+
 /// Hears the link once, and takes a step with what came. `Closed` and `ReadFault` are of the link; then
-/// nothing else is done.
+/// nothing else is done. Where a call was attested, that is noted at the link.
 pub fn hear_and_step<L: Link, A: Attestor, T: TokenAsks, C: Clock, G: Gate, R: Wait>(
     rt: &R,
     alloc: Global,
@@ -120,6 +144,7 @@ pub fn hear_and_step<L: Link, A: Attestor, T: TokenAsks, C: Clock, G: Gate, R: W
         Err(end) => return Err(end),
     };
     let piece = buffer.split_at(count).0;
+    let mut attested = false;
     match step(
         rt,
         alloc,
@@ -134,8 +159,12 @@ pub fn hear_and_step<L: Link, A: Attestor, T: TokenAsks, C: Clock, G: Gate, R: W
         piece,
         session,
         out,
+        &mut attested,
     ) {
-        Ok(()) => Ok(()),
+        Ok(()) => {
+            note_attested(link, attested);
+            Ok(())
+        }
         Err(Memory) => Err(Ended::Memory),
     }
 }

@@ -4,7 +4,6 @@
 ghost use Rattle.std.specs.Prelude.{◌≡◌, ◌≤◌};
 ghost use Rattle.wl_worker.specs.Upkeep.{AskedOn, PulledAgain};
 
-use crate::asks::SeatAsk;
 use crate::documents::{Synced, sync_once};
 use crate::keeper::{Kept, keep_once};
 use crate::queue::{QueuedTicket, TicketQueue, Work};
@@ -62,9 +61,10 @@ pub fn pull_documents<V: Voucher, U: Upstream, C: Clock, G: Gate, B: Bell, R: Wa
     ensures faults { U.faults upstream.old ≤ U.faults upstream.new }
 {
     let mut rung = None;
+    let mut last = None;
     for _ in rt.forever() {
         gate.pass(BEFORE_UPKEEP);
-        let synced = sync_once(rt, alloc, desk, upstream);
+        let synced = sync_once(rt, alloc, desk, upstream, &mut last);
         rung = ring_synced(bells, rung, synced);
         rung = keep_round(rt, alloc, desk, queue, clock, bells, rung);
         if desk.lock(rt).seats() == 0 {
@@ -204,17 +204,17 @@ fn sign_token<S: Signer, C: Clock, B: Bell, R: Wait>(
     signer: &mut S,
     clock: &mut C,
     bells: &[B],
-    ask: SeatAsk,
+    ask: ask_mail::Asked,
 )
     ensures told { AskedOn (S.calls signer.old) (S.calls signer.new) }
     ensures faults { S.faults signer.old ≤ S.faults signer.new }
 {
-    let SeatAsk { seat, asked } = ask;
+    let seat = ask.seat;
     let before = clock.now();
-    let letter = sign(signer, asked);
+    let letter = sign(signer, ask);
     let now = clock.now();
     let failed = !letter.has_token();
-    if let Some(late) = queue.hub().answered(rt, seat, letter) {
+    if let Some(late) = queue.hub().answered(rt, letter) {
         keep_late(rt, alloc, desk, late, now);
     }
     if failed {
@@ -308,7 +308,7 @@ fn ring_synced<V: Voucher, B: Bell>(
 ) -> Option<u64> {
     match synced {
         Synced::Done(note) | Synced::Refused(_, note) => ring_news(bells, rung, &note),
-        Synced::Failed | Synced::Memory => rung,
+        Synced::Same | Synced::Failed | Synced::Memory => rung,
     }
 }
 

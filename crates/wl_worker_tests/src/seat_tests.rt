@@ -1,8 +1,10 @@
 //! Seats over memory.
 
+mod budgets;
 mod outside;
 mod rooms;
 mod starving;
+mod waits;
 
 ghost use Rattle.std.specs.Prelude.{IsSome};
 

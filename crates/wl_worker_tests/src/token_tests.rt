@@ -23,6 +23,8 @@ pub enum Step {
     Sign(u64),
     /// The signer does one ask, while this connection ends.
     SignWhileLeaving(u64),
+    /// A signer does one ask, and while it does, another does one, for this audience.
+    SignBeside(&'static [u8]),
     /// A signer fails at one ask, from 100 to 110.
     SignSlowly,
     /// The signer was called so often.
@@ -45,8 +47,17 @@ const UNSIGNED: &[&[u8]] = &[SERVER_SETTINGS, ACK, CREDIT_8, UNSIGNED_ONLY];
 
 const GIVEN: &[&[u8]] = &[SERVER_SETTINGS, ACK, CREDIT_8, RESPONSE_HEAD, TOKEN];
 
-/// Takes these steps with connections whose links give these pieces.
+/// Takes these steps with connections over one socket, whose links give these pieces.
 fn play<R: Wait + Abort>(rt: &R, alloc: Global, links: &[&[&[&[u8]]]], steps: &[Step]) {
+    let mut over = Vec::new(alloc);
+    for pieces in links {
+        over.push((0, *pieces)).expect(rt, "memory");
+    }
+    play_over(rt, alloc, over.as_slice(), steps);
+}
+
+/// The same with links from these sockets.
+fn play_over<R: Wait + Abort>(rt: &R, alloc: Global, links: &[(u32, &[&[&[u8]]])], steps: &[Step]) {
     let mut callers = Callers::start(rt, alloc, links);
     for step in steps {
         callers.take(rt, step);
@@ -126,4 +137,28 @@ fn silent_signer(rt: HostRuntime) {
         Step::Took(2, ASKED),
     ];
     play(&rt, rt.alloc(), &links, &steps);
+}
+
+/// Two connections over one socket ask, and then one over another. While a signer does the first ask, another gets that of
+/// the other socket, since the first socket has half of the signers.
+#[test]
+fn half_of_the_signers(rt: HostRuntime) {
+    let links: [(u32, &[&[&[u8]]]); 3] = [
+        (0, &[&[OPENING, TOKEN_CALL], &[]]),
+        (0, &[&[OPENING, TOKEN_CALL], &[]]),
+        (1, &[&[OPENING, TOKEN_CALL_Y], &[]]),
+    ];
+    let steps = [
+        on(0),
+        on(1),
+        on(2),
+        Step::SignBeside(b"y"),
+        Step::Signed(1),
+        on(0),
+        on(2),
+        Step::Took(0, GIVEN),
+        Step::Took(2, GIVEN),
+        Step::Rang(2),
+    ];
+    play_over(&rt, rt.alloc(), &links, &steps);
 }

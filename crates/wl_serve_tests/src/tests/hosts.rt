@@ -36,9 +36,13 @@ impl From<AllocError> for Stop {
 pub struct Trial {
     pub configuration: &'static [u8],
     pub document: &'static [u8],
+    /// Whether the sockets can't be opened.
+    pub is_shut: bool,
     pub seats: u32,
     /// How many links each seat gives.
     pub links: u32,
+    /// The sockets over which they come, in turn.
+    pub sockets: &'static [u32],
     /// What each of them gives.
     pub pieces: &'static [&'static [u8]],
     /// The chain that the signer gives.
@@ -57,8 +61,10 @@ pub struct Trial {
 pub const LINKS: Trial = Trial {
     configuration: ONE,
     document: DOC,
+    is_shut: false,
     seats: 1,
     links: 2,
+    sockets: &[0],
     pieces: &[],
     chain: LEAF,
     pulls: &[],
@@ -83,17 +89,29 @@ pub fn numbers(alloc: Global, numbers: &[u64]) -> Result<Row<u64>, Memory> {
     Ok(Row::from_vec(Vec::from_slice(alloc, numbers)?))
 }
 
-/// A link that gives these pieces, with room for so many bytes.
-pub fn smooth_link(alloc: Global, pieces: &[&[u8]], room: usize) -> Result<LinkPlan, Memory> {
+/// A link of this origin that gives these pieces, with room for so many bytes.
+pub fn smooth_link(
+    alloc: Global,
+    origin: Origin,
+    pieces: &[&[u8]],
+    room: usize,
+) -> Result<LinkPlan, Memory> {
     let mut gives = Row::empty(alloc);
     for piece in pieces {
         gives.push(Heard::Piece(Octets::from_slice(alloc, piece)?))?;
     }
-    Ok(LinkPlan::smooth(alloc, Origin::nowhere(alloc)?, gives, 64, room))
+    Ok(LinkPlan::smooth(alloc, origin, gives, 64, room))
 }
 
-fn link(alloc: Global, trial: &Trial) -> Result<LinkPlan, Memory> {
-    let mut plan = smooth_link(alloc, trial.pieces, ROOM)?;
+/// The link of this place, from 0.
+fn link(alloc: Global, trial: &Trial, place: usize) -> Result<LinkPlan, Memory> {
+    let socket = match trial.sockets.get(place % trial.sockets.len().max(1)) {
+        Some(socket) => *socket,
+        None => 0,
+    };
+    let nowhere = Origin::nowhere(alloc)?;
+    let origin = Origin { socket, ..nowhere };
+    let mut plan = smooth_link(alloc, origin, trial.pieces, ROOM)?;
     plan.failing_receives = numbers(alloc, trial.receives)?;
     plan.failing_sends = numbers(alloc, trial.sends)?;
     Ok(plan)
@@ -101,8 +119,8 @@ fn link(alloc: Global, trial: &Trial) -> Result<LinkPlan, Memory> {
 
 fn listener(alloc: Global, trial: &Trial) -> Result<ListenerPlan, Memory> {
     let mut links = Row::empty(alloc);
-    for _ in 0..trial.links {
-        links.push(link(alloc, trial)?)?;
+    for place in 0..trial.links as usize {
+        links.push(link(alloc, trial, place)?)?;
     }
     Ok(ListenerPlan {
         links,
@@ -206,6 +224,7 @@ where
         keeper_times: numbers(alloc, &[100, 100, 101])?,
         signer_times: numbers(alloc, &[100])?,
         gate,
+        is_shut: trial.is_shut,
         seats: seats.into_vec(),
     })))
 }
@@ -224,7 +243,7 @@ pub fn served<G: Gate + Sync + Drop, R: Threads + Wait + Sync>(
     Ok((end, kept))
 }
 
-/// Serves two sockets, whose seats are those of the two trials, by the configuration of the first.
+/// Serves by two seats, which are those of the two trials, by the configuration of the first.
 pub fn served_two<G: Gate + Sync + Drop, R: Threads + Wait + Sync>(
     rt: &R,
     alloc: Global,

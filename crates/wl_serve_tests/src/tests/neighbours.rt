@@ -28,7 +28,7 @@ fn given_up<'a, R: Clock + Sync>(
     Some(kept.as_ref()?.gate.given_up.load(Ordering::SeqCst))
 }
 
-/// How many of the bells rang, which are as many as sockets.
+/// How many of the bells rang, which are as many as seats.
 fn rung<'a, R: Clock + Sync>(kept: &Option<Parts<MemoryHost<HoldingFirst<'a, R>>>>) -> usize {
     match kept {
         Some(parts) => parts

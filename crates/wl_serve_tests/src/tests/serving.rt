@@ -15,7 +15,7 @@ use wl_serve::{MemoryHost, Parts, ServeEnd};
 use wl_worker::SeatEnd;
 
 /// What is served, and its end.
-const ENDS: [(Trial, ServeEnd); 8] = [
+const ENDS: [(Trial, ServeEnd); 10] = [
     (LINKS, ServeEnd::Done),
     // the first pull, and later ones
     (
@@ -68,6 +68,22 @@ const ENDS: [(Trial, ServeEnd); 8] = [
         },
         ServeEnd::Unprepared,
     ),
+    // sockets that can't be opened; nobody tries that before the first document was taken
+    (
+        Trial {
+            is_shut: true,
+            ..LINKS
+        },
+        ServeEnd::Unprepared,
+    ),
+    (
+        Trial {
+            is_shut: true,
+            pulls: &[0],
+            ..LINKS
+        },
+        ServeEnd::NoDocument,
+    ),
 ];
 
 /// The end, over a gate that holds nobody.
@@ -100,6 +116,24 @@ fn first_seat<G: Gate + Sync + Drop>(
 fn all_links_are_served(rt: HostRuntime) -> Result<(), Fail> {
     let (_, kept) = served(&rt, rt.alloc(), &LINKS, OpenGate)?;
     assert_eq!(rt; first_seat(&kept), Some((SeatEnd::End, 2)));
+    Ok(())
+}
+
+/// Whether one of the seats was served, or has finished a link.
+fn was_served<G: Gate + Sync + Drop>(kept: &Option<Parts<MemoryHost<G>>>) -> Option<bool> {
+    let seats = kept.as_ref()?.seats.as_slice();
+    Some(seats.iter().any(|seat| seat.end.is_some() || !seat.listener.finished().is_empty()))
+}
+
+#[test]
+fn sockets_that_cannot_be_opened(rt: HostRuntime) -> Result<(), Fail> {
+    let trial = Trial {
+        is_shut: true,
+        ..LINKS
+    };
+    let (end, kept) = served(&rt, rt.alloc(), &trial, OpenGate)?;
+    assert_eq!(rt; end, ServeEnd::Unprepared);
+    assert_eq!(rt; was_served(&kept), Some(false));
     Ok(())
 }
 

@@ -82,6 +82,7 @@ pub fn seat<P: Drop>(
         end: None,
         ready,
         room,
+        budget: u64::MAX,
         starved: 0,
     })
 }

@@ -56,6 +56,7 @@ fn starving_seat(
         end: None,
         ready: seat.ready,
         room: seat.room,
+        budget: seat.budget,
         starved: 0,
     })
 }

@@ -83,6 +83,7 @@ fn sync_words(rt: &impl Abort, alloc: Global, synced: Synced<Free>) -> String {
     let words = match synced {
         Synced::Done(note) => format!(in alloc; "done {}", note.number()),
         Synced::Refused(fault, note) => format!(in alloc; "{fault:?} {}", note.number()),
+        Synced::Same => format!(in alloc; "same"),
         Synced::Failed => format!(in alloc; "failed"),
         Synced::Memory => format!(in alloc; "memory"),
     };
@@ -97,8 +98,9 @@ fn sync_all<R: Wait + Abort>(
     upstream: &mut MemoryUpstream,
     due: &[&str],
 ) {
+    let mut last = None;
     for due in due {
-        let synced = sync_once(rt, alloc, desk, upstream);
+        let synced = sync_once(rt, alloc, desk, upstream, &mut last);
         let words = sync_words(rt, alloc, synced);
         assert_eq!(rt; words.as_str(), *due);
     }
@@ -114,7 +116,7 @@ fn a_document_is_taken_or_refused(rt: HostRuntime) {
         "ForeignDomain(Place { part: 0, index: 0, field: 2, item: 0 }) 0",
         "failed",
         "done 1",
-        "done 1",
+        "same",
     ];
     sync_all(&rt, alloc, &desk, &mut upstream, &due);
     desk.into_inner().end(&rt);
@@ -312,7 +314,7 @@ fn keep_and_sign<R: Threads + Wait + Clock + Sync + Abort>(
     asks: u64,
 ) -> bool {
     let gate = Closing::start(rt, desk, BEFORE_KEEPING, asks);
-    let queue = TicketQueue::start(alloc, AskHub::start(alloc, 2, 1).expect(rt, "memory"));
+    let queue = TicketQueue::start(alloc, AskHub::start(alloc, 2, 2, 1).expect(rt, "memory"));
     let mut signing = clock(rt, alloc, &[100]);
     let mut keeper = clock(rt, alloc, &[100, 100, 101]);
     join_mut(
@@ -372,7 +374,7 @@ fn look_and_ask<R: Wait + Abort>(
     signer: &mut MemorySigner,
     asks: [u32; 4],
 ) {
-    let queue = TicketQueue::start(alloc, AskHub::start(alloc, 2, 1).expect(rt, "memory"));
+    let queue = TicketQueue::start(alloc, AskHub::start(alloc, 2, 2, 1).expect(rt, "memory"));
     let bells = [MemoryBell::start()];
     let mut signing = clock(rt, alloc, &[150, 150, 150, 150, 150, 152, 152, 152, 162]);
     let mut keeper = clock(rt, alloc, &[150, 150, 151, 151, 152, 152, 162]);
@@ -401,7 +403,7 @@ fn an_identity_that_is_due_at_once_rests(rt: HostRuntime) {
 fn pull<R: Wait + Abort>(rt: &R, alloc: Global, desk: &Mutex<Desk<Free>>) -> u64 {
     let mut upstream = upstream(rt, alloc, &[DOC, TWO], 9);
     let mut clock = clock(rt, alloc, &[100]);
-    let queue = TicketQueue::start(alloc, AskHub::start(alloc, 2, 1).expect(rt, "memory"));
+    let queue = TicketQueue::start(alloc, AskHub::start(alloc, 2, 2, 1).expect(rt, "memory"));
     let gate = Closing::start(rt, desk, BEFORE_UPKEEP, 3);
     let bells = [MemoryBell::start(), MemoryBell::start()];
     pull_documents(

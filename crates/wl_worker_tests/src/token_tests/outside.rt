@@ -14,11 +14,12 @@ use std::sync::{Mutex, Wait};
 use wl_desk::Desk;
 use wl_edge::{
     EdgeFault, MemoryBell, MemoryClock, MemoryLink, MemorySigner, OpenGate, Script, Signer,
+    SignerCall,
 };
 use wl_entry::{Ask, Free, JwtToken, Signed};
 use wl_octets::{Octets, Row};
 use wl_publish::Pass;
-use wl_worker::{AskHub, RoundEnd, SeatAsks, Served, TicketQueue, sign_next};
+use wl_worker::{AskHub, Buffer, RoundEnd, SeatAsks, Served, TicketQueue, sign_next};
 
 /// A PING, and its answer.
 pub const PING: &[u8] = b"\x00\x00\x08\x06\x00\x00\x00\x00\x00pingping";
@@ -38,6 +39,7 @@ pub const TOKEN_U: &[u8] =
 struct Caller {
     link: MemoryLink,
     served: Served,
+    buffer: Buffer,
     pass: Pass<Free>,
 }
 
@@ -72,6 +74,7 @@ impl Caller {
             asks,
             &mut outside.clock,
             &OpenGate,
+            &mut self.buffer,
         )
     }
 }
@@ -112,6 +115,47 @@ impl<'a, R: Wait> Signer for Leaving<'a, R> {
     }
 }
 
+/// A signer in memory during whose calls another signer does an ask.
+#[derive(Drop)]
+struct Beside<'a, R: Wait> {
+    rt: &'a R,
+    alloc: Global,
+    desk: &'a Mutex<Desk<Free>>,
+    queue: &'a TicketQueue<Free>,
+    bells: &'a [MemoryBell],
+    signer: MemorySigner,
+    other: MemorySigner,
+    clock: MemoryClock,
+}
+
+impl<'a, R: Wait> Signer for Beside<'a, R> {
+    type V = Free;
+
+    ghost calls = { λ s. None };
+
+    ghost faults = { λ s. 0 };
+
+    fn sign_x509(&mut self, _ask: &Ask) -> Result<Signed, EdgeFault> {
+        Err(EdgeFault::Memory)
+    }
+
+    fn sign_jwt(&mut self, ask: &Ask, audience: &[Octets]) -> Result<JwtToken, EdgeFault> {
+        sign_next(
+            self.rt,
+            self.alloc,
+            self.desk,
+            self.queue,
+            &mut self.other,
+            &mut self.clock,
+            self.bells,
+        );
+        match self.signer.sign_jwt(ask, audience) {
+            Ok(token) => Ok(token),
+            Err(_) => Err(EdgeFault::Memory),
+        }
+    }
+}
+
 /// A signer that fails, and counts its calls.
 #[derive(Drop)]
 struct Failing {
@@ -137,6 +181,17 @@ impl Signer for Failing {
 }
 
 /// The connections of one seat, numbered in their order, and all that is around them.
+/// Whether a signer was called once, for a token for this audience.
+fn asked_once(calls: &[SignerCall], audience: &[u8]) -> bool {
+    match calls {
+        [SignerCall::Jwt(_, audiences, _)] => match audiences.as_slice() {
+            [one] => one.as_slice() == audience,
+            _ => false,
+        },
+        _ => false,
+    }
+}
+
 pub struct Callers {
     alloc: Global,
     desk: Mutex<Desk<Free>>,
@@ -150,27 +205,31 @@ pub struct Callers {
 fn start_caller(
     rt: &impl Abort,
     alloc: Global,
+    socket: u32,
     pieces: &[&[&[u8]]],
     pass: Option<Pass<Free>>,
 ) -> Caller {
-    let plan = plan(alloc, pieces).expect(rt, "memory");
+    let mut plan = plan(alloc, pieces).expect(rt, "memory");
+    plan.origin.socket = socket;
     Caller {
         link: MemoryLink::start(alloc, plan).expect(rt, "memory"),
         served: Served::start(alloc).expect(rt, "memory"),
+        buffer: Buffer::new(alloc).expect(rt, "memory"),
         pass: pass.expect(rt, "a pass"),
     }
 }
 
 impl Callers {
-    /// Connections, three at most, over links that give these pieces, at 100, with one signer of the tokens t and u.
-    pub fn start<R: Wait + Abort>(rt: &R, alloc: Global, links: &[&[&[&[u8]]]]) -> Callers {
-        let hub = AskHub::start(alloc, 1, 1).expect(rt, "memory");
+    /// Connections, three at most, at 100, with one signer of the tokens t and u, where there may be two. Each comes over
+    /// a link from this socket, of two, that gives these pieces.
+    pub fn start<R: Wait + Abort>(rt: &R, alloc: Global, links: &[(u32, &[&[&[u8]]])]) -> Callers {
+        let hub = AskHub::start(alloc, 1, 2, 2).expect(rt, "memory");
         let asks = SeatAsks::start(alloc, &hub, 0).expect(rt, "memory");
         let outside = memory_outside(alloc, 100, &[], &[]).expect(rt, "an outside");
         let (desk, mut passes) = open_all(rt, alloc, 1).expect(rt, "a desk");
         let mut callers = Vec::new(alloc);
-        for pieces in links {
-            let next = start_caller(rt, alloc, pieces, passes.pop());
+        for (socket, pieces) in links {
+            let next = start_caller(rt, alloc, *socket, pieces, passes.pop());
             callers.push(next).expect(rt, "memory");
         }
         Callers {
@@ -226,6 +285,27 @@ impl Callers {
         self.outside.asks.signer = leaving.signer;
     }
 
+    /// A signer does one ask, and while it does, another does one. Asserts for how many audiences, of this text each, the
+    /// other was asked.
+    fn sign_beside<R: Wait + Abort>(&mut self, rt: &R, audience: &[u8]) {
+        let outside = memory_outside(self.alloc, 100, &[], &[]).expect(rt, "an outside");
+        let mut beside = Beside {
+            rt,
+            alloc: self.alloc,
+            desk: &self.desk,
+            queue: &self.queue,
+            bells: &self.bells,
+            signer: mem::replace(&mut self.outside.asks.signer, idle_signer(self.alloc)),
+            other: outside.asks.signer,
+            clock: outside.clock,
+        };
+        let clock = &mut self.outside.clock;
+        let (desk, queue) = (&self.desk, &self.queue);
+        sign_next(rt, self.alloc, desk, queue, &mut beside, clock, &self.bells);
+        assert!(rt; asked_once(beside.other.calls(), audience));
+        self.outside.asks.signer = beside.signer;
+    }
+
     /// A signer fails at one ask, from 100 to 110.
     fn sign_slowly<R: Wait + Abort>(&mut self, rt: &R) {
         let mut failing = Failing { faults: 0 };
@@ -260,6 +340,7 @@ impl Callers {
             Step::Took(connection, parts) => self.took(rt, connection, parts),
             Step::Sign(count) => self.sign(rt, count),
             Step::SignWhileLeaving(connection) => self.sign_while_leaving(rt, connection),
+            Step::SignBeside(audience) => self.sign_beside(rt, audience),
             Step::SignSlowly => self.sign_slowly(rt),
             Step::TellTime(now) => self.queue.tell_time(rt, now),
             Step::Signed(calls) => assert_eq!(rt; self.outside.asks.signer.calls().len(), calls),

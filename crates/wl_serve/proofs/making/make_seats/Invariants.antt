@@ -1,11 +1,12 @@
-use Rattle.std.proofs.Common.{◌≡◌, take, map, length}
-use Rattle.wl_serve.specs.Prepared.{AreSeats}
+use Rattle.std.proofs.Common.{◌≡◌, map, length}
+use Rattle.std.specs.List.{AllZip, range_with_len}
+use Rattle.wl_dealing.specs.Dealt.{dealt}
+use Rattle.wl_serve.specs.Prepared.{IsSeat}
 use Rattle.wl_serve.proofs.making.make_seats.Given as goal
 
-abbrev pub invariant-loop-fact : goal.invariant-loop-fact
-invariant-loop-fact g l =
+abbrev pub invariant-loop-number : goal.invariant-loop-number
+invariant-loop-number g l =
     record {
-      seats : AreSeats g.M.SeatMaker.tells 0 (take l.fact-index l.sockets) (map g.M.Seat.SeatShown.shown l.seats.items);
+      seats : AllZip (λ k v. IsSeat g.M.SeatMaker.tells (dealt l.count k l.sockets) v) (range_with_len 0 l.number) (map g.M.Seat.SeatShown.shown l.seats.items);
       bells : length l.bells ≡ length l.seats.items;
-      number : l.number ≡ l.fact-index;
     }

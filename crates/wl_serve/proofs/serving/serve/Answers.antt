@@ -14,4 +14,4 @@ pub serve_parts-end-requires-clause-idle : goal.serve_parts-end-requires-clause-
 serve_parts-end-requires-clause-idle g c κs within = idle_seats _ _ _ c.in-Ok-prepare.ensures.prepared
 
 pub returns : goal.returns
-returns g c = serve_tells _ _ _ _ c.in-Ok.config c.in-Ok.ensures _ _ _ _ c.in-Ok-prepare.ensures.prepared _ c.serve_parts-end.ensures
+returns g c = serve_tells _ _ _ _ c.in-Ok.config c.in-Ok.ensures _ _ _ c.prepare.ensures.later _ _ c.in-Ok-prepare.ensures.prepared _ c.serve_parts-end.ensures

@@ -1,13 +1,13 @@
 use Rattle.std.proofs.Common.{◌∙◌, ap, refl}
-use Rattle.std.specs.Prelude.{None}
+use Rattle.std.specs.Prelude.{Err, None}
 use Rattle.wl_serve.specs.Serving.{end_of}
 use Rattle.wl_serve.proofs.Lists.{ends_shown}
-use Rattle.wl_serve.proofs.Ran.{sat_from, sat_tells, refused_first}
+use Rattle.wl_serve.proofs.Ran.{sat_from, sat_tells, refused_first, taken_first}
 use Rattle.wl_serve.proofs.serving.serve_first.Goals as goal
 
 pub returns-in-Ok-serve_manager : goal.returns-in-Ok-serve_manager
 returns-in-Ok-serve_manager g c =
-    sat_tells _ _ _ _ _ _ _ _
+    sat_tells _ _ _ _ _ _ _ _ _ _
     (sat_from _ _ (g.U.Upstream.told c.args.upkeep.now.upstream) (g.U.Upstream.told c.pull.new.self) (g.U.Upstream.told c.serve_manager.new.upkeep.upstream)
     (g.U.Upstream.faults c.args.upkeep.now.upstream) (g.U.Upstream.faults c.pull.new.self)
     c.empty-document.result c.pull.new.into c.as_slice.result.now c.empty-document.ensures c.as_slice.ensures c.in-Ok.ensures.gives
@@ -19,4 +19,12 @@ returns-in_default g c = (
   refl,
   refused_first (g.U.Upstream.told c.args.upkeep.now.upstream) (g.U.Upstream.told c.pull.new.self) (g.U.Upstream.faults c.args.upkeep.now.upstream) (g.U.Upstream.faults c.pull.new.self)
       c.empty-document.result c.pull.new.into c.as_slice.result.now c.empty-document.ensures c.as_slice.ensures c.in-Ok.ensures.gives c.in-Err.fault c.in-Err.ensures.fault c.in_default.not-Memory,
+)
+
+pub returns-in-Err-Failed-open : goal.returns-in-Err-Failed-open
+returns-in-Err-Failed-open g c = (
+  refl,
+  c.in-Err-Failed-open.ensures.failed (ap Err c.in-Err-Failed-open.field-0-is),
+  taken_first (g.U.Upstream.told c.args.upkeep.now.upstream) (g.U.Upstream.told c.pull.new.self) (g.U.Upstream.faults c.args.upkeep.now.upstream) (g.U.Upstream.faults c.pull.new.self)
+      c.empty-document.result c.pull.new.into c.as_slice.result.now c.empty-document.ensures c.as_slice.ensures c.in-Ok.ensures.gives c.in-Ok-start_strict.manager c.in-Ok-start_strict.ensures.ok,
 )

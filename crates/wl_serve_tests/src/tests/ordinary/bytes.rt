@@ -6,9 +6,9 @@ pub const ENTRIES: u8 = 50;
 /// How many sockets. The callers over each are entitled to the entries whose numbers leave its own when divided by this.
 pub const SOCKETS: u8 = 3;
 
-/// Three sockets with one worker each.
+/// Three sockets with one worker each, on three threads.
 pub const CONFIGURATION: &[u8] =
-    b"{\"version\":1,\"upstream\":\"/u\",\"signer\":\"/s\",\"sockets\":[{\"path\":\"/a\",\"workers\":1,\"selectors\":[\"unix:uid:0\"]},{\"path\":\"/b\",\"workers\":1,\"selectors\":[\"unix:uid:1\"]},{\"path\":\"/c\",\"workers\":1,\"selectors\":[\"unix:uid:2\"]}]}";
+    b"{\"version\":1,\"upstream\":\"/u\",\"signer\":\"/s\",\"threads\":3,\"sockets\":[{\"path\":\"/a\",\"workers\":1,\"selectors\":[\"unix:uid:0\"]},{\"path\":\"/b\",\"workers\":1,\"selectors\":[\"unix:uid:1\"]},{\"path\":\"/c\",\"workers\":1,\"selectors\":[\"unix:uid:2\"]}]}";
 
 /// The client of a socket.
 #[derive(Clone, Copy)]

@@ -12,7 +12,7 @@ use std::alloc::Global;
 use std::rt::Clock;
 use std::sync::Wait;
 use std::thread::Threads;
-use wl_edge::{ListenerPlan, Script};
+use wl_edge::{ListenerPlan, Origin, Script};
 use wl_entry::Signed;
 use wl_octets::{Memory, Octets, Row};
 use wl_serve::{HostPlan, MemoryHost, SeatPlan, ServeEnd, serve};
@@ -135,7 +135,10 @@ fn signer_times(alloc: Global) -> Result<Row<u64>, Memory> {
 /// A listener of one link.
 fn listener(alloc: Global) -> Result<ListenerPlan, Stop> {
     let mut links = Row::empty(alloc);
-    push(&mut links, smooth_link(alloc, &PIECES, ROOM)?)?;
+    push(
+        &mut links,
+        smooth_link(alloc, Origin::nowhere(alloc)?, &PIECES, ROOM)?,
+    )?;
     Ok(ListenerPlan {
         links,
         idle: Row::empty(alloc),
@@ -176,6 +179,7 @@ pub fn serve_node<'a, R: Threads + Wait + Sync + Clock>(
         keeper_times: numbers(alloc, &[FIRST.from, FIRST.from, NEXT.from])?,
         signer_times: signer_times(alloc)?,
         gate: Rows::start(rt),
+        is_shut: false,
         seats: seats(alloc)?,
     }));
     let mut kept = None;

@@ -6,6 +6,9 @@ use Rattle.wl_worker.proofs.connection.serve_connection.Goals as goal
 pub returns-in-Err-clause-tells : goal.returns-in-Err-clause-tells
 returns-in-Err-clause-tells g c = never_served g.T.V.Voucher.signed (asker c.args.connection g.T.V.Voucher.token) (g.L.Link.origin c.args.link.now) _ _
 
+pub returns-in-Err-new-clause-tells : goal.returns-in-Err-new-clause-tells
+returns-in-Err-new-clause-tells g c = never_served g.T.V.Voucher.signed (asker c.args.connection g.T.V.Voucher.token) (g.L.Link.origin c.args.link.now) _ _
+
 pub rounds-init : goal.rounds-init
 rounds-init g c = record {
   serving = serving_none g.T.V.Voucher.signed (asker c.args.connection g.T.V.Voucher.token) (g.L.Link.origin c.args.link.now) _ _ c.in-Ok.served c.in-Ok.ensures;

@@ -9,11 +9,11 @@ pub returns-in-Err-clause-tends : goal.returns-in-Err-clause-tends
 returns-in-Err-clause-tends g c = λ t. tends_none _ _ _
 
 pub returns-clause-goes : goal.returns-clause-goes
-returns-clause-goes g c = ends_finished _ _ _ _ _ _ _ (ended_from_none _ _ _ _ _ _ c.new-links.ensures.items c.serve_all-end.ensures.goes) (c.finish_all.ensures.goes c.serve_all-end.new.pass)
+returns-clause-goes g c = ends_finished _ _ _ _ _ _ _ (ended_from_none _ _ _ _ _ _ c.in-Ok.ensures c.serve_all-end.ensures.goes) (c.finish_all.ensures.goes c.serve_all-end.new.pass)
 
 pub returns-clause-tends : goal.returns-clause-tends
 returns-clause-tends g c =
     let served = c.serve_all-end.ensures.goes.goes in
     let finished = c.finish_all.ensures.goes c.serve_all-end.new.pass in
-    tends_all _ _ _ _ _ _ _ (keeps_from_none _ _ _ _ _ _ _ _ c.new-links.ensures.items c.serve_all-end.ensures.tends) (c.finish_all.ensures.tends c.serve_all-end.new.pass)
+    tends_all _ _ _ _ _ _ _ (keeps_from_none _ _ _ _ _ _ _ _ c.in-Ok.ensures c.serve_all-end.ensures.tends) (c.finish_all.ensures.tends c.serve_all-end.new.pass)
     served.room finished.room

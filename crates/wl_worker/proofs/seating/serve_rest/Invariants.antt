@@ -3,7 +3,7 @@ use Rattle.wl_worker.specs.Served.{around}
 use Rattle.wl_worker.specs.Tended.{seat_world}
 use Rattle.wl_worker.specs.Seating.{Goes, KeepsTending, seat_view, under, finished_link}
 use Rattle.wl_worker.specs.declared.step.Step.TheVariants as step
-use Rattle.wl_worker.proofs.SeatParts.{each_of}
+use Rattle.wl_worker.proofs.SeatParts.{each_slot}
 use Rattle.wl_worker.proofs.seating.serve_rest.Given as goal
 
 -- so far
@@ -13,11 +13,11 @@ invariant-rest g l =
       goes : Goes
           (seat_view l.fn.seat.room l.fn.seat.connections (g.L.Listener.faults l.fn.seat.listener) (g.P.Ready.faults l.fn.seat.ready) (seat_world (g.L.Listener.sockets l.fn.seat.listener) (g.L.Listener.told l.fn.seat.listener) l.fn.seat.starved (around (g.A.Attestor.calls l.fn.seat.attestor) (g.A.Attestor.faults l.fn.seat.attestor) (g.T.TokenAsks.taken l.fn.seat.asks) (g.T.TokenAsks.faults l.fn.seat.asks) (g.C.Clock.answers l.fn.seat.clock) l.fn.pass)))
           (seat_view l.seat.room l.seat.connections (g.L.Listener.faults l.seat.listener) (g.P.Ready.faults l.seat.ready) (seat_world (g.L.Listener.sockets l.seat.listener) (g.L.Listener.told l.seat.listener) l.seat.starved (around (g.A.Attestor.calls l.seat.attestor) (g.A.Attestor.faults l.seat.attestor) (g.T.TokenAsks.taken l.seat.asks) (g.T.TokenAsks.faults l.seat.asks) (g.C.Clock.answers l.seat.clock) l.pass)))
-          (each_of l.fn.links.items (λ c. under c.asker (finished_link (g.L.L.Link.origin c.link) (g.L.L.Link.told c.link) (g.L.L.Link.failed_receives c.link) (g.L.L.Link.failed_sends c.link) (g.L.L.Link.stalls c.link)) c.served))
-          (each_of l.links.items (λ c. under c.asker (finished_link (g.L.L.Link.origin c.link) (g.L.L.Link.told c.link) (g.L.L.Link.failed_receives c.link) (g.L.L.Link.failed_sends c.link) (g.L.L.Link.stalls c.link)) c.served)) [];
+          (each_slot l.fn.places.links.slots (λ c. under c.asker (finished_link (g.L.L.Link.origin c.link) (g.L.L.Link.told c.link) (g.L.L.Link.failed_receives c.link) (g.L.L.Link.failed_sends c.link) (g.L.L.Link.stalls c.link)) c.served))
+          (each_slot l.places.links.slots (λ c. under c.asker (finished_link (g.L.L.Link.origin c.link) (g.L.L.Link.told c.link) (g.L.L.Link.failed_receives c.link) (g.L.L.Link.failed_sends c.link) (g.L.L.Link.stalls c.link)) c.served)) [];
       tends : KeepsTending ((k : g.row.L-L.Denot) → IsSome (g.L.L.Link.told k)) g.T.V.Voucher.token
           (seat_view l.fn.seat.room l.fn.seat.connections (g.L.Listener.faults l.fn.seat.listener) (g.P.Ready.faults l.fn.seat.ready) (seat_world (g.L.Listener.sockets l.fn.seat.listener) (g.L.Listener.told l.fn.seat.listener) l.fn.seat.starved (around (g.A.Attestor.calls l.fn.seat.attestor) (g.A.Attestor.faults l.fn.seat.attestor) (g.T.TokenAsks.taken l.fn.seat.asks) (g.T.TokenAsks.faults l.fn.seat.asks) (g.C.Clock.answers l.fn.seat.clock) l.fn.pass)))
           (seat_view l.seat.room l.seat.connections (g.L.Listener.faults l.seat.listener) (g.P.Ready.faults l.seat.ready) (seat_world (g.L.Listener.sockets l.seat.listener) (g.L.Listener.told l.seat.listener) l.seat.starved (around (g.A.Attestor.calls l.seat.attestor) (g.A.Attestor.faults l.seat.attestor) (g.T.TokenAsks.taken l.seat.asks) (g.T.TokenAsks.faults l.seat.asks) (g.C.Clock.answers l.seat.clock) l.pass)))
-          (each_of l.fn.links.items (λ c. under c.asker (finished_link (g.L.L.Link.origin c.link) (g.L.L.Link.told c.link) (g.L.L.Link.failed_receives c.link) (g.L.L.Link.failed_sends c.link) (g.L.L.Link.stalls c.link)) c.served))
-          (each_of l.links.items (λ c. under c.asker (finished_link (g.L.L.Link.origin c.link) (g.L.L.Link.told c.link) (g.L.L.Link.failed_receives c.link) (g.L.L.Link.failed_sends c.link) (g.L.L.Link.stalls c.link)) c.served)) step.On;
+          (each_slot l.fn.places.links.slots (λ c. under c.asker (finished_link (g.L.L.Link.origin c.link) (g.L.L.Link.told c.link) (g.L.L.Link.failed_receives c.link) (g.L.L.Link.failed_sends c.link) (g.L.L.Link.stalls c.link)) c.served))
+          (each_slot l.places.links.slots (λ c. under c.asker (finished_link (g.L.L.Link.origin c.link) (g.L.L.Link.told c.link) (g.L.L.Link.failed_receives c.link) (g.L.L.Link.failed_sends c.link) (g.L.L.Link.stalls c.link)) c.served)) step.On;
     }

@@ -15,7 +15,7 @@ returns-in-Ok-step-clause-tells g c =
     let hears = c.in-Ok.ensures.hears in
     let its = came c.hear.new.buffer c.in-Ok.count hears.heards c.split_at.result.0.now c.split_at.ensures.front hears.heard_is in
     let by = c.origin.ensures ∙ c.in-Ok.ensures.origin in
-    record { heards = hears.heards; link = hears.link; step = (its.0, c.split_at.result.0.now, its.1, its.2, rw by at c.in-Ok-step.ensures.tells) }
+    rw c.note_attested.ensures.told (record { heards = hears.heards; link = hears.link; step = (its.0, c.split_at.result.0.now, its.1, its.2, rw by at c.in-Ok-step.ensures.tells) })
 
 pub returns-in-Err-step-clause-tells : goal.returns-in-Err-step-clause-tells
 returns-in-Err-step-clause-tells g c =

@@ -1,0 +1,25 @@
+use Rattle.wl_worker.proofs.SeenPublications.{prefix_same}
+use Rattle.wl_worker.proofs.SeatParts.{goes_then, goes_over, stays_silent}
+use Rattle.wl_worker.proofs.LinkParts.{finishes_then, finishes_one}
+use Rattle.wl_worker.proofs.SeatPlaces.{goes_taken, finishes_taken, open_taken, goes_absent, finishes_absent}
+use Rattle.wl_worker.proofs.seating.finish_one.Goals as goal
+
+pub returns-in-None-clause-goes : goal.returns-in-None-clause-goes
+returns-in-None-clause-goes g c = λ p. goes_absent _ _ _ _ c.in-None.ensures.absent
+
+pub returns-in-None-clause-tends : goal.returns-in-None-clause-tends
+returns-in-None-clause-tends g c = λ p. finishes_absent _ _ _ _ _ c.in-None.ensures.absent
+
+pub release-requires-after_bounds : goal.release-requires-after_bounds
+release-requires-after_bounds g c κs within = open_taken _ _ _ _ _ _ c.in-Some.ensures.value c.in-Some.ensures.updates c.requires
+
+pub returns-clause-goes : goal.returns-clause-goes
+returns-clause-goes g c = λ p.
+    goes_then _ _ _ _ _ _ _ _ (goes_taken _ _ _ _ _ _ c.in-Some.ensures.value c.in-Some.ensures.updates)
+    (goes_over _ _ _ _ (prefix_same _) _ _ _ _ _ _ _ _ c.release.ensures.listens c.release.ensures.waits
+    (stays_silent _ _ (c.args.seat.now.alike c.args.seat.now.listener c.release.new.listener)) c.release.ensures.sockets c.release.ensures.finishes)
+
+pub returns-clause-tends : goal.returns-clause-tends
+returns-clause-tends g c = λ p.
+    finishes_then _ _ _ _ _ _ _ (finishes_taken _ _ _ _ _ _ _ c.in-Some.ensures.value c.in-Some.ensures.updates)
+    (finishes_one _ _ _ _ _ _ _ _ _ _ _ c.release.ensures.sockets c.release.ensures.finishes)
