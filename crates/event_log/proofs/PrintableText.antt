@@ -4,8 +4,13 @@ use Rattle.std.specs.Fmt.{decimal}
 use Rattle.std.proofs.lemmas.Fmt.{decimal_by_steps}
 use Rattle.fault_lines.specs.Explanations.{explained_text}
 use Rattle.event_log.specs.Texts.{escaped, escaped_byte, hex_digit, is_printed, are_printed, word_field, number_field, text_field}
-use Rattle.event_log.specs.Events.{level_of, level_name, event_name, bind_name, reason_name, pull_name, sign_name, link_name}
-use Rattle.event_log.specs.Lines.{bind_fields, fault_fields, fields, repeated, said, line, fits}
+use Rattle.figures.specs.Labels.{link_name, late_name}
+use Rattle.figures.specs.declared.labels.LinkCause.{LinkCause}
+use Rattle.figures.specs.declared.labels.LinkCause.TheVariants.{ReceiveFailed, SendFailed}
+use Rattle.figures.specs.declared.labels.LateCause.{LateCause}
+use Rattle.figures.specs.declared.labels.LateCause.TheVariants.{Stalled, Silent}
+use Rattle.event_log.specs.Events.{level_of, level_name, event_name, bind_name, reason_name, pull_name, sign_name, unfit_name, error_name}
+use Rattle.event_log.specs.Lines.{bind_fields, sign_fields, fault_fields, taken_fields, counts_fit, fields, repeated, said, line, fits}
 use Rattle.event_log.specs.declared.level.Level.{Level}
 use Rattle.event_log.specs.declared.level.Level.TheVariants.{Error, Warn, Info, Debug}
 use Rattle.event_log.specs.declared.causes.BindCause.{BindCause}
@@ -15,11 +20,14 @@ use Rattle.event_log.specs.declared.causes.Reason.TheVariants.{NotFound, Permiss
 use Rattle.event_log.specs.declared.causes.PullCause.{PullCause}
 use Rattle.event_log.specs.declared.causes.PullCause.TheVariants.{Socket, File}
 use Rattle.event_log.specs.declared.causes.SignCause.{SignCause}
-use Rattle.event_log.specs.declared.causes.SignCause.TheVariants.{NoAnswer, NotInDocument}
-use Rattle.event_log.specs.declared.causes.LinkCause.{LinkCause}
-use Rattle.event_log.specs.declared.causes.LinkCause.TheVariants.{ReceiveFailed, SendFailed}
+use Rattle.event_log.specs.declared.causes.SignCause.TheVariants.{NotReached, TimedOut as NotInTime, NotAnAnswer, NotInDocument, Unfit}
+use Rattle.event_log.specs.declared.causes.UnfitCause.{UnfitCause}
+use Rattle.event_log.specs.declared.causes.UnfitCause.TheVariants as unfit
+use Rattle.event_log.specs.declared.causes.ErrorCode.{ErrorCode}
+use Rattle.event_log.specs.declared.causes.ErrorCode.TheVariants as error
+use Rattle.event_log.specs.declared.event.DocumentCounts.{DocumentCounts}
 use Rattle.event_log.specs.declared.event.Event.{Event}
-use Rattle.event_log.specs.declared.event.Event.TheVariants.{BindFailed, ConfigurationUnread, ConfigurationRefused, FirstDocumentRefused, NoFirstDocument, ListenFailed, HostFailed, OutputFailed, OutOfMemory, DocumentRefused, DocumentTaken, AuthorityFailed, AuthorityBack, SigningFailed, TokenFailed, IdentityEnded, IdentityNotYetValid, ConnectionFailed, Signed, SignerBack, Serving, Stopping, Connected, Closed}
+use Rattle.event_log.specs.declared.event.Event.TheVariants.{BindFailed, ConfigurationUnread, ConfigurationRefused, FirstDocumentRefused, NoFirstDocument, NoThread, ListenFailed, HostFailed, OutputFailed, OutOfMemory, DocumentRefused, DocumentTaken, AuthorityFailed, AuthorityBack, SigningFailed, TokenFailed, IdentityEnded, IdentityNotYetValid, CallerWaits, ConnectionBroken, LinkLate, ConnectionFailed, AttestationFailed, ConnectionsOfUidFull, SocketBoundAnew, Signed, SignerBack, Serving, Stopping, Connected, Closed}
 
 pub printed_append : (xs ys : List ℕ) → are_printed xs ≡ true → are_printed ys ≡ true → are_printed (xs ++ ys) ≡ true
 printed_append [] ys h k = k
@@ -106,19 +114,26 @@ name_printed ConfigurationUnread = refl
 name_printed (ConfigurationRefused _) = refl
 name_printed (FirstDocumentRefused _) = refl
 name_printed NoFirstDocument = refl
+name_printed NoThread = refl
 name_printed (ListenFailed _) = refl
 name_printed HostFailed = refl
 name_printed OutputFailed = refl
 name_printed OutOfMemory = refl
 name_printed (DocumentRefused _) = refl
-name_printed (DocumentTaken _ _) = refl
+name_printed (DocumentTaken _) = refl
 name_printed (AuthorityFailed _ _) = refl
 name_printed AuthorityBack = refl
 name_printed (SigningFailed _ _) = refl
 name_printed (TokenFailed _ _) = refl
 name_printed (IdentityEnded _) = refl
 name_printed (IdentityNotYetValid _ _) = refl
+name_printed (CallerWaits _ _) = refl
+name_printed (ConnectionBroken _ _) = refl
+name_printed (LinkLate _ _) = refl
 name_printed (ConnectionFailed _ _) = refl
+name_printed (AttestationFailed _) = refl
+name_printed (ConnectionsOfUidFull _ _) = refl
+name_printed (SocketBoundAnew _) = refl
 name_printed (Signed _ _) = refl
 name_printed SignerBack = refl
 name_printed (Serving _) = refl
@@ -144,13 +159,50 @@ pull_printed File = refl
 
 sign_printed : (cause : SignCause) → are_printed (sign_name cause) ≡ true
 unfolding sign_name
-sign_printed NoAnswer = refl
+sign_printed NotReached = refl
+sign_printed NotInTime = refl
+sign_printed NotAnAnswer = refl
 sign_printed NotInDocument = refl
+sign_printed (Unfit _) = refl
+
+unfit_printed : (fault : UnfitCause) → are_printed (unfit_name fault) ≡ true
+unfolding unfit_name
+unfit_printed unfit.Times = refl
+unfit_printed unfit.Expired = refl
+unfit_printed unfit.EmptyChain = refl
+unfit_printed unfit.EmptyKey = refl
+unfit_printed unfit.TooLong = refl
+unfit_printed unfit.NoLeaf = refl
+unfit_printed unfit.OtherId = refl
+unfit_printed unfit.OtherTimes = refl
 
 link_printed : (cause : LinkCause) → are_printed (link_name cause) ≡ true
 unfolding link_name
 link_printed ReceiveFailed = refl
 link_printed SendFailed = refl
+
+late_printed : (cause : LateCause) → are_printed (late_name cause) ≡ true
+unfolding late_name
+late_printed Stalled = refl
+late_printed Silent = refl
+
+error_printed : (code : ErrorCode) → are_printed (error_name code) ≡ true
+unfolding error_name
+error_printed error.NoError = refl
+error_printed error.ProtocolError = refl
+error_printed error.InternalError = refl
+error_printed error.FlowControlError = refl
+error_printed error.SettingsTimeout = refl
+error_printed error.StreamClosed = refl
+error_printed error.FrameSizeError = refl
+error_printed error.RefusedStream = refl
+error_printed error.Cancel = refl
+error_printed error.CompressionError = refl
+error_printed error.ConnectError = refl
+error_printed error.EnhanceYourCalm = refl
+error_printed error.InadequateSecurity = refl
+error_printed error.Http11Required = refl
+error_printed error.Unnamed = refl
 
 bind_printed : (cause : BindCause) → are_printed (bind_name cause) ≡ true
 unfolding bind_name
@@ -177,10 +229,23 @@ fault_printed fault =
     printed_append (text_field (codes "fault") fault) (text_field (codes "text") (explained_text fault))
     (text_field_printed (codes "fault") fault refl) (text_field_printed (codes "text") (explained_text fault) refl)
 
-unsigned_printed : (entry : List ℕ) (cause : SignCause) → are_printed (text_field (codes "entry") entry ++ word_field (codes "cause") (sign_name cause)) ≡ true
+cause_printed : (cause : SignCause) → are_printed (word_field (codes "cause") (sign_name cause)) ≡ true
+cause_printed cause = word_printed (codes "cause") (sign_name cause) refl (sign_printed cause)
+
+sign_fields_printed : (cause : SignCause) → are_printed (sign_fields cause) ≡ true
+unfolding sign_fields
+sign_fields_printed NotReached = cause_printed NotReached
+sign_fields_printed NotInTime = cause_printed NotInTime
+sign_fields_printed NotAnAnswer = cause_printed NotAnAnswer
+sign_fields_printed NotInDocument = cause_printed NotInDocument
+sign_fields_printed (Unfit fault) =
+    printed_append (word_field (codes "cause") (sign_name (Unfit fault))) (word_field (codes "fault") (unfit_name fault))
+    (cause_printed (Unfit fault)) (word_printed (codes "fault") (unfit_name fault) refl (unfit_printed fault))
+
+unsigned_printed : (entry : List ℕ) (cause : SignCause) → are_printed (text_field (codes "entry") entry ++ sign_fields cause) ≡ true
 unsigned_printed entry cause =
-    printed_append (text_field (codes "entry") entry) (word_field (codes "cause") (sign_name cause))
-    (text_field_printed (codes "entry") entry refl) (word_printed (codes "cause") (sign_name cause) refl (sign_printed cause))
+    printed_append (text_field (codes "entry") entry) (sign_fields cause)
+    (text_field_printed (codes "entry") entry refl) (sign_fields_printed cause)
 
 number_below : (key : List ℕ) (n : ℕ) → are_printed key ≡ true → nat_lt n (2 ^ 64) ≡ true → are_printed (number_field key n) ≡ true
 number_below key n h small = number_field_printed key n h (below n small)
@@ -194,6 +259,21 @@ second_true true d h = h
 second_true false false h = h
 second_true false true h = refl
 
+two_numbers_printed : (key other : List ℕ) (n m : ℕ) → are_printed key ≡ true → are_printed other ≡ true →
+    (nat_lt n (2 ^ 64) && nat_lt m (2 ^ 64)) ≡ true → are_printed (number_field key n ++ number_field other m) ≡ true
+two_numbers_printed key other n m k o h =
+    printed_append (number_field key n) (number_field other m)
+    (number_below key n k (first_true _ _ h)) (number_below other m o (second_true _ _ h))
+
+taken_printed : (counts : DocumentCounts) → counts_fit counts ≡ true → are_printed (taken_fields counts) ≡ true
+unfolding taken_fields counts_fit
+taken_printed c h =
+    printed_append (number_field (codes "entries") c.entries ++ number_field (codes "bundles") c.bundles ++ number_field (codes "changed") c.changed) (number_field (codes "removed") c.removed)
+    (printed_append (number_field (codes "entries") c.entries ++ number_field (codes "bundles") c.bundles) (number_field (codes "changed") c.changed)
+    (two_numbers_printed (codes "entries") (codes "bundles") c.entries c.bundles refl refl (first_true _ _ h))
+    (number_below (codes "changed") c.changed refl (first_true _ _ (second_true _ _ h))))
+    (number_below (codes "removed") c.removed refl (second_true _ _ (second_true _ _ h)))
+
 fields_printed : (event : Event) → fits event ≡ true → are_printed (fields event) ≡ true
 unfolding fields fits
 fields_printed (BindFailed path cause) h =
@@ -202,14 +282,13 @@ fields_printed ConfigurationUnread h = refl
 fields_printed (ConfigurationRefused fault) h = fault_printed fault.now
 fields_printed (FirstDocumentRefused fault) h = fault_printed fault.now
 fields_printed NoFirstDocument h = refl
+fields_printed NoThread h = refl
 fields_printed (ListenFailed socket) h = number_below (codes "socket") socket refl h
 fields_printed HostFailed h = refl
 fields_printed OutputFailed h = refl
 fields_printed OutOfMemory h = refl
 fields_printed (DocumentRefused fault) h = fault_printed fault.now
-fields_printed (DocumentTaken entries bundles) h =
-    printed_append (number_field (codes "entries") entries) (number_field (codes "bundles") bundles)
-    (number_below (codes "entries") entries refl (first_true _ _ h)) (number_below (codes "bundles") bundles refl (second_true _ _ h))
+fields_printed (DocumentTaken counts) h = taken_printed counts h
 fields_printed (AuthorityFailed cause since) h =
     printed_append (word_field (codes "cause") (pull_name cause)) (text_field (codes "since") since.now)
     (word_printed (codes "cause") (pull_name cause) refl (pull_printed cause)) (text_field_printed (codes "since") since.now refl)
@@ -220,9 +299,21 @@ fields_printed (IdentityEnded ask) h = text_field_printed (codes "entry") ask.no
 fields_printed (IdentityNotYetValid ask not_before) h =
     printed_append (text_field (codes "entry") ask.now.entry_id) (number_field (codes "not_before") not_before)
     (text_field_printed (codes "entry") ask.now.entry_id refl) (number_below (codes "not_before") not_before refl h)
+fields_printed (CallerWaits socket ask) h =
+    printed_append (number_field (codes "socket") socket) (text_field (codes "entry") ask.now.entry_id)
+    (number_below (codes "socket") socket refl h) (text_field_printed (codes "entry") ask.now.entry_id refl)
+fields_printed (ConnectionBroken socket code) h =
+    printed_append (number_field (codes "socket") socket) (word_field (codes "code") (error_name code))
+    (number_below (codes "socket") socket refl h) (word_printed (codes "code") (error_name code) refl (error_printed code))
+fields_printed (LinkLate socket cause) h =
+    printed_append (number_field (codes "socket") socket) (word_field (codes "cause") (late_name cause))
+    (number_below (codes "socket") socket refl h) (word_printed (codes "cause") (late_name cause) refl (late_printed cause))
 fields_printed (ConnectionFailed socket cause) h =
     printed_append (number_field (codes "socket") socket) (word_field (codes "cause") (link_name cause))
     (number_below (codes "socket") socket refl h) (word_printed (codes "cause") (link_name cause) refl (link_printed cause))
+fields_printed (AttestationFailed socket) h = number_below (codes "socket") socket refl h
+fields_printed (ConnectionsOfUidFull socket uid) h = two_numbers_printed (codes "socket") (codes "uid") socket uid refl refl h
+fields_printed (SocketBoundAnew path) h = text_field_printed (codes "path") path.now refl
 fields_printed (Signed ask not_after) h =
     printed_append (text_field (codes "entry") ask.now.entry_id) (number_field (codes "not_after") not_after)
     (text_field_printed (codes "entry") ask.now.entry_id refl) (number_below (codes "not_after") not_after refl h)

@@ -9,11 +9,13 @@ use Rattle.event_log.specs.declared.causes.Reason.TheVariants.{NotFound, Permiss
 use Rattle.event_log.specs.declared.causes.PullCause.{PullCause}
 use Rattle.event_log.specs.declared.causes.PullCause.TheVariants.{Socket, File}
 use Rattle.event_log.specs.declared.causes.SignCause.{SignCause}
-use Rattle.event_log.specs.declared.causes.SignCause.TheVariants.{NoAnswer, NotInDocument}
-use Rattle.event_log.specs.declared.causes.LinkCause.{LinkCause}
-use Rattle.event_log.specs.declared.causes.LinkCause.TheVariants.{ReceiveFailed, SendFailed}
+use Rattle.event_log.specs.declared.causes.SignCause.TheVariants.{NotReached, TimedOut as NotInTime, NotAnAnswer, NotInDocument, Unfit}
+use Rattle.event_log.specs.declared.causes.UnfitCause.{UnfitCause}
+use Rattle.event_log.specs.declared.causes.UnfitCause.TheVariants as unfit
+use Rattle.event_log.specs.declared.causes.ErrorCode.{ErrorCode}
+use Rattle.event_log.specs.declared.causes.ErrorCode.TheVariants as error
 use Rattle.event_log.specs.declared.event.Event.{Event}
-use Rattle.event_log.specs.declared.event.Event.TheVariants.{BindFailed, ConfigurationUnread, ConfigurationRefused, FirstDocumentRefused, NoFirstDocument, ListenFailed, HostFailed, OutputFailed, OutOfMemory, DocumentRefused, DocumentTaken, AuthorityFailed, AuthorityBack, SigningFailed, TokenFailed, IdentityEnded, IdentityNotYetValid, ConnectionFailed, Signed, SignerBack, Serving, Stopping, Connected, Closed}
+use Rattle.event_log.specs.declared.event.Event.TheVariants.{BindFailed, ConfigurationUnread, ConfigurationRefused, FirstDocumentRefused, NoFirstDocument, NoThread, ListenFailed, HostFailed, OutputFailed, OutOfMemory, DocumentRefused, DocumentTaken, AuthorityFailed, AuthorityBack, SigningFailed, TokenFailed, IdentityEnded, IdentityNotYetValid, CallerWaits, ConnectionBroken, LinkLate, ConnectionFailed, AttestationFailed, ConnectionsOfUidFull, SocketBoundAnew, Signed, SignerBack, Serving, Stopping, Connected, Closed}
 
 unfoldable pub level_name : Level → List ℕ
 level_name Error = codes "error"
@@ -34,19 +36,26 @@ level_of ConfigurationUnread = Error
 level_of (ConfigurationRefused _) = Error
 level_of (FirstDocumentRefused _) = Error
 level_of NoFirstDocument = Error
+level_of NoThread = Error
 level_of (ListenFailed _) = Error
 level_of HostFailed = Error
 level_of OutputFailed = Error
 level_of OutOfMemory = Error
 level_of (DocumentRefused _) = Warn
-level_of (DocumentTaken _ _) = Info
+level_of (DocumentTaken _) = Info
 level_of (AuthorityFailed _ _) = Warn
 level_of AuthorityBack = Info
 level_of (SigningFailed _ _) = Warn
 level_of (TokenFailed _ _) = Warn
 level_of (IdentityEnded _) = Warn
 level_of (IdentityNotYetValid _ _) = Warn
+level_of (CallerWaits _ _) = Warn
+level_of (ConnectionBroken _ _) = Warn
+level_of (LinkLate _ _) = Warn
 level_of (ConnectionFailed _ _) = Debug
+level_of (AttestationFailed _) = Warn
+level_of (ConnectionsOfUidFull _ _) = Warn
+level_of (SocketBoundAnew _) = Warn
 level_of (Signed _ _) = Info
 level_of SignerBack = Info
 level_of (Serving _) = Info
@@ -60,19 +69,26 @@ event_name ConfigurationUnread = codes "configuration_unread"
 event_name (ConfigurationRefused _) = codes "configuration_refused"
 event_name (FirstDocumentRefused _) = codes "first_document_refused"
 event_name NoFirstDocument = codes "no_first_document"
+event_name NoThread = codes "no_thread"
 event_name (ListenFailed _) = codes "listen_failed"
 event_name HostFailed = codes "host_failed"
 event_name OutputFailed = codes "output_failed"
 event_name OutOfMemory = codes "out_of_memory"
 event_name (DocumentRefused _) = codes "document_refused"
-event_name (DocumentTaken _ _) = codes "document_taken"
+event_name (DocumentTaken _) = codes "document_taken"
 event_name (AuthorityFailed _ _) = codes "authority_failed"
 event_name AuthorityBack = codes "authority_back"
 event_name (SigningFailed _ _) = codes "signing_failed"
 event_name (TokenFailed _ _) = codes "token_failed"
 event_name (IdentityEnded _) = codes "identity_ended"
 event_name (IdentityNotYetValid _ _) = codes "identity_not_yet_valid"
+event_name (CallerWaits _ _) = codes "caller_waits"
+event_name (ConnectionBroken _ _) = codes "connection_broken"
+event_name (LinkLate _ _) = codes "link_late"
 event_name (ConnectionFailed _ _) = codes "connection_failed"
+event_name (AttestationFailed _) = codes "attestation_failed"
+event_name (ConnectionsOfUidFull _ _) = codes "connections_of_uid_full"
+event_name (SocketBoundAnew _) = codes "socket_bound_anew"
 event_name (Signed _ _) = codes "signed"
 event_name SignerBack = codes "signer_back"
 event_name (Serving _) = codes "serving"
@@ -101,9 +117,36 @@ pull_name Socket = codes "socket"
 pull_name File = codes "file"
 
 unfoldable pub sign_name : SignCause → List ℕ
-sign_name NoAnswer = codes "no_answer"
+sign_name NotReached = codes "connect"
+sign_name NotInTime = codes "timeout"
+sign_name NotAnAnswer = codes "not_an_answer"
 sign_name NotInDocument = codes "not_in_document"
+sign_name (Unfit _) = codes "unfit"
 
-unfoldable pub link_name : LinkCause → List ℕ
-link_name ReceiveFailed = codes "receive_failed"
-link_name SendFailed = codes "send_failed"
+unfoldable pub unfit_name : UnfitCause → List ℕ
+unfit_name unfit.Times = codes "times"
+unfit_name unfit.Expired = codes "expired"
+unfit_name unfit.EmptyChain = codes "empty_chain"
+unfit_name unfit.EmptyKey = codes "empty_key"
+unfit_name unfit.TooLong = codes "too_long"
+unfit_name unfit.NoLeaf = codes "no_leaf"
+unfit_name unfit.OtherId = codes "other_id"
+unfit_name unfit.OtherTimes = codes "other_times"
+
+-- RFC 9113, section 7
+unfoldable pub error_name : ErrorCode → List ℕ
+error_name error.NoError = codes "NO_ERROR"
+error_name error.ProtocolError = codes "PROTOCOL_ERROR"
+error_name error.InternalError = codes "INTERNAL_ERROR"
+error_name error.FlowControlError = codes "FLOW_CONTROL_ERROR"
+error_name error.SettingsTimeout = codes "SETTINGS_TIMEOUT"
+error_name error.StreamClosed = codes "STREAM_CLOSED"
+error_name error.FrameSizeError = codes "FRAME_SIZE_ERROR"
+error_name error.RefusedStream = codes "REFUSED_STREAM"
+error_name error.Cancel = codes "CANCEL"
+error_name error.CompressionError = codes "COMPRESSION_ERROR"
+error_name error.ConnectError = codes "CONNECT_ERROR"
+error_name error.EnhanceYourCalm = codes "ENHANCE_YOUR_CALM"
+error_name error.InadequateSecurity = codes "INADEQUATE_SECURITY"
+error_name error.Http11Required = codes "HTTP_1_1_REQUIRED"
+error_name error.Unnamed = codes "unnamed"

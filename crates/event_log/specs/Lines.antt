@@ -2,11 +2,15 @@
 use Rattle.std.specs.Prelude.{ℕ, true, ◌==◌, ◌&&◌, ◌^◌, Bool, nat_lt, if◌then◌else◌, List, [], ◌++◌, codes}
 use Rattle.fault_lines.specs.Explanations.{explained_text}
 use Rattle.event_log.specs.Texts.{escaped, word_field, number_field, text_field}
-use Rattle.event_log.specs.Events.{level_of, level_name, event_name, bind_name, reason_name, pull_name, sign_name, link_name}
+use Rattle.figures.specs.Labels.{link_name, late_name}
+use Rattle.event_log.specs.Events.{level_of, level_name, event_name, bind_name, reason_name, pull_name, sign_name, unfit_name, error_name}
 use Rattle.event_log.specs.declared.causes.BindCause.{BindCause}
 use Rattle.event_log.specs.declared.causes.BindCause.TheVariants.{Taken, NotASocket, StaleOfOtherUser, Refused}
+use Rattle.event_log.specs.declared.causes.SignCause.{SignCause}
+use Rattle.event_log.specs.declared.causes.SignCause.TheVariants.{NotReached, TimedOut, NotAnAnswer, NotInDocument, Unfit}
+use Rattle.event_log.specs.declared.event.DocumentCounts.{DocumentCounts}
 use Rattle.event_log.specs.declared.event.Event.{Event}
-use Rattle.event_log.specs.declared.event.Event.TheVariants.{BindFailed, ConfigurationUnread, ConfigurationRefused, FirstDocumentRefused, NoFirstDocument, ListenFailed, HostFailed, OutputFailed, OutOfMemory, DocumentRefused, DocumentTaken, AuthorityFailed, AuthorityBack, SigningFailed, TokenFailed, IdentityEnded, IdentityNotYetValid, ConnectionFailed, Signed, SignerBack, Serving, Stopping, Connected, Closed}
+use Rattle.event_log.specs.declared.event.Event.TheVariants.{BindFailed, ConfigurationUnread, ConfigurationRefused, FirstDocumentRefused, NoFirstDocument, NoThread, ListenFailed, HostFailed, OutputFailed, OutOfMemory, DocumentRefused, DocumentTaken, AuthorityFailed, AuthorityBack, SigningFailed, TokenFailed, IdentityEnded, IdentityNotYetValid, CallerWaits, ConnectionBroken, LinkLate, ConnectionFailed, AttestationFailed, ConnectionsOfUidFull, SocketBoundAnew, Signed, SignerBack, Serving, Stopping, Connected, Closed}
 
 -- why a path could not be bound; with the system's reason where it refused
 unfoldable pub bind_fields : BindCause → List ℕ
@@ -14,6 +18,20 @@ bind_fields Taken = word_field (codes "cause") (bind_name Taken)
 bind_fields NotASocket = word_field (codes "cause") (bind_name NotASocket)
 bind_fields StaleOfOtherUser = word_field (codes "cause") (bind_name StaleOfOtherUser)
 bind_fields (Refused reason) = word_field (codes "cause") (bind_name (Refused reason)) ++ word_field (codes "reason") (reason_name reason)
+
+-- why nothing was signed; with the fault of what is unfit
+unfoldable pub sign_fields : SignCause → List ℕ
+sign_fields NotReached = word_field (codes "cause") (sign_name NotReached)
+sign_fields TimedOut = word_field (codes "cause") (sign_name TimedOut)
+sign_fields NotAnAnswer = word_field (codes "cause") (sign_name NotAnAnswer)
+sign_fields NotInDocument = word_field (codes "cause") (sign_name NotInDocument)
+sign_fields (Unfit fault) = word_field (codes "cause") (sign_name (Unfit fault)) ++ word_field (codes "fault") (unfit_name fault)
+
+-- what a document has, and in what it differs from the one before
+unfoldable pub taken_fields : DocumentCounts → List ℕ
+taken_fields c =
+    number_field (codes "entries") c.entries ++ number_field (codes "bundles") c.bundles
+    ++ number_field (codes "changed") c.changed ++ number_field (codes "removed") c.removed
 
 -- a fault line and its sentence
 unfoldable pub fault_fields : List ℕ → List ℕ
@@ -26,19 +44,26 @@ fields ConfigurationUnread = []
 fields (ConfigurationRefused fault) = fault_fields fault.now
 fields (FirstDocumentRefused fault) = fault_fields fault.now
 fields NoFirstDocument = []
+fields NoThread = []
 fields (ListenFailed socket) = number_field (codes "socket") socket
 fields HostFailed = []
 fields OutputFailed = []
 fields OutOfMemory = []
 fields (DocumentRefused fault) = fault_fields fault.now
-fields (DocumentTaken entries bundles) = number_field (codes "entries") entries ++ number_field (codes "bundles") bundles
+fields (DocumentTaken counts) = taken_fields counts
 fields (AuthorityFailed cause since) = word_field (codes "cause") (pull_name cause) ++ text_field (codes "since") since.now
 fields AuthorityBack = []
-fields (SigningFailed ask cause) = text_field (codes "entry") ask.now.entry_id ++ word_field (codes "cause") (sign_name cause)
-fields (TokenFailed ask cause) = text_field (codes "entry") ask.now.entry_id ++ word_field (codes "cause") (sign_name cause)
+fields (SigningFailed ask cause) = text_field (codes "entry") ask.now.entry_id ++ sign_fields cause
+fields (TokenFailed ask cause) = text_field (codes "entry") ask.now.entry_id ++ sign_fields cause
 fields (IdentityEnded ask) = text_field (codes "entry") ask.now.entry_id
 fields (IdentityNotYetValid ask not_before) = text_field (codes "entry") ask.now.entry_id ++ number_field (codes "not_before") not_before
+fields (CallerWaits socket ask) = number_field (codes "socket") socket ++ text_field (codes "entry") ask.now.entry_id
+fields (ConnectionBroken socket code) = number_field (codes "socket") socket ++ word_field (codes "code") (error_name code)
+fields (LinkLate socket cause) = number_field (codes "socket") socket ++ word_field (codes "cause") (late_name cause)
 fields (ConnectionFailed socket cause) = number_field (codes "socket") socket ++ word_field (codes "cause") (link_name cause)
+fields (AttestationFailed socket) = number_field (codes "socket") socket
+fields (ConnectionsOfUidFull socket uid) = number_field (codes "socket") socket ++ number_field (codes "uid") uid
+fields (SocketBoundAnew path) = text_field (codes "path") path.now
 fields (Signed ask not_after) = text_field (codes "entry") ask.now.entry_id ++ number_field (codes "not_after") not_after
 fields SignerBack = []
 fields (Serving sockets) = number_field (codes "sockets") sockets
@@ -59,12 +84,21 @@ said time event n =
 unfoldable pub line : List ℕ → Event → ℕ → List ℕ
 line time event n = said time event n ++ codes "\n"
 
+-- whether each number of a document has 64 bits
+unfoldable pub counts_fit : DocumentCounts → Bool
+counts_fit c = (nat_lt c.entries (2 ^ 64) && nat_lt c.bundles (2 ^ 64)) && (nat_lt c.changed (2 ^ 64) && nat_lt c.removed (2 ^ 64))
+
 -- whether each number of an event has 64 bits
 unfoldable pub fits : Event → Bool
 fits (ListenFailed socket) = nat_lt socket (2 ^ 64)
-fits (DocumentTaken entries bundles) = nat_lt entries (2 ^ 64) && nat_lt bundles (2 ^ 64)
+fits (DocumentTaken counts) = counts_fit counts
 fits (IdentityNotYetValid _ not_before) = nat_lt not_before (2 ^ 64)
+fits (CallerWaits socket _) = nat_lt socket (2 ^ 64)
+fits (ConnectionBroken socket _) = nat_lt socket (2 ^ 64)
+fits (LinkLate socket _) = nat_lt socket (2 ^ 64)
 fits (ConnectionFailed socket _) = nat_lt socket (2 ^ 64)
+fits (AttestationFailed socket) = nat_lt socket (2 ^ 64)
+fits (ConnectionsOfUidFull socket uid) = nat_lt socket (2 ^ 64) && nat_lt uid (2 ^ 64)
 fits (Signed _ not_after) = nat_lt not_after (2 ^ 64)
 fits (Serving sockets) = nat_lt sockets (2 ^ 64)
 fits (Stopping status) = nat_lt status (2 ^ 64)

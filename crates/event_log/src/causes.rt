@@ -1,6 +1,7 @@
-//! Why something failed.
+//! Why something failed. The causes of connections are those of [`figures`].
 
 use std::io::ErrorKind;
+use wl_entry::Unfit;
 
 /// Why nobody listens at a path.
 #[derive(Clone, Copy, Debug, Drop, PartialEq, Eq)]
@@ -41,19 +42,97 @@ pub enum PullCause {
 /// Why nothing was signed.
 #[derive(Clone, Copy, Debug, Drop, PartialEq, Eq)]
 pub enum SignCause {
-    /// The signer's socket could not be opened, or gave no answer that fits the ask in time.
-    NoAnswer,
+    /// The signer's socket could not be opened.
+    NotReached,
+    /// The signer had not answered when the exchange had to end.
+    TimedOut,
+    /// The signer closed the stream, or what it sent is no answer to the ask.
+    NotAnAnswer,
     /// The document has no identity for the entry, and signs no token.
     NotInDocument,
+    /// The answer is an identity, which is of no use for this reason.
+    Unfit(UnfitCause),
 }
 
-/// Why a connection failed.
+/// Why an identity is of no use for the ask for which it was signed.
 #[derive(Clone, Copy, Debug, Drop, PartialEq, Eq)]
-pub enum LinkCause {
-    /// A receive failed: its peer went away over bytes that it had not read, as one does that wanted one message.
-    ReceiveFailed,
-    /// A sending failed: its peer went away, or did not read in time while the agent ended.
-    SendFailed,
+pub enum UnfitCause {
+    /// It ends at or before its begin.
+    Times,
+    /// It has ended.
+    Expired,
+    /// It has no chain.
+    EmptyChain,
+    /// It has no key.
+    EmptyKey,
+    /// Chain and key are too long.
+    TooLong,
+    /// The chain has no leaf that can be read.
+    NoLeaf,
+    /// The leaf names another SPIFFE ID.
+    OtherId,
+    /// The leaf has other times than the signer says.
+    OtherTimes,
+}
+
+/// An error code of HTTP/2 (RFC 9113, section 7).
+#[derive(Clone, Copy, Debug, Drop, PartialEq, Eq)]
+pub enum ErrorCode {
+    NoError,
+    ProtocolError,
+    InternalError,
+    FlowControlError,
+    SettingsTimeout,
+    StreamClosed,
+    FrameSizeError,
+    RefusedStream,
+    Cancel,
+    CompressionError,
+    ConnectError,
+    EnhanceYourCalm,
+    InadequateSecurity,
+    Http11Required,
+    /// A code that the standard doesn't name.
+    Unnamed,
+}
+
+impl ErrorCode {
+    /// The code of this number.
+    pub fn of_number(number: u32) -> ErrorCode {
+        match number {
+            0 => ErrorCode::NoError,
+            1 => ErrorCode::ProtocolError,
+            2 => ErrorCode::InternalError,
+            3 => ErrorCode::FlowControlError,
+            4 => ErrorCode::SettingsTimeout,
+            5 => ErrorCode::StreamClosed,
+            6 => ErrorCode::FrameSizeError,
+            7 => ErrorCode::RefusedStream,
+            8 => ErrorCode::Cancel,
+            9 => ErrorCode::CompressionError,
+            10 => ErrorCode::ConnectError,
+            11 => ErrorCode::EnhanceYourCalm,
+            12 => ErrorCode::InadequateSecurity,
+            13 => ErrorCode::Http11Required,
+            _ => ErrorCode::Unnamed,
+        }
+    }
+}
+
+impl UnfitCause {
+    /// The cause of this reason.
+    pub fn of_reason(reason: &Unfit) -> UnfitCause {
+        match reason {
+            Unfit::Times => UnfitCause::Times,
+            Unfit::Expired => UnfitCause::Expired,
+            Unfit::EmptyChain => UnfitCause::EmptyChain,
+            Unfit::EmptyKey => UnfitCause::EmptyKey,
+            Unfit::TooLong(_) => UnfitCause::TooLong,
+            Unfit::Cert(_) => UnfitCause::NoLeaf,
+            Unfit::OtherId { .. } => UnfitCause::OtherId,
+            Unfit::OtherTimes { .. } => UnfitCause::OtherTimes,
+        }
+    }
 }
 
 impl Reason {

@@ -1,10 +1,22 @@
 //! What may be said. No variant holds the bytes of a key, a token or a message.
 
-use crate::causes::{BindCause, LinkCause, PullCause, SignCause};
+use crate::causes::{BindCause, ErrorCode, PullCause, SignCause};
 use crate::fault_line::FaultLine;
 use crate::path_text::PathText;
 use crate::time_text::TimeText;
+use figures::{LateCause, LinkCause};
 use wl_entry::Ask;
+
+/// What a document has, and in which of its entries it differs from the last that was taken before.
+#[derive(Clone, Copy, Debug, Drop, PartialEq, Eq)]
+pub struct DocumentCounts {
+    pub entries: u64,
+    pub bundles: u64,
+    /// How many of its entries are new, or other than before.
+    pub changed: u64,
+    /// How many entries are gone.
+    pub removed: u64,
+}
 
 /// An event: ids, causes, numbers and paths. A socket is named by its number in the configuration, from 0; of an ask the
 /// line has the entry's id.
@@ -20,6 +32,8 @@ pub enum Event<'a> {
     FirstDocumentRefused(&'a FaultLine),
     /// No first document came.
     NoFirstDocument,
+    /// So many threads as serving needs could not be started.
+    NoThread,
     /// A listener failed for good.
     ListenFailed(u32),
     /// A socket, a listener, or what watches its links failed.
@@ -30,8 +44,8 @@ pub enum Event<'a> {
     OutOfMemory,
     /// A later document has this fault, and nothing of it is taken.
     DocumentRefused(&'a FaultLine),
-    /// Another document than the last was taken, with so many entries and bundles.
-    DocumentTaken(u64, u64),
+    /// Another document than the last was taken.
+    DocumentTaken(DocumentCounts),
     /// No document came, for the first time at this time.
     AuthorityFailed(PullCause, &'a TimeText),
     /// A document came again.
@@ -44,8 +58,20 @@ pub enum Event<'a> {
     IdentityEnded(&'a Ask),
     /// An identity was signed for the ask, which is valid from this Unix second on and isn't yet.
     IdentityNotYetValid(&'a Ask, u64),
+    /// The entry of the ask has had no identity for some time, and a caller of this socket that is entitled to it is connected.
+    CallerWaits(u32, &'a Ask),
+    /// The peer of a connection of this socket broke a rule of HTTP/2, and the connection was ended with this code.
+    ConnectionBroken(u32, ErrorCode),
+    /// A connection of this socket was given up.
+    LinkLate(u32, LateCause),
     /// A connection of this socket failed.
     ConnectionFailed(u32, LinkCause),
+    /// Nobody can say who a caller of this socket is, and it was refused.
+    AttestationFailed(u32),
+    /// A caller of this socket was refused, since as many connections of its user are open as may be. The user is named by its uid.
+    ConnectionsOfUidFull(u32, u32),
+    /// The socket file at this path was gone, or another stood there, and one of this process stands there again.
+    SocketBoundAnew(&'a PathText),
     /// An identity was signed for the ask, which ends at this Unix second.
     Signed(&'a Ask, u64),
     /// The signer answered again.

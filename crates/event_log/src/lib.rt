@@ -16,8 +16,8 @@ mod repeats;
 pub mod texts;
 mod time_text;
 
-pub use causes::{BindCause, LinkCause, PullCause, Reason, SignCause};
-pub use event::Event;
+pub use causes::{BindCause, ErrorCode, PullCause, Reason, SignCause, UnfitCause};
+pub use event::{DocumentCounts, Event};
 pub use fault_line::FaultLine;
 pub use laws::{lines_are_one, texts_are_printed};
 pub use level::Level;

@@ -2,15 +2,18 @@
 
 ghost use Rattle.std.specs.Prelude.{◌≡◌, ◌++◌, OnOk, codes};
 ghost use Rattle.event_log.specs.Texts.{word_field, number_field, text_field};
-ghost use Rattle.event_log.specs.Events.{sign_name, link_name};
-ghost use Rattle.event_log.specs.Lines.{bind_fields, fault_fields, fields, repeated, said, line};
+ghost use Rattle.figures.specs.Labels.{link_name, late_name};
+ghost use Rattle.event_log.specs.Events.{error_name};
+ghost use Rattle.event_log.specs.Lines.{bind_fields, sign_fields, fault_fields, taken_fields, fields, repeated, said, line};
 
-use crate::causes::{BindCause, LinkCause, SignCause};
-use crate::event::Event;
+use crate::causes::{BindCause, ErrorCode, SignCause};
+use crate::event::{DocumentCounts, Event};
 use crate::fault_line::FaultLine;
+use crate::path_text::PathText;
 use crate::texts::{put_escaped, put_number, put_text, put_word};
 use crate::time_text::TimeText;
 use fault_lines::explain_text;
+use figures::{LateCause, LinkCause};
 use std::alloc::Global;
 use wl_entry::Ask;
 use wl_octets::{Memory, Octets};
@@ -27,6 +30,14 @@ fn put_bind(out: &mut Octets, cause: BindCause) -> Result<(), Memory>
     }
 }
 
+/// Writes a path, and why it could not be bound.
+fn put_unbound(out: &mut Octets, path: &PathText, cause: BindCause) -> Result<(), Memory>
+    ensures { OnOk result (out.new ≡ out.old ++ text_field (codes "path") path.now ++ bind_fields cause) }
+{
+    put_text(out, b"path", path.as_slice())?;
+    put_bind(out, cause)
+}
+
 /// Writes a fault line and its sentence.
 #[tactic(auto, unfolding(crate::specs::Lines::fault_fields))]
 fn put_fault(alloc: Global, out: &mut Octets, fault: &FaultLine) -> Result<(), Memory>
@@ -37,13 +48,28 @@ fn put_fault(alloc: Global, out: &mut Octets, fault: &FaultLine) -> Result<(), M
     put_text(out, b"text", text.as_slice())
 }
 
+/// Writes why nothing was signed.
+#[tactic(auto, unfolding(crate::specs::Lines::sign_fields))]
+fn put_sign(out: &mut Octets, cause: SignCause) -> Result<(), Memory>
+    ensures { OnOk result (out.new ≡ out.old ++ sign_fields cause) }
+{
+    put_word(out, b"cause", cause.name())?;
+    match cause {
+        SignCause::NotReached
+        | SignCause::TimedOut
+        | SignCause::NotAnAnswer
+        | SignCause::NotInDocument => Ok(()),
+        SignCause::Unfit(fault) => put_word(out, b"fault", fault.name()),
+    }
+}
+
 /// Writes the entry of an ask, and why nothing was signed for it.
 fn put_unsigned(out: &mut Octets, ask: &Ask, cause: SignCause) -> Result<(), Memory>
     ensures { OnOk result (out.new ≡ out.old
-        ++ text_field (codes "entry") ask.now.entry_id ++ word_field (codes "cause") (sign_name cause)) }
+        ++ text_field (codes "entry") ask.now.entry_id ++ sign_fields cause) }
 {
     put_text(out, b"entry", ask.entry_id.as_slice())?;
-    put_word(out, b"cause", cause.name())
+    put_sign(out, cause)
 }
 
 /// Writes the entry of an ask, and a Unix second of its identity.
@@ -61,13 +87,72 @@ fn put_moment(
     put_number(alloc, out, key, second)
 }
 
+/// Writes the socket of a connection, and a word on it.
+fn put_connection(
+    alloc: Global,
+    out: &mut Octets,
+    socket: u32,
+    key: &[u8],
+    word: &[u8],
+) -> Result<(), Memory>
+    ensures { OnOk result (out.new ≡ out.old
+        ++ number_field (codes "socket") socket ++ word_field key.now word.now) }
+{
+    put_number(alloc, out, b"socket", u64::from(socket))?;
+    put_word(out, key, word)
+}
+
+/// Writes the socket of a connection whose peer broke a rule, and the code with which it was ended.
+fn put_broken(alloc: Global, out: &mut Octets, socket: u32, code: ErrorCode) -> Result<(), Memory>
+    ensures { OnOk result (out.new ≡ out.old
+        ++ number_field (codes "socket") socket ++ word_field (codes "code") (error_name code)) }
+{
+    put_connection(alloc, out, socket, b"code", code.name())
+}
+
+/// Writes the socket of a connection that was given up, and why.
+fn put_late(alloc: Global, out: &mut Octets, socket: u32, cause: LateCause) -> Result<(), Memory>
+    ensures { OnOk result (out.new ≡ out.old
+        ++ number_field (codes "socket") socket ++ word_field (codes "cause") (late_name cause)) }
+{
+    put_connection(alloc, out, socket, b"cause", cause.name())
+}
+
 /// Writes the socket of a connection that failed, and why.
 fn put_failed(alloc: Global, out: &mut Octets, socket: u32, cause: LinkCause) -> Result<(), Memory>
     ensures { OnOk result (out.new ≡ out.old
         ++ number_field (codes "socket") socket ++ word_field (codes "cause") (link_name cause)) }
 {
+    put_connection(alloc, out, socket, b"cause", cause.name())
+}
+
+/// Writes what a document has.
+#[tactic(auto, unfolding(crate::specs::Lines::taken_fields))]
+fn put_taken(alloc: Global, out: &mut Octets, counts: DocumentCounts) -> Result<(), Memory>
+    ensures { OnOk result (out.new ≡ out.old ++ taken_fields counts) }
+{
+    put_number(alloc, out, b"entries", counts.entries)?;
+    put_number(alloc, out, b"bundles", counts.bundles)?;
+    put_number(alloc, out, b"changed", counts.changed)?;
+    put_number(alloc, out, b"removed", counts.removed)
+}
+
+/// Writes the socket of a caller, and its user.
+fn put_user(alloc: Global, out: &mut Octets, socket: u32, uid: u32) -> Result<(), Memory>
+    ensures { OnOk result (out.new ≡ out.old
+        ++ number_field (codes "socket") socket ++ number_field (codes "uid") uid) }
+{
     put_number(alloc, out, b"socket", u64::from(socket))?;
-    put_word(out, b"cause", cause.name())
+    put_number(alloc, out, b"uid", u64::from(uid))
+}
+
+/// Writes the socket of a caller, and the entry of an ask.
+fn put_waiting(alloc: Global, out: &mut Octets, socket: u32, ask: &Ask) -> Result<(), Memory>
+    ensures { OnOk result (out.new ≡ out.old
+        ++ number_field (codes "socket") socket ++ text_field (codes "entry") ask.now.entry_id) }
+{
+    put_number(alloc, out, b"socket", u64::from(socket))?;
+    put_text(out, b"entry", ask.entry_id.as_slice())
 }
 
 /// Writes what an event says beside its name.
@@ -76,20 +161,15 @@ fn put_fields(alloc: Global, out: &mut Octets, event: &Event<'_>) -> Result<(), 
     ensures { OnOk result (out.new ≡ out.old ++ fields event.now) }
 {
     match event {
-        Event::BindFailed(path, cause) => {
-            put_text(out, b"path", path.as_slice())?;
-            put_bind(out, *cause)
-        }
+        Event::BindFailed(path, cause) => put_unbound(out, path, *cause),
         Event::ConfigurationRefused(fault)
         | Event::FirstDocumentRefused(fault)
         | Event::DocumentRefused(fault) => put_fault(alloc, out, fault),
-        Event::DocumentTaken(entries, bundles) => {
-            put_number(alloc, out, b"entries", *entries)?;
-            put_number(alloc, out, b"bundles", *bundles)
-        }
-        Event::ListenFailed(socket) | Event::Connected(socket) | Event::Closed(socket) => {
-            put_number(alloc, out, b"socket", u64::from(*socket))
-        }
+        Event::DocumentTaken(counts) => put_taken(alloc, out, *counts),
+        Event::ListenFailed(socket)
+        | Event::AttestationFailed(socket)
+        | Event::Connected(socket)
+        | Event::Closed(socket) => put_number(alloc, out, b"socket", u64::from(*socket)),
         Event::AuthorityFailed(cause, since) => {
             put_word(out, b"cause", cause.name())?;
             put_text(out, b"since", since.as_slice())
@@ -101,12 +181,18 @@ fn put_fields(alloc: Global, out: &mut Octets, event: &Event<'_>) -> Result<(), 
         Event::IdentityNotYetValid(ask, not_before) => {
             put_moment(alloc, out, ask, b"not_before", *not_before)
         }
+        Event::CallerWaits(socket, ask) => put_waiting(alloc, out, *socket, ask),
+        Event::ConnectionBroken(socket, code) => put_broken(alloc, out, *socket, *code),
+        Event::LinkLate(socket, cause) => put_late(alloc, out, *socket, *cause),
         Event::ConnectionFailed(socket, cause) => put_failed(alloc, out, *socket, *cause),
+        Event::ConnectionsOfUidFull(socket, uid) => put_user(alloc, out, *socket, *uid),
+        Event::SocketBoundAnew(path) => put_text(out, b"path", path.as_slice()),
         Event::Signed(ask, not_after) => put_moment(alloc, out, ask, b"not_after", *not_after),
         Event::Serving(sockets) => put_number(alloc, out, b"sockets", u64::from(*sockets)),
         Event::Stopping(status) => put_number(alloc, out, b"status", u64::from(*status)),
         Event::ConfigurationUnread
         | Event::NoFirstDocument
+        | Event::NoThread
         | Event::HostFailed
         | Event::OutputFailed
         | Event::OutOfMemory

@@ -1,9 +1,9 @@
 //! The names of events and causes in a line.
 
 ghost use Rattle.std.specs.Prelude.{◌≡◌};
-ghost use Rattle.event_log.specs.Events.{level_of, event_name, bind_name, reason_name, pull_name, sign_name, link_name};
+ghost use Rattle.event_log.specs.Events.{level_of, event_name, bind_name, reason_name, pull_name, sign_name, unfit_name, error_name};
 
-use crate::causes::{BindCause, LinkCause, PullCause, Reason, SignCause};
+use crate::causes::{BindCause, ErrorCode, PullCause, Reason, SignCause, UnfitCause};
 use crate::event::Event;
 use crate::level::Level;
 
@@ -57,20 +57,54 @@ impl SignCause {
         ensures { result.now ≡ sign_name self }
     {
         match self {
-            SignCause::NoAnswer => b"no_answer",
+            SignCause::NotReached => b"connect",
+            SignCause::TimedOut => b"timeout",
+            SignCause::NotAnAnswer => b"not_an_answer",
             SignCause::NotInDocument => b"not_in_document",
+            SignCause::Unfit(_) => b"unfit",
         }
     }
 }
 
-impl LinkCause {
-    #[tactic(auto, unfolding(crate::specs::Events::link_name))]
+impl UnfitCause {
+    #[tactic(auto, unfolding(crate::specs::Events::unfit_name))]
     pub(crate) fn name(self) -> &'static [u8]
-        ensures { result.now ≡ link_name self }
+        ensures { result.now ≡ unfit_name self }
     {
         match self {
-            LinkCause::ReceiveFailed => b"receive_failed",
-            LinkCause::SendFailed => b"send_failed",
+            UnfitCause::Times => b"times",
+            UnfitCause::Expired => b"expired",
+            UnfitCause::EmptyChain => b"empty_chain",
+            UnfitCause::EmptyKey => b"empty_key",
+            UnfitCause::TooLong => b"too_long",
+            UnfitCause::NoLeaf => b"no_leaf",
+            UnfitCause::OtherId => b"other_id",
+            UnfitCause::OtherTimes => b"other_times",
+        }
+    }
+}
+
+impl ErrorCode {
+    #[tactic(auto, unfolding(crate::specs::Events::error_name))]
+    pub(crate) fn name(self) -> &'static [u8]
+        ensures { result.now ≡ error_name self }
+    {
+        match self {
+            ErrorCode::NoError => b"NO_ERROR",
+            ErrorCode::ProtocolError => b"PROTOCOL_ERROR",
+            ErrorCode::InternalError => b"INTERNAL_ERROR",
+            ErrorCode::FlowControlError => b"FLOW_CONTROL_ERROR",
+            ErrorCode::SettingsTimeout => b"SETTINGS_TIMEOUT",
+            ErrorCode::StreamClosed => b"STREAM_CLOSED",
+            ErrorCode::FrameSizeError => b"FRAME_SIZE_ERROR",
+            ErrorCode::RefusedStream => b"REFUSED_STREAM",
+            ErrorCode::Cancel => b"CANCEL",
+            ErrorCode::CompressionError => b"COMPRESSION_ERROR",
+            ErrorCode::ConnectError => b"CONNECT_ERROR",
+            ErrorCode::EnhanceYourCalm => b"ENHANCE_YOUR_CALM",
+            ErrorCode::InadequateSecurity => b"INADEQUATE_SECURITY",
+            ErrorCode::Http11Required => b"HTTP_1_1_REQUIRED",
+            ErrorCode::Unnamed => b"unnamed",
         }
     }
 }
@@ -87,6 +121,7 @@ impl<'a> Event<'a> {
             | Event::ConfigurationRefused(_)
             | Event::FirstDocumentRefused(_)
             | Event::NoFirstDocument
+            | Event::NoThread
             | Event::ListenFailed(_)
             | Event::HostFailed
             | Event::OutputFailed
@@ -96,8 +131,14 @@ impl<'a> Event<'a> {
             | Event::SigningFailed(_, _)
             | Event::TokenFailed(_, _)
             | Event::IdentityEnded(_)
-            | Event::IdentityNotYetValid(_, _) => Level::Warn,
-            Event::DocumentTaken(_, _)
+            | Event::IdentityNotYetValid(_, _)
+            | Event::CallerWaits(_, _)
+            | Event::ConnectionBroken(_, _)
+            | Event::LinkLate(_, _)
+            | Event::AttestationFailed(_)
+            | Event::ConnectionsOfUidFull(_, _)
+            | Event::SocketBoundAnew(_) => Level::Warn,
+            Event::DocumentTaken(_)
             | Event::AuthorityBack
             | Event::Signed(_, _)
             | Event::SignerBack
@@ -118,19 +159,26 @@ impl<'a> Event<'a> {
             Event::ConfigurationRefused(_) => b"configuration_refused",
             Event::FirstDocumentRefused(_) => b"first_document_refused",
             Event::NoFirstDocument => b"no_first_document",
+            Event::NoThread => b"no_thread",
             Event::ListenFailed(_) => b"listen_failed",
             Event::HostFailed => b"host_failed",
             Event::OutputFailed => b"output_failed",
             Event::OutOfMemory => b"out_of_memory",
             Event::DocumentRefused(_) => b"document_refused",
-            Event::DocumentTaken(_, _) => b"document_taken",
+            Event::DocumentTaken(_) => b"document_taken",
             Event::AuthorityFailed(_, _) => b"authority_failed",
             Event::AuthorityBack => b"authority_back",
             Event::SigningFailed(_, _) => b"signing_failed",
             Event::TokenFailed(_, _) => b"token_failed",
             Event::IdentityEnded(_) => b"identity_ended",
             Event::IdentityNotYetValid(_, _) => b"identity_not_yet_valid",
+            Event::CallerWaits(_, _) => b"caller_waits",
+            Event::ConnectionBroken(_, _) => b"connection_broken",
+            Event::LinkLate(_, _) => b"link_late",
             Event::ConnectionFailed(_, _) => b"connection_failed",
+            Event::AttestationFailed(_) => b"attestation_failed",
+            Event::ConnectionsOfUidFull(_, _) => b"connections_of_uid_full",
+            Event::SocketBoundAnew(_) => b"socket_bound_anew",
             Event::Signed(_, _) => b"signed",
             Event::SignerBack => b"signer_back",
             Event::Serving(_) => b"serving",

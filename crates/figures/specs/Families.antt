@@ -1,7 +1,7 @@
 -- The families of figures. Names: Prometheus, 'Metric and label naming'; the names and sentences themselves are own rules, except that of the start time, which clients of Prometheus give.
 use Rattle.std.specs.Prelude.{ℕ, List, codes}
 use Rattle.figures.specs.declared.family.Family.{Family}
-use Rattle.figures.specs.declared.family.Family.TheVariants.{Documents, DocumentAge, Entries, Bundles, Identities, NextEnd, Signings, SigningSeconds, Connections, ConnectionsTotal, LinesDropped, StartTime}
+use Rattle.figures.specs.declared.family.Family.TheVariants.{Documents, DocumentAge, Entries, Bundles, Identities, NextEnd, Signings, SigningSeconds, Connections, ConnectionsTotal, ConnectionFaults, Bytes, LinesDropped, StartTime}
 use Rattle.figures.specs.declared.family.Kind.{Kind}
 use Rattle.figures.specs.declared.family.Kind.TheVariants.{Counter, Gauge, Histogram}
 
@@ -16,6 +16,8 @@ name_of Signings = codes "agentd_signings_total"
 name_of SigningSeconds = codes "agentd_signing_seconds"
 name_of Connections = codes "agentd_connections"
 name_of ConnectionsTotal = codes "agentd_connections_total"
+name_of ConnectionFaults = codes "agentd_connection_faults_total"
+name_of Bytes = codes "agentd_bytes_total"
 name_of LinesDropped = codes "agentd_log_lines_dropped_total"
 name_of StartTime = codes "process_start_time_seconds"
 
@@ -30,6 +32,8 @@ help_of Signings = codes "Asks of the signer, by kind and result."
 help_of SigningSeconds = codes "Seconds that asks of the signer took."
 help_of Connections = codes "Open connections, by socket."
 help_of ConnectionsTotal = codes "Accepted connections, by socket."
+help_of ConnectionFaults = codes "Connections that failed, by cause."
+help_of Bytes = codes "Bytes of connections, by direction."
 help_of LinesDropped = codes "Lines of the log that could not be written at once."
 help_of StartTime = codes "Start time of the process since the Unix epoch in seconds."
 
@@ -44,6 +48,8 @@ kind_of Signings = Counter
 kind_of SigningSeconds = Histogram
 kind_of Connections = Gauge
 kind_of ConnectionsTotal = Counter
+kind_of ConnectionFaults = Counter
+kind_of Bytes = Counter
 kind_of LinesDropped = Counter
 kind_of StartTime = Gauge
 

@@ -8,6 +8,16 @@ use Rattle.figures.specs.declared.labels.SigningResult.{SigningResult}
 use Rattle.figures.specs.declared.labels.SigningResult.TheVariants as asked
 use Rattle.figures.specs.declared.labels.IdentityState.{IdentityState}
 use Rattle.figures.specs.declared.labels.IdentityState.TheVariants.{Kept, Missing}
+use Rattle.figures.specs.declared.labels.LinkCause.{LinkCause}
+use Rattle.figures.specs.declared.labels.LinkCause.TheVariants.{ReceiveFailed, SendFailed}
+use Rattle.figures.specs.declared.labels.LateCause.{LateCause}
+use Rattle.figures.specs.declared.labels.LateCause.TheVariants.{Stalled, Silent}
+use Rattle.figures.specs.declared.labels.RefusedCause.{RefusedCause}
+use Rattle.figures.specs.declared.labels.RefusedCause.TheVariants.{Unattested, UidFull}
+use Rattle.figures.specs.declared.labels.FaultCause.{FaultCause}
+use Rattle.figures.specs.declared.labels.FaultCause.TheVariants as fault
+use Rattle.figures.specs.declared.labels.Direction.{Direction}
+use Rattle.figures.specs.declared.labels.Direction.TheVariants.{Received, Sent}
 use Rattle.figures.specs.declared.labels.Bound.{Bound}
 use Rattle.figures.specs.declared.labels.Bound.TheVariants.{TenMilliseconds, HundredMilliseconds, OneSecond, FiveSeconds, TenSeconds, NoBound}
 
@@ -27,6 +37,28 @@ signing_result asked.Failed = codes "failed"
 unfoldable pub identity_state : IdentityState → List ℕ
 identity_state Kept = codes "kept"
 identity_state Missing = codes "missing"
+
+unfoldable pub link_name : LinkCause → List ℕ
+link_name ReceiveFailed = codes "receive_failed"
+link_name SendFailed = codes "send_failed"
+
+unfoldable pub late_name : LateCause → List ℕ
+late_name Stalled = codes "stalled"
+late_name Silent = codes "silent"
+
+unfoldable pub refused_name : RefusedCause → List ℕ
+refused_name Unattested = codes "unattested"
+refused_name UidFull = codes "uid_full"
+
+unfoldable pub fault_name : FaultCause → List ℕ
+fault_name (fault.Failed cause) = link_name cause
+fault_name fault.Protocol = codes "protocol"
+fault_name (fault.Late cause) = late_name cause
+fault_name (fault.Refused cause) = refused_name cause
+
+unfoldable pub direction_name : Direction → List ℕ
+direction_name Received = codes "received"
+direction_name Sent = codes "sent"
 
 -- in seconds; the last bound is that of all
 unfoldable pub bound_name : Bound → List ℕ

@@ -2,17 +2,23 @@
 use Rattle.std.specs.Prelude.{ℕ, ◌+◌, ◌/◌, ◌%◌, List, [], ◌∷◌, ◌++◌, codes, Option, Some, None}
 use Rattle.std.specs.Fmt.{decimal}
 use Rattle.figures.specs.Families.{name_of, help_of, kind_of, kind_name}
-use Rattle.figures.specs.Labels.{document_result, signing_kind, signing_result, identity_state, bound_name, escaped}
+use Rattle.figures.specs.Labels.{document_result, signing_kind, signing_result, identity_state, bound_name, fault_name, direction_name, escaped}
 use Rattle.figures.specs.declared.family.Family.{Family}
 use Rattle.figures.specs.declared.family.Family.TheVariants as family
-use Rattle.figures.specs.declared.labels.DocumentResult.{DocumentResult}
 use Rattle.figures.specs.declared.labels.DocumentResult.TheVariants as document
 use Rattle.figures.specs.declared.labels.SigningKind.{SigningKind}
 use Rattle.figures.specs.declared.labels.SigningKind.TheVariants as kinds
 use Rattle.figures.specs.declared.labels.SigningResult.{SigningResult}
 use Rattle.figures.specs.declared.labels.SigningResult.TheVariants as asked
-use Rattle.figures.specs.declared.labels.IdentityState.{IdentityState}
 use Rattle.figures.specs.declared.labels.IdentityState.TheVariants as states
+use Rattle.figures.specs.declared.labels.LinkCause.TheVariants.{ReceiveFailed, SendFailed}
+use Rattle.figures.specs.declared.labels.LateCause.TheVariants.{Stalled, Silent}
+use Rattle.figures.specs.declared.labels.RefusedCause.TheVariants.{Unattested, UidFull}
+use Rattle.figures.specs.declared.labels.FaultCause.{FaultCause}
+use Rattle.figures.specs.declared.labels.FaultCause.TheVariants as causes
+use Rattle.figures.specs.declared.labels.Direction.TheVariants as directions
+use Rattle.figures.specs.declared.sample.Counted.{Counted}
+use Rattle.figures.specs.declared.sample.Counted.TheVariants as counted
 use Rattle.figures.specs.declared.labels.Bound.{Bound}
 use Rattle.figures.specs.declared.labels.Bound.TheVariants as bounds
 use Rattle.figures.specs.declared.figures.Documents.{Documents}
@@ -20,6 +26,8 @@ use Rattle.figures.specs.declared.figures.Signings.{Signings}
 use Rattle.figures.specs.declared.figures.Seconds.{Seconds}
 use Rattle.figures.specs.declared.figures.Identities.{Identities}
 use Rattle.figures.specs.declared.figures.SocketFigures.{SocketFigures}
+use Rattle.figures.specs.declared.figures.LinkFaults.{LinkFaults}
+use Rattle.figures.specs.declared.figures.Traffic.{Traffic}
 use Rattle.figures.specs.declared.figures.Figures.{Figures}
 
 -- the two lines above a family's samples
@@ -46,13 +54,35 @@ label_end key value n = codes "{" ++ key ++ codes "=\"" ++ value ++ codes "\"}" 
 unfoldable pub labelled : Family → List ℕ → List ℕ → ℕ → List ℕ
 labelled f key value n = name_of f ++ label_end key value n
 
+-- the family of what is counted, and the key and the word of its one label
+unfoldable pub family_of : Counted → Family
+family_of (counted.Document _) = family.Documents
+family_of (counted.Identity _) = family.Identities
+family_of (counted.Fault _) = family.ConnectionFaults
+family_of (counted.Bytes _) = family.Bytes
+
+unfoldable pub key_of : Counted → List ℕ
+key_of (counted.Document _) = codes "result"
+key_of (counted.Identity _) = codes "state"
+key_of (counted.Fault _) = codes "cause"
+key_of (counted.Bytes _) = codes "direction"
+
+unfoldable pub word_of : Counted → List ℕ
+word_of (counted.Document outcome) = document_result outcome
+word_of (counted.Identity state) = identity_state state
+word_of (counted.Fault cause) = fault_name cause
+word_of (counted.Bytes direction) = direction_name direction
+
+-- its sample
+unfoldable pub sample : Counted → ℕ → List ℕ
+sample c n = labelled (family_of c) (key_of c) (word_of c) n
+
 -- ---- documents
 
-unfoldable pub document_line : DocumentResult → ℕ → List ℕ
-document_line outcome n = labelled family.Documents (codes "result") (document_result outcome) n
-
 unfoldable pub documents_part : Documents → List ℕ
-documents_part d = head family.Documents ++ document_line document.Taken d.taken ++ document_line document.Refused d.refused ++ document_line document.Failed d.failed
+documents_part d =
+    head family.Documents ++ sample (counted.Document document.Taken) d.taken ++ sample (counted.Document document.Refused) d.refused
+    ++ sample (counted.Document document.Failed) d.failed
 
 -- nothing before the first document
 unfoldable pub age_part : Option ℕ → List ℕ
@@ -61,16 +91,15 @@ age_part None = []
 
 -- ---- identities
 
-unfoldable pub state_line : IdentityState → ℕ → List ℕ
-state_line state n = labelled family.Identities (codes "state") (identity_state state) n
-
 -- nothing where no entry has an identity
 unfoldable pub end_part : Option ℕ → List ℕ
 end_part (Some seconds) = single family.NextEnd seconds
 end_part None = []
 
 unfoldable pub identities_part : Identities → List ℕ
-identities_part i = head family.Identities ++ state_line states.Kept i.kept ++ state_line states.Missing i.missing ++ end_part i.next_end
+identities_part i =
+    head family.Identities ++ sample (counted.Identity states.Kept) i.kept ++ sample (counted.Identity states.Missing) i.missing
+    ++ end_part i.next_end
 
 -- ---- signings
 
@@ -127,6 +156,30 @@ accepted_lines (s ∷ ss) = socket_line family.ConnectionsTotal s s.accepted ++ 
 unfoldable pub sockets_part : List SocketFigures → List ℕ
 sockets_part ss = head family.Connections ++ open_lines ss ++ head family.ConnectionsTotal ++ accepted_lines ss
 
+unfoldable pub fault_line : FaultCause → ℕ → List ℕ
+fault_line cause n = sample (counted.Fault cause) n
+
+unfoldable pub failed_lines : LinkFaults → List ℕ
+failed_lines f =
+    fault_line (causes.Failed ReceiveFailed) f.receive_failed ++ fault_line (causes.Failed SendFailed) f.send_failed
+    ++ fault_line causes.Protocol f.protocol
+
+-- that ended for their time, or before they began
+unfoldable pub closed_lines : LinkFaults → List ℕ
+closed_lines f =
+    fault_line (causes.Late Stalled) f.stalled ++ fault_line (causes.Late Silent) f.silent
+    ++ fault_line (causes.Refused Unattested) f.unattested ++ fault_line (causes.Refused UidFull) f.uid_full
+
+unfoldable pub faults_part : LinkFaults → List ℕ
+faults_part f = head family.ConnectionFaults ++ failed_lines f ++ closed_lines f
+
+unfoldable pub traffic_part : Traffic → List ℕ
+traffic_part t =
+    head family.Bytes ++ sample (counted.Bytes directions.Received) t.received ++ sample (counted.Bytes directions.Sent) t.sent
+
+unfoldable pub links_part : Figures → List ℕ
+links_part f = sockets_part f.sockets ++ faults_part f.faults ++ traffic_part f.traffic
+
 -- ---- the whole
 
 unfoldable pub document_part : Figures → List ℕ
@@ -138,4 +191,4 @@ process_part f = single family.LinesDropped f.lines_dropped ++ single family.Sta
 unfoldable pub page : Figures → List ℕ
 page f =
     document_part f ++ identities_part f.identities ++ signings_part f.x509 f.jwt ++ seconds_part f.seconds
-    ++ sockets_part f.sockets ++ process_part f
+    ++ links_part f ++ process_part f

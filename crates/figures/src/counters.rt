@@ -1,7 +1,12 @@
 //! Counters that threads add to.
 
-use crate::figures::{Documents, Figures, Identities, Seconds, Signings, SocketFigures};
-use crate::labels::{DocumentResult, SigningKind, SigningResult};
+use crate::figures::{
+    Documents, Figures, Identities, LinkFaults, Seconds, Signings, SocketFigures, Traffic,
+};
+use crate::labels::{
+    Direction, DocumentResult, FaultCause, LateCause, LinkCause, RefusedCause, SigningKind,
+    SigningResult,
+};
 use crate::socket_path::SocketPath;
 use std::alloc::Global;
 use std::sync::atomic::{AtomicBool, AtomicU64, Ordering};
@@ -19,6 +24,18 @@ struct SocketCounters {
     path: SocketPath,
     opened: AtomicU64,
     closed: AtomicU64,
+}
+
+/// How many connections failed, by cause.
+#[derive(Drop)]
+struct FaultCounters {
+    receive_failed: AtomicU64,
+    send_failed: AtomicU64,
+    protocol: AtomicU64,
+    stalled: AtomicU64,
+    silent: AtomicU64,
+    unattested: AtomicU64,
+    uid_full: AtomicU64,
 }
 
 /// Shared counters. Each is an atomic: whoever adds to one waits for nobody. At 2^64 they begin anew, as counters of Prometheus
@@ -43,6 +60,9 @@ pub struct Counters {
     asks: AtomicU64,
     milliseconds: AtomicU64,
     sockets: Vec<SocketCounters>,
+    faults: FaultCounters,
+    received: AtomicU64,
+    sent: AtomicU64,
 }
 
 /// Adds to a counter.
@@ -79,6 +99,17 @@ impl Counters {
             asks: zero(),
             milliseconds: zero(),
             sockets: Vec::new(alloc),
+            faults: FaultCounters {
+                receive_failed: zero(),
+                send_failed: zero(),
+                protocol: zero(),
+                stalled: zero(),
+                silent: zero(),
+                unattested: zero(),
+                uid_full: zero(),
+            },
+            received: zero(),
+            sent: zero(),
         }
     }
 
@@ -143,6 +174,41 @@ impl Counters {
     pub fn count_closed(&self, socket: u32) {
         if let Some(counters) = self.sockets.get(socket as usize) {
             add(&counters.closed, 1);
+        }
+    }
+
+    /// Counts a connection that failed.
+    pub fn count_fault(&self, cause: FaultCause) {
+        let counter = match cause {
+            FaultCause::Failed(LinkCause::ReceiveFailed) => &self.faults.receive_failed,
+            FaultCause::Failed(LinkCause::SendFailed) => &self.faults.send_failed,
+            FaultCause::Protocol => &self.faults.protocol,
+            FaultCause::Late(LateCause::Stalled) => &self.faults.stalled,
+            FaultCause::Late(LateCause::Silent) => &self.faults.silent,
+            FaultCause::Refused(RefusedCause::Unattested) => &self.faults.unattested,
+            FaultCause::Refused(RefusedCause::UidFull) => &self.faults.uid_full,
+        };
+        add(counter, 1);
+    }
+
+    /// Counts bytes of connections.
+    pub fn count_bytes(&self, direction: Direction, count: u64) {
+        match direction {
+            Direction::Received => add(&self.received, count),
+            Direction::Sent => add(&self.sent, count),
+        }
+    }
+
+    /// How many connections failed.
+    fn link_faults(&self) -> LinkFaults {
+        LinkFaults {
+            receive_failed: read(&self.faults.receive_failed),
+            send_failed: read(&self.faults.send_failed),
+            protocol: read(&self.faults.protocol),
+            stalled: read(&self.faults.stalled),
+            silent: read(&self.faults.silent),
+            unattested: read(&self.faults.unattested),
+            uid_full: read(&self.faults.uid_full),
         }
     }
 
@@ -214,6 +280,11 @@ impl Counters {
             },
             seconds: self.seconds(),
             sockets: self.socket_figures(alloc)?,
+            faults: self.link_faults(),
+            traffic: Traffic {
+                received: read(&self.received),
+                sent: read(&self.sent),
+            },
             lines_dropped,
             started,
         })

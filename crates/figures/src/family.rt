@@ -16,6 +16,8 @@ pub enum Family {
     SigningSeconds,
     Connections,
     ConnectionsTotal,
+    ConnectionFaults,
+    Bytes,
     LinesDropped,
     StartTime,
 }
@@ -48,6 +50,8 @@ impl Family {
             Family::SigningSeconds => b"agentd_signing_seconds",
             Family::Connections => b"agentd_connections",
             Family::ConnectionsTotal => b"agentd_connections_total",
+            Family::ConnectionFaults => b"agentd_connection_faults_total",
+            Family::Bytes => b"agentd_bytes_total",
             Family::LinesDropped => b"agentd_log_lines_dropped_total",
             Family::StartTime => b"process_start_time_seconds",
         }
@@ -70,6 +74,8 @@ impl Family {
             Family::SigningSeconds => b"Seconds that asks of the signer took.",
             Family::Connections => b"Open connections, by socket.",
             Family::ConnectionsTotal => b"Accepted connections, by socket.",
+            Family::ConnectionFaults => b"Connections that failed, by cause.",
+            Family::Bytes => b"Bytes of connections, by direction.",
             Family::LinesDropped => b"Lines of the log that could not be written at once.",
             Family::StartTime => b"Start time of the process since the Unix epoch in seconds.",
         }
@@ -84,6 +90,8 @@ impl Family {
             Family::Documents
             | Family::Signings
             | Family::ConnectionsTotal
+            | Family::ConnectionFaults
+            | Family::Bytes
             | Family::LinesDropped => Kind::Counter,
             Family::DocumentAge
             | Family::Entries

@@ -54,6 +54,30 @@ pub struct SocketFigures {
     pub accepted: u64,
 }
 
+/// How many connections failed, by cause.
+#[derive(Clone, Copy, Debug, Drop, PartialEq, Eq)]
+pub struct LinkFaults {
+    pub receive_failed: u64,
+    pub send_failed: u64,
+    /// The peer broke a rule of HTTP/2.
+    pub protocol: u64,
+    /// It took none of the bytes that waited for it.
+    pub stalled: u64,
+    /// It made no call.
+    pub silent: u64,
+    /// Nobody can say who its caller is, and it was refused.
+    pub unattested: u64,
+    /// As many connections of its user were open as may be, and it was refused.
+    pub uid_full: u64,
+}
+
+/// How many bytes went over connections.
+#[derive(Clone, Copy, Debug, Drop, PartialEq, Eq)]
+pub struct Traffic {
+    pub received: u64,
+    pub sent: u64,
+}
+
 /// Figures at one moment: numbers, and the paths of sockets that the configuration names.
 #[derive(Drop)]
 pub struct Figures {
@@ -71,6 +95,8 @@ pub struct Figures {
     pub jwt: Signings,
     pub seconds: Seconds,
     pub sockets: Row<SocketFigures>,
+    pub faults: LinkFaults,
+    pub traffic: Traffic,
     pub lines_dropped: u64,
     /// When the process started, in Unix seconds.
     pub started: u64,

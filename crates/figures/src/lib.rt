@@ -11,15 +11,21 @@ mod figures;
 mod health;
 mod labels;
 mod laws;
+mod sample;
 mod shows;
 mod socket_path;
 mod text;
 
 pub use counters::Counters;
 pub use family::{Family, Kind};
-pub use figures::{Documents, Figures, Identities, Seconds, Signings, SocketFigures};
+pub use figures::{
+    Documents, Figures, Identities, LinkFaults, Seconds, Signings, SocketFigures, Traffic,
+};
 pub use health::{EntryId, Health, Lacking, live_text, ready_text};
-pub use labels::{Bound, DocumentResult, IdentityState, SigningKind, SigningResult};
+pub use labels::{
+    Bound, Direction, DocumentResult, FaultCause, IdentityState, LateCause, LinkCause,
+    RefusedCause, SigningKind, SigningResult,
+};
 pub use laws::label_values_are_one_line;
 pub use shows::Shows;
 pub use socket_path::SocketPath;

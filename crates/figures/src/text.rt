@@ -1,12 +1,18 @@
 //! The page of figures, as text.
 
 ghost use Rattle.std.specs.Prelude.{◌≡◌, ◌++◌, OnOk, IfOk};
-ghost use Rattle.figures.specs.Page.{head, number_end, plain, single, label_end, labelled, document_line, documents_part, age_part, state_line, end_part, identities_part, signing_line, kind_lines, signings_part, bucket, buckets, in_seconds, sum_line, count_line, seconds_part, socket_line, open_lines, accepted_lines, sockets_part, document_part, process_part, page};
+ghost use Rattle.figures.specs.Page.{head, number_end, plain, single, label_end, labelled, sample, documents_part, age_part, end_part, identities_part, signing_line, kind_lines, signings_part, bucket, buckets, in_seconds, sum_line, count_line, seconds_part, socket_line, open_lines, accepted_lines, sockets_part, fault_line, failed_lines, closed_lines, faults_part, traffic_part, links_part, document_part, process_part, page};
 
 use crate::escapes::put_escaped;
 use crate::family::Family;
-use crate::figures::{Documents, Figures, Identities, Seconds, Signings, SocketFigures};
-use crate::labels::{Bound, DocumentResult, IdentityState, SigningKind, SigningResult};
+use crate::figures::{
+    Documents, Figures, Identities, LinkFaults, Seconds, Signings, SocketFigures, Traffic,
+};
+use crate::labels::{
+    Bound, Direction, DocumentResult, FaultCause, IdentityState, LateCause, LinkCause,
+    RefusedCause, SigningKind, SigningResult,
+};
+use crate::sample::Counted;
 use std::alloc::Global;
 use std::string::ToString;
 use wl_octets::{Memory, Octets};
@@ -85,23 +91,13 @@ fn put_labelled(
     put_label_end(alloc, out, key, value, number)
 }
 
-#[tactic(auto, unfolding(crate::specs::Page::document_line))]
-fn put_document_line(
-    alloc: Global,
-    out: &mut Octets,
-    outcome: DocumentResult,
-    number: u64,
-) -> Result<(), Memory>
-    ensures { OnOk result (out.new ≡ out.old ++ document_line outcome number) }
+/// Writes a sample of what is counted.
+#[tactic(auto, unfolding(crate::specs::Page::sample))]
+fn put_sample(alloc: Global, out: &mut Octets, counted: Counted, number: u64) -> Result<(), Memory>
+    ensures { OnOk result (out.new ≡ out.old ++ sample counted number) }
 {
-    put_labelled(
-        alloc,
-        out,
-        Family::Documents,
-        b"result",
-        outcome.name(),
-        number,
-    )
+    let (family, key) = (counted.family(), counted.key());
+    put_labelled(alloc, out, family, key, counted.word(), number)
 }
 
 #[tactic(auto, unfolding(crate::specs::Page::documents_part))]
@@ -109,9 +105,24 @@ fn put_documents(alloc: Global, out: &mut Octets, documents: Documents) -> Resul
     ensures { OnOk result (out.new ≡ out.old ++ documents_part documents) }
 {
     put_head(out, Family::Documents)?;
-    put_document_line(alloc, out, DocumentResult::Taken, documents.taken)?;
-    put_document_line(alloc, out, DocumentResult::Refused, documents.refused)?;
-    put_document_line(alloc, out, DocumentResult::Failed, documents.failed)
+    put_sample(
+        alloc,
+        out,
+        Counted::Document(DocumentResult::Taken),
+        documents.taken,
+    )?;
+    put_sample(
+        alloc,
+        out,
+        Counted::Document(DocumentResult::Refused),
+        documents.refused,
+    )?;
+    put_sample(
+        alloc,
+        out,
+        Counted::Document(DocumentResult::Failed),
+        documents.failed,
+    )
 }
 
 #[tactic(auto, unfolding(crate::specs::Page::age_part))]
@@ -134,25 +145,6 @@ fn put_document_part(alloc: Global, out: &mut Octets, figures: &Figures) -> Resu
     put_single(alloc, out, Family::Bundles, figures.bundles)
 }
 
-#[tactic(auto, unfolding(crate::specs::Page::state_line))]
-fn put_state_line(
-    alloc: Global,
-    out: &mut Octets,
-    state: IdentityState,
-    number: u64,
-) -> Result<(), Memory>
-    ensures { OnOk result (out.new ≡ out.old ++ state_line state number) }
-{
-    put_labelled(
-        alloc,
-        out,
-        Family::Identities,
-        b"state",
-        state.name(),
-        number,
-    )
-}
-
 #[tactic(auto, unfolding(crate::specs::Page::end_part))]
 fn put_end(alloc: Global, out: &mut Octets, next_end: Option<u64>) -> Result<(), Memory>
     ensures { OnOk result (out.new ≡ out.old ++ end_part next_end) }
@@ -168,8 +160,18 @@ fn put_identities(alloc: Global, out: &mut Octets, identities: Identities) -> Re
     ensures { OnOk result (out.new ≡ out.old ++ identities_part identities) }
 {
     put_head(out, Family::Identities)?;
-    put_state_line(alloc, out, IdentityState::Kept, identities.kept)?;
-    put_state_line(alloc, out, IdentityState::Missing, identities.missing)?;
+    put_sample(
+        alloc,
+        out,
+        Counted::Identity(IdentityState::Kept),
+        identities.kept,
+    )?;
+    put_sample(
+        alloc,
+        out,
+        Counted::Identity(IdentityState::Missing),
+        identities.missing,
+    )?;
     put_end(alloc, out, identities.next_end)
 }
 
@@ -346,6 +348,95 @@ fn put_sockets(alloc: Global, out: &mut Octets, sockets: &[SocketFigures]) -> Re
     put_accepted_lines(alloc, out, sockets)
 }
 
+#[tactic(auto, unfolding(crate::specs::Page::fault_line))]
+fn put_fault(alloc: Global, out: &mut Octets, cause: FaultCause, number: u64) -> Result<(), Memory>
+    ensures { OnOk result (out.new ≡ out.old ++ fault_line cause number) }
+{
+    put_sample(alloc, out, Counted::Fault(cause), number)
+}
+
+#[tactic(auto, unfolding(crate::specs::Page::failed_lines))]
+fn put_failed_lines(alloc: Global, out: &mut Octets, faults: LinkFaults) -> Result<(), Memory>
+    ensures { OnOk result (out.new ≡ out.old ++ failed_lines faults) }
+{
+    put_fault(
+        alloc,
+        out,
+        FaultCause::Failed(LinkCause::ReceiveFailed),
+        faults.receive_failed,
+    )?;
+    put_fault(
+        alloc,
+        out,
+        FaultCause::Failed(LinkCause::SendFailed),
+        faults.send_failed,
+    )?;
+    put_fault(alloc, out, FaultCause::Protocol, faults.protocol)
+}
+
+/// Writes how many connections ended for their time, or before they began.
+#[tactic(auto, unfolding(crate::specs::Page::closed_lines))]
+fn put_closed_lines(alloc: Global, out: &mut Octets, faults: LinkFaults) -> Result<(), Memory>
+    ensures { OnOk result (out.new ≡ out.old ++ closed_lines faults) }
+{
+    put_fault(
+        alloc,
+        out,
+        FaultCause::Late(LateCause::Stalled),
+        faults.stalled,
+    )?;
+    put_fault(
+        alloc,
+        out,
+        FaultCause::Late(LateCause::Silent),
+        faults.silent,
+    )?;
+    put_fault(
+        alloc,
+        out,
+        FaultCause::Refused(RefusedCause::Unattested),
+        faults.unattested,
+    )?;
+    put_fault(
+        alloc,
+        out,
+        FaultCause::Refused(RefusedCause::UidFull),
+        faults.uid_full,
+    )
+}
+
+#[tactic(auto, unfolding(crate::specs::Page::faults_part))]
+fn put_faults(alloc: Global, out: &mut Octets, faults: LinkFaults) -> Result<(), Memory>
+    ensures { OnOk result (out.new ≡ out.old ++ faults_part faults) }
+{
+    put_head(out, Family::ConnectionFaults)?;
+    put_failed_lines(alloc, out, faults)?;
+    put_closed_lines(alloc, out, faults)
+}
+
+#[tactic(auto, unfolding(crate::specs::Page::traffic_part))]
+fn put_traffic(alloc: Global, out: &mut Octets, traffic: Traffic) -> Result<(), Memory>
+    ensures { OnOk result (out.new ≡ out.old ++ traffic_part traffic) }
+{
+    put_head(out, Family::Bytes)?;
+    put_sample(
+        alloc,
+        out,
+        Counted::Bytes(Direction::Received),
+        traffic.received,
+    )?;
+    put_sample(alloc, out, Counted::Bytes(Direction::Sent), traffic.sent)
+}
+
+#[tactic(auto, unfolding(crate::specs::Page::links_part))]
+fn put_links(alloc: Global, out: &mut Octets, figures: &Figures) -> Result<(), Memory>
+    ensures { OnOk result (out.new ≡ out.old ++ links_part figures.now) }
+{
+    put_sockets(alloc, out, figures.sockets.as_slice())?;
+    put_faults(alloc, out, figures.faults)?;
+    put_traffic(alloc, out, figures.traffic)
+}
+
 #[tactic(auto, unfolding(crate::specs::Page::process_part))]
 fn put_process(alloc: Global, out: &mut Octets, figures: &Figures) -> Result<(), Memory>
     ensures { OnOk result (out.new ≡ out.old ++ process_part figures.now) }
@@ -364,7 +455,7 @@ pub fn metrics_text(alloc: Global, figures: &Figures) -> Result<Octets, Memory>
     put_identities(alloc, &mut out, figures.identities)?;
     put_signings(alloc, &mut out, figures.x509, figures.jwt)?;
     put_seconds(alloc, &mut out, &figures.seconds)?;
-    put_sockets(alloc, &mut out, figures.sockets.as_slice())?;
+    put_links(alloc, &mut out, figures)?;
     put_process(alloc, &mut out, figures)?;
     Ok(out)
 }

@@ -1,11 +1,12 @@
 //! Lines of events, as an operator reads them.
 
 use event_log::*;
+use figures::LateCause;
 use spiffe_id::SpiffeId;
 use std::alloc::AllocGlobal;
 use std::io::ErrorKind;
 use std::process::Abort;
-use wl_entry::Ask;
+use wl_entry::{Ask, Unfit};
 use wl_octets::{Octets, Row};
 
 /// 2026-11-29T05:10:00Z.
@@ -70,16 +71,85 @@ fn ids_are_escaped_and_repeats_are_told(rt: HostRuntime) {
     let ask = ask(&rt);
     says(
         &rt,
-        &Event::SigningFailed(&ask, SignCause::NoAnswer),
+        &Event::SigningFailed(&ask, SignCause::NotReached),
         7,
-        b"level=warn event=signing_failed entry=\"e \\\"1\\\"\\u000a\\u00c3\" cause=no_answer repeated=7\n",
+        b"level=warn event=signing_failed entry=\"e \\\"1\\\"\\u000a\\u00c3\" cause=connect repeated=7\n",
     );
     ends(
         &rt,
         &Event::Signed(&ask, TIME),
         b"\\u00c3\" not_after=1795929000\n",
     );
+    let other_id = Unfit::OtherId {
+        asked: octets(&rt, b"spiffe://a.b/one"),
+        named: octets(&rt, b"spiffe://a.b/two"),
+    };
+    let unfit = SignCause::Unfit(UnfitCause::of_reason(&other_id));
+    drop(other_id);
+    ends(
+        &rt,
+        &Event::SigningFailed(&ask, unfit),
+        b"\\u00c3\" cause=unfit fault=other_id\n",
+    );
     drop(ask);
+}
+
+#[test]
+fn waiting_callers_are_named_by_socket_and_entry(rt: HostRuntime) {
+    let ask = ask(&rt);
+    let waits = Event::CallerWaits(3, &ask);
+    ends(
+        &rt,
+        &waits,
+        b"level=warn event=caller_waits socket=3 entry=\"e \\\"1\\\"\\u000a\\u00c3\"\n",
+    );
+    drop(waits);
+    drop(ask);
+}
+
+#[test]
+fn connections_are_named_by_their_socket(rt: HostRuntime) {
+    let broken = Event::ConnectionBroken(0, ErrorCode::of_number(11));
+    ends(
+        &rt,
+        &broken,
+        b"level=warn event=connection_broken socket=0 code=ENHANCE_YOUR_CALM\n",
+    );
+    let unnamed = Event::ConnectionBroken(0, ErrorCode::of_number(14));
+    ends(&rt, &unnamed, b" code=unnamed\n");
+    let late = Event::LinkLate(2, LateCause::Silent);
+    ends(
+        &rt,
+        &late,
+        b"level=warn event=link_late socket=2 cause=silent\n",
+    );
+    ends(&rt, &Event::NoThread, b"level=error event=no_thread\n");
+}
+
+#[test]
+fn refused_callers_are_named_by_socket_and_user(rt: HostRuntime) {
+    ends(
+        &rt,
+        &Event::AttestationFailed(2),
+        b"level=warn event=attestation_failed socket=2\n",
+    );
+    says(
+        &rt,
+        &Event::ConnectionsOfUidFull(0, 1_000),
+        9,
+        b"level=warn event=connections_of_uid_full socket=0 uid=1000 repeated=9\n",
+    );
+}
+
+#[test]
+fn sockets_that_are_bound_anew_are_named_by_their_path(rt: HostRuntime) {
+    let name = octets(&rt, b"/run/a.sock");
+    let path = PathText::of_configuration(rt.alloc(), &name).expect(&rt, "memory");
+    ends(
+        &rt,
+        &Event::SocketBoundAnew(&path),
+        b"level=warn event=socket_bound_anew path=\"/run/a.sock\"\n",
+    );
 }
 
 #[test]

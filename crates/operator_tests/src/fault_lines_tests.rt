@@ -8,7 +8,7 @@ use std::process::Abort;
 type Case = (&'static str, &'static str);
 
 /// The faults of a document, each with each kind of place that it has, and those of an id.
-const DOCUMENTS: [Case; 28] = [
+const DOCUMENTS: [Case; 29] = [
     ("fault document 1", "document: is not JSON"),
     ("fault document 2", "version: is neither 1 nor 2"),
     ("fault document 3 0 0 2 0", "trust_domain: is missing"),
@@ -19,6 +19,10 @@ const DOCUMENTS: [Case; 28] = [
     (
         "fault document 4 0 0 0 0",
         "document: is of the wrong kind or out of range",
+    ),
+    (
+        "fault document 4 0 0 6 0",
+        "renew_before: is of the wrong kind or out of range",
     ),
     (
         "fault document 4 3 9999 5 0",

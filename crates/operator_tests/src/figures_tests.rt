@@ -49,6 +49,19 @@ agentd_connections{socket=\"/run/a\\\"b\"} 1
 # HELP agentd_connections_total Accepted connections, by socket.
 # TYPE agentd_connections_total counter
 agentd_connections_total{socket=\"/run/a\\\"b\"} 2
+# HELP agentd_connection_faults_total Connections that failed, by cause.
+# TYPE agentd_connection_faults_total counter
+agentd_connection_faults_total{cause=\"receive_failed\"} 1
+agentd_connection_faults_total{cause=\"send_failed\"} 0
+agentd_connection_faults_total{cause=\"protocol\"} 2
+agentd_connection_faults_total{cause=\"stalled\"} 1
+agentd_connection_faults_total{cause=\"silent\"} 1
+agentd_connection_faults_total{cause=\"unattested\"} 1
+agentd_connection_faults_total{cause=\"uid_full\"} 0
+# HELP agentd_bytes_total Bytes of connections, by direction.
+# TYPE agentd_bytes_total counter
+agentd_bytes_total{direction=\"received\"} 70
+agentd_bytes_total{direction=\"sent\"} 900
 # HELP agentd_log_lines_dropped_total Lines of the log that could not be written at once.
 # TYPE agentd_log_lines_dropped_total counter
 agentd_log_lines_dropped_total 5
@@ -59,6 +72,20 @@ process_start_time_seconds 1795929000
 
 fn octets(rt: &(impl AllocGlobal + Abort), bytes: &[u8]) -> Octets {
     Octets::from_slice(rt.alloc(), bytes).expect(rt, "memory")
+}
+
+/// Counts some connections that failed.
+fn count_failures(counters: &Counters) {
+    for cause in [
+        FaultCause::Failed(LinkCause::ReceiveFailed),
+        FaultCause::Protocol,
+        FaultCause::Late(LateCause::Stalled),
+        FaultCause::Late(LateCause::Silent),
+        FaultCause::Refused(RefusedCause::Unattested),
+        FaultCause::Protocol,
+    ] {
+        counters.count_fault(cause);
+    }
 }
 
 #[test]
@@ -77,6 +104,9 @@ fn page_has_what_was_counted(rt: HostRuntime) {
     counters.count_opened(0);
     counters.count_closed(0);
     counters.count_opened(9);
+    count_failures(&counters);
+    counters.count_bytes(Direction::Received, 70);
+    counters.count_bytes(Direction::Sent, 900);
     let identities = Identities {
         kept: 5,
         missing: 2,

@@ -14,7 +14,7 @@ use wl_document::DocFault;
 use wl_entry::{Ask, Entry};
 use wl_octets::{Memory, Octets, Row};
 use wl_outlook::*;
-use wl_selector::Selectors;
+use wl_selector::{Selector, Selectors};
 
 /// A document with no entry.
 const GOOD: &[u8] =
@@ -22,6 +22,18 @@ const GOOD: &[u8] =
 
 /// One with a fault.
 const BAD: &[u8] = b"{\"version\":9}";
+
+/// A document with the entries `one` and `two`.
+const TWO: &[u8] =
+    br#"{"version":1,"trust_domain":"a.b","bundles":[{"trust_domain":"a.b","x509":"AQ=="}],"entries":[
+{"id":"one","spiffe_id":"spiffe://a.b/one","selectors":["unix:uid:1"],"ttl":60},
+{"id":"two","spiffe_id":"spiffe://a.b/two","selectors":["unix:uid:2"],"ttl":60}]}"#;
+
+/// One without `one`, with another `two`, and with a new entry.
+const OTHERS: &[u8] =
+    br#"{"version":1,"trust_domain":"a.b","bundles":[{"trust_domain":"a.b","x509":"AQ=="}],"entries":[
+{"id":"three","spiffe_id":"spiffe://a.b/three","selectors":["unix:uid:1"],"ttl":60},
+{"id":"two","spiffe_id":"spiffe://a.b/two","selectors":["unix:uid:3"],"ttl":60}]}"#;
 
 /// Calls each fault by one name.
 #[derive(Drop)]
@@ -43,7 +55,7 @@ fn watched(
     let output = LogOutput::over(ours.as_raw_fd(), false);
     let log = Log::over(own.clone().expect(rt, "runtime"), output, Level::Info, None);
     let log = Arc::new(alloc, log).expect(rt, "log");
-    let outlook = Outlook::start(alloc, log, Counters::start(alloc));
+    let outlook = Outlook::start(alloc, log, Counters::start(alloc), Callers::start(alloc));
     (Arc::new(alloc, outlook).expect(rt, "outlook"), ours, theirs)
 }
 
@@ -99,10 +111,32 @@ fn documents_are_counted_and_judged_once(rt: HostRuntime) {
     counts_four(&rt, &outlook);
     assert!(rt; is_ready(&rt, &outlook) && is_shared(&outlook));
     let said = text_of(&rt, &mut theirs);
-    let taken = "level=info event=document_taken entries=0 bundles=1\n";
+    let taken = "level=info event=document_taken entries=0 bundles=1 changed=0 removed=0\n";
     let refused =
         "level=warn event=document_refused fault=\"fault document 2\" text=\"version: is neither 1 nor 2\"\n";
     assert!(rt; said.lines().count() == 2 && said.contains(taken) && said.contains(refused));
+}
+
+/// A document is compared with the last that was taken, though one was refused in between.
+#[test]
+fn documents_are_compared_with_the_one_before(rt: HostRuntime) {
+    let (outlook, _ours, mut theirs) = watched(&rt, &rt);
+    let mut judge = DocumentJudge::start(rt.alloc(), outlook, OneName);
+    for document in [TWO, BAD, OTHERS, TWO] {
+        judge.note_document(document);
+    }
+    let said = text_of(&rt, &mut theirs);
+    let mut counts = said
+        .lines()
+        .filter_map(|line| line.split_once("document_taken "));
+    for expected in [
+        "entries=2 bundles=1 changed=2 removed=0",
+        "entries=2 bundles=1 changed=2 removed=1",
+        "entries=2 bundles=1 changed=2 removed=1",
+    ] {
+        let found = counts.next().map(|parts| parts.1);
+        assert_eq!(rt; found, Some(expected));
+    }
 }
 
 #[test]
@@ -201,4 +235,54 @@ fn ended_identities_are_said_once(rt: HostRuntime) {
     let said = text_of(&rt, &mut theirs);
     assert_eq!(rt; said.lines().count(), 1);
     assert!(rt; said.ends_with("level=warn event=identity_ended entry=\"one\"\n"));
+}
+
+/// The selectors of a caller, or of an entry: one with this text.
+fn selectors(rt: &(impl AllocGlobal + Abort), text: &[u8]) -> Selectors {
+    let selector = Selector::parse(rt.alloc(), text).expect(rt, "a selector");
+    let items = vec![in rt.alloc(); selector].expect(rt, "memory");
+    Selectors::from_list(rt.alloc(), items, 1).expect(rt, "a set")
+}
+
+/// A document comes then with one entry, for callers that have `a:1`.
+fn take_guarded(rt: &(impl AllocGlobal + Abort), standing: &mut Standing, now: u64) {
+    let mut guarded = entry(rt, b"one", 60);
+    guarded.selectors = selectors(rt, b"a:1");
+    let entries = [guarded];
+    standing.take_document(&entries, now).expect(rt, "memory");
+    drop(entries);
+}
+
+/// Two sockets, of which the second has callers that have `a:1`.
+fn two_sockets(rt: &(impl AllocGlobal + Abort)) -> Callers {
+    let mut callers = Callers::start(rt.alloc());
+    for text in [b"b:1".as_slice(), b"a:1".as_slice()] {
+        callers.add_socket(selectors(rt, text)).expect(rt, "memory");
+    }
+    callers
+}
+
+/// It is said once of an entry, after ten seconds, where a caller that is entitled to it is connected; and once again where
+/// the identity that was signed then has ended.
+#[test]
+fn waiting_callers_are_said_once(rt: HostRuntime) {
+    let (outlook, _ours, mut theirs) = watched(&rt, &rt);
+    let callers = two_sockets(&rt);
+    let mut standing = Standing::start(rt.alloc());
+    take_guarded(&rt, &mut standing, 1_000);
+    callers.note_opened(0);
+    standing.say_waiting(outlook.log(), &callers, 1_020);
+    callers.note_opened(1);
+    for now in [1_009, 1_010, 1_011] {
+        standing.say_waiting(outlook.log(), &callers, now);
+    }
+    callers.note_closed(1);
+    sign(&rt, &mut standing, b"one", 1_100);
+    standing.say_waiting(outlook.log(), &callers, 1_120);
+    callers.note_opened(1);
+    standing.say_waiting(outlook.log(), &callers, 1_109);
+    standing.say_waiting(outlook.log(), &callers, 1_110);
+    let said = text_of(&rt, &mut theirs);
+    assert_eq!(rt; said.lines().count(), 2);
+    assert!(rt; said.ends_with("level=warn event=caller_waits socket=1 entry=\"one\"\n"));
 }

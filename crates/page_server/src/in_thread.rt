@@ -10,13 +10,13 @@ use wl_edge_real::{RealListener, Stop};
 use wl_outlook::Outlook;
 
 /// Serves the pages of what is known of an agent at this listener, in a thread of its own, for as long as the process runs. A request
-/// for a stop asks for this one.
+/// for a stop asks for this one; without one, `/stop` is no page: whoever can reach the listener could end the agent.
 pub fn serve_pages<W: Threads>(
     threads: &W,
     alloc: Global,
     listener: RealListener,
     outlook: Arc<Outlook>,
-    stop: Arc<Stop>,
+    stop: Option<Arc<Stop>>,
 ) -> Result<(), EdgeFault> {
     let Ok(own) = outlook.log().runtime().clone() else {
         return Err(EdgeFault::Memory);

@@ -21,6 +21,9 @@ use wl_octets::{Memory, Row};
 /// How many peers are served at once. Others wait in the socket's backlog.
 pub const MAX_PEERS: usize = 16;
 
+/// The largest number of a peer.
+const MAX_NUMBER: u32 = MAX_PEERS as u32;
+
 /// The most bytes of a request's head.
 const MAX_HEAD: usize = 4_096;
 
@@ -29,17 +32,16 @@ const REST_SECONDS: u64 = 1;
 
 /// The server of the pages.
 #[derive(Drop)]
-pub struct Server<S> {
+pub struct Server<S, W> {
     alloc: Global,
     listener: RealListener,
-    ready: RealReady,
+    ready: RealReady<W>,
     /// Kept, so that the poll keeps its waker.
     bell: RealBell,
     shown: Arc<S>,
-    /// What a request for a stop asks.
-    stop: Arc<Stop>,
+    /// What a request for a stop asks. Where there is none, `/stop` is no page.
+    stop: Option<Arc<Stop>>,
     peers: Vec<Peer>,
-    next: u32,
 }
 
 /// What a connection takes: a head of `MAX_HEAD` bytes and no body.
@@ -56,16 +58,17 @@ fn config() -> Config {
     }
 }
 
-impl<S: Shows + Drop> Server<S> {
-    /// A server at this listener, which shows this, and asks for this stop. It doesn't end with it.
+impl<S: Shows + Drop, W: Net + Clock + Clone + Drop> Server<S, W> {
+    /// A server at this listener, which shows this, and asks for this stop where there is one. It doesn't end with it.
     pub fn start(
-        rt: &impl Net,
+        rt: &W,
         alloc: Global,
-        mut listener: RealListener,
+        listener: RealListener,
         shown: Arc<S>,
-        stop: Arc<Stop>,
-    ) -> io::Result<Server<S>> {
-        let (ready, bell) = RealReady::start(rt, alloc, &mut listener)?;
+        stop: Option<Arc<Stop>>,
+    ) -> io::Result<Server<S, W>> {
+        // Its peers have a patience of their own.
+        let (ready, bell) = RealReady::start(rt, alloc, &listener, None)?;
         Ok(Server {
             alloc,
             listener,
@@ -74,8 +77,17 @@ impl<S: Shows + Drop> Server<S> {
             shown,
             stop,
             peers: Vec::new(alloc),
-            next: 0,
         })
+    }
+
+    /// The smallest number that no peer has.
+    fn free_number(&self) -> u32 {
+        for number in 0..MAX_NUMBER {
+            if !self.peers.iter().any(|peer| peer.number == number) {
+                return number;
+            }
+        }
+        MAX_NUMBER
     }
 
     /// Takes one peer. False where none is there, or it could not be taken.
@@ -83,8 +95,7 @@ impl<S: Shows + Drop> Server<S> {
         let Accepted::Link(mut link) = self.listener.accept() else {
             return false;
         };
-        let number = self.next;
-        self.next = self.next.wrapping_add(1);
+        let number = self.free_number();
         let Ok(keys) = RandomState::new(rt) else {
             return false;
         };
@@ -112,6 +123,7 @@ impl<S: Shows + Drop> Server<S> {
             alloc: self.alloc,
             figures: self.shown.figures()?,
             health: self.shown.health()?,
+            takes_stop: self.stop.is_some(),
             is_stop_asked: false,
         })
     }
@@ -133,8 +145,8 @@ impl<S: Shows + Drop> Server<S> {
             peer.step(&mut pages, now);
         }
         self.let_go();
-        if pages.is_stop_asked {
-            self.stop.ask();
+        if let (true, Some(stop)) = (pages.is_stop_asked, &self.stop) {
+            stop.ask();
         }
         Ok(())
     }

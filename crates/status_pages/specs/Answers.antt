@@ -1,5 +1,5 @@
 -- What each request is answered (own rules: docs/OPERATING.md has the pages).
-use Rattle.std.specs.Prelude.{ℕ, Bool, ◌||◌, List, [], ◌∷◌, codes, if◌then◌else◌, true, false}
+use Rattle.std.specs.Prelude.{ℕ, Bool, ◌&&◌, ◌||◌, List, [], ◌∷◌, codes, if◌then◌else◌, true, false}
 use Rattle.std.specs.Str.{bytes_eq}
 use Rattle.http.specs.declared.request.Request.{Request}
 use Rattle.http.specs.Request.{head_of}
@@ -20,17 +20,18 @@ read_by method page = if bytes_eq method (codes "GET") || bytes_eq method (codes
 unfoldable pub posted_by : List ℕ → Asked
 posted_by method = if bytes_eq method (codes "POST") then Stop else NoPost
 
-unfoldable pub page_named : List ℕ → List ℕ → Asked
-page_named method path =
+-- what a method asks of a path; a stop is a page only where the pages take one
+unfoldable pub page_named : Bool → List ℕ → List ℕ → Asked
+page_named takes_stop method path =
     if bytes_eq path (codes "/metrics") then read_by method Metrics
     else if bytes_eq path (codes "/live") then read_by method Live
     else if bytes_eq path (codes "/ready") then read_by method Ready
-    else if bytes_eq path (codes "/stop") then posted_by method
+    else if takes_stop && bytes_eq path (codes "/stop") then posted_by method
     else NoPage
 
 -- what a request asks for
-abbrev pub asked_by : Request (List ℕ) → Asked
-asked_by r = page_named (head_of r).method (uri_path (head_of r).uri)
+abbrev pub asked_by : Bool → Request (List ℕ) → Asked
+asked_by takes_stop r = page_named takes_stop (head_of r).method (uri_path (head_of r).uri)
 
 -- the request asks for a stop
 abbrev pub asks_for_stop : Asked → Bool

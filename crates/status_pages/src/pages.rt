@@ -35,6 +35,8 @@ pub struct Pages {
     pub alloc: Global,
     pub figures: Figures,
     pub health: Health,
+    /// Whether a request may ask for a stop. Else there is no such page.
+    pub takes_stop: bool,
     /// Whether a request asked for a stop.
     pub is_stop_asked: bool,
 }
@@ -63,10 +65,10 @@ fn posted_by(method: &[u8]) -> Asked
     }
 }
 
-/// What this method asks of this path.
+/// What this method asks of this path, of pages that take a stop or don't.
 #[tactic(auto, unfolding(crate::specs::Answers::page_named))]
-pub fn page_named(method: &[u8], path: &[u8]) -> Asked
-    ensures { result ≡ page_named method.now path.now }
+pub fn page_named(takes_stop: bool, method: &[u8], path: &[u8]) -> Asked
+    ensures { result ≡ page_named takes_stop method.now path.now }
 {
     if path == b"/metrics".as_slice() {
         return read_by(method, Asked::Metrics);
@@ -77,7 +79,7 @@ pub fn page_named(method: &[u8], path: &[u8]) -> Asked
     if path == b"/ready".as_slice() {
         return read_by(method, Asked::Ready);
     }
-    if path == b"/stop".as_slice() {
+    if takes_stop && path == b"/stop".as_slice() {
         return posted_by(method);
     }
     Asked::NoPage
@@ -137,10 +139,10 @@ fn is_stop(asked: Asked) -> bool
 
 impl Service for Pages {
     ghost answers = { λ old request response new.
-        (response.status ≡ status_of old.health (asked_by request))
-        × (response.body.items ≡ body_text old.figures old.health (asked_by request))
-        × (fields_of response ≡ answer_fields (asked_by request))
-        × (new ≡ record old { is_stop_asked = old.is_stop_asked || asks_for_stop (asked_by request) }) };
+        (response.status ≡ status_of old.health (asked_by old.takes_stop request))
+        × (response.body.items ≡ body_text old.figures old.health (asked_by old.takes_stop request))
+        × (fields_of response ≡ answer_fields (asked_by old.takes_stop request))
+        × (new ≡ record old { is_stop_asked = old.is_stop_asked || asks_for_stop (asked_by old.takes_stop request) }) };
 
     #[tactic(auto, unfolding(crate::specs::Answers::answer_fields))]
     fn call(
@@ -149,6 +151,7 @@ impl Service for Pages {
         response: &mut Response,
     ) -> Result<(), AllocError> {
         let page = page_named(
+            self.takes_stop,
             request.method().as_str().as_bytes(),
             request.uri().path().as_bytes(),
         );

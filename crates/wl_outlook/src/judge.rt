@@ -1,7 +1,8 @@
 //! The verdict on each document.
 
+use crate::changes::counts_after;
 use crate::outlook::Outlook;
-use event_log::{Event, FaultLine, Slot};
+use event_log::{DocumentCounts, Event, FaultLine, Slot};
 use figures::DocumentResult;
 use log_output::Log;
 use spiffe_id::TrustDomain;
@@ -27,9 +28,10 @@ enum Verdict {
     Refused(Refusal),
 }
 
-/// Why a document was refused, and when that was said.
+/// A document that was refused, why, and when that was said.
 #[derive(Drop)]
 struct Refusal {
+    document: Octets,
     line: Option<FaultLine>,
     slot: Slot,
 }
@@ -53,7 +55,8 @@ pub struct DocumentJudge<F> {
     lines: F,
     /// The trust domain of the first document: others have to be of it.
     domain: Option<TrustDomain>,
-    last: Octets,
+    /// The last document that was taken; empty before the first.
+    taken: Octets,
     verdict: Verdict,
 }
 
@@ -65,29 +68,39 @@ impl<F: FaultLines + Drop> DocumentJudge<F> {
             alloc,
             lines,
             domain: None,
-            last: Octets::empty(alloc),
+            taken: Octets::empty(alloc),
             verdict: Verdict::Nothing,
         }
     }
 
+    /// What a document has, after the last that was taken: that is read again, since a copy of its entries would have to be kept.
+    fn counts_of(&self, state: &AuthorityState) -> Result<DocumentCounts, Memory> {
+        match read_state(self.alloc, self.taken.as_slice(), self.domain.as_ref()) {
+            Ok(before) => Ok(counts_after(state, before.entries.as_slice())),
+            Err(DocFault::Memory) => Err(Memory),
+            Err(_) => Ok(counts_after(state, &[])),
+        }
+    }
+
     /// Notes a document that was taken.
-    fn note_taken(&mut self, state: &AuthorityState) -> Result<(), Memory> {
+    fn note_taken(&mut self, state: &AuthorityState, document: Octets) -> Result<(), Memory> {
+        let counts = self.counts_of(state)?;
         if self.domain.is_none() {
             self.domain = Some(state.domain.copy(self.alloc)?);
         }
-        let (entries, bundles) = (state.entries.len() as u64, state.bundles.len() as u64);
-        self.outlook.note_entries(state.entries.as_slice(), bundles);
         self.outlook
-            .log()
-            .say(&Event::DocumentTaken(entries, bundles));
+            .note_entries(state.entries.as_slice(), counts.bundles);
+        self.outlook.log().say(&Event::DocumentTaken(counts));
+        self.taken = document;
         self.verdict = Verdict::Taken;
         Ok(())
     }
 
     /// Notes a document that was refused.
-    fn note_refused(&mut self, fault: DocFault) -> Result<(), Memory> {
+    fn note_refused(&mut self, fault: DocFault, document: Octets) -> Result<(), Memory> {
         let line = self.lines.line_of(self.alloc, fault)?;
         self.verdict = Verdict::Refused(Refusal {
+            document,
             line,
             slot: Slot::empty(),
         });
@@ -98,12 +111,19 @@ impl<F: FaultLines + Drop> DocumentJudge<F> {
     fn judge(&mut self, document: &[u8]) -> Result<(), Memory> {
         let copy = Octets::from_slice(self.alloc, document)?;
         match read_state(self.alloc, document, self.domain.as_ref()) {
-            Ok(state) => self.note_taken(&state)?,
-            Err(DocFault::Memory) => return Err(Memory),
-            Err(fault) => self.note_refused(fault)?,
+            Ok(state) => self.note_taken(&state, copy),
+            Err(DocFault::Memory) => Err(Memory),
+            Err(fault) => self.note_refused(fault, copy),
         }
-        self.last = copy;
-        Ok(())
+    }
+
+    /// Whether a document is the same as the last.
+    fn is_last(&self, document: &[u8]) -> bool {
+        match &self.verdict {
+            Verdict::Nothing => false,
+            Verdict::Taken => self.taken.as_slice() == document,
+            Verdict::Refused(refusal) => refusal.document.as_slice() == document,
+        }
     }
 
     /// Says once a minute that a document is refused, and not of a first one.
@@ -118,9 +138,7 @@ impl<F: FaultLines + Drop> DocumentJudge<F> {
 
     /// Notes a document, and says what comes of it. That of a first document is said by whoever ends then.
     pub fn note_document(&mut self, document: &[u8]) {
-        let is_known = self.last.as_slice() == document
-            && !matches!(&self.verdict, Verdict::Nothing);
-        if !is_known && self.judge(document).is_err() {
+        if !self.is_last(document) && self.judge(document).is_err() {
             return;
         }
         match &self.verdict {

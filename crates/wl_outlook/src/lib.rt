@@ -3,10 +3,13 @@
 //! [`Outlook`] is what threads note and a server of pages shows. It has no bytes of a key, a token or a message.
 #![tactic(auto)]
 
+mod callers;
+mod changes;
 mod judge;
 mod outlook;
 mod standing;
 
+pub use callers::Callers;
 pub use judge::{DocumentJudge, FaultLines};
 pub use outlook::Outlook;
 pub use standing::{PATIENCE_SECONDS, Standing};

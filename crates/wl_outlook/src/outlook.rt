@@ -1,8 +1,12 @@
 //! What threads note, and pages show.
 
+use crate::callers::Callers;
 use crate::standing::Standing;
 use event_log::Event;
-use figures::{Counters, DocumentResult, Figures, Health, Shows, SigningKind, SigningResult};
+use figures::{
+    Counters, Direction, DocumentResult, FaultCause, Figures, Health, Shows, SigningKind,
+    SigningResult,
+};
 use log_output::Log;
 use std::alloc::Global;
 use std::sync::atomic::{AtomicU64, Ordering};
@@ -24,6 +28,7 @@ pub struct Outlook {
     alloc: Global,
     log: Arc<Log>,
     counters: Counters,
+    callers: Callers,
     /// When the process started: the clock of all milliseconds here.
     began: Option<Instant>,
     /// The same in Unix seconds.
@@ -34,14 +39,15 @@ pub struct Outlook {
 }
 
 impl Outlook {
-    /// Of a process that starts now, with counters at 0.
-    pub fn start(alloc: Global, log: Arc<Log>, counters: Counters) -> Outlook {
+    /// Of a process that starts now, with counters at 0 and these sockets, of which none has a caller.
+    pub fn start(alloc: Global, log: Arc<Log>, counters: Counters, callers: Callers) -> Outlook {
         let began = Instant::now(log.runtime()).ok();
         let started = log.now();
         Outlook {
             alloc,
             log,
             counters,
+            callers,
             began,
             started,
             stepped: AtomicU64::new(0),
@@ -74,12 +80,13 @@ impl Outlook {
         None
     }
 
-    /// A step of the keeper has ended. Identities that have ended since the last step are said.
+    /// A step of the keeper has ended. Identities that have ended since the last step are said, and that a caller waits for one.
     pub fn note_step(&self) {
         self.stepped.store(self.milliseconds(), Ordering::SeqCst);
         let now = self.log.now();
         if let Some(mut standing) = self.standing() {
             standing.say_ended(&self.log, now);
+            standing.say_waiting(&self.log, &self.callers, now);
         }
     }
 
@@ -117,13 +124,25 @@ impl Outlook {
     /// A connection was accepted at the socket of this number.
     pub fn note_opened(&self, socket: u32) {
         self.counters.count_opened(socket);
+        self.callers.note_opened(socket);
         self.log.say(&Event::Connected(socket));
     }
 
     /// A connection of the socket of this number is over.
     pub fn note_closed(&self, socket: u32) {
         self.counters.count_closed(socket);
+        self.callers.note_closed(socket);
         self.log.say(&Event::Closed(socket));
+    }
+
+    /// A connection failed.
+    pub fn note_fault(&self, cause: FaultCause) {
+        self.counters.count_fault(cause);
+    }
+
+    /// So many bytes went over connections.
+    pub fn note_bytes(&self, direction: Direction, count: u64) {
+        self.counters.count_bytes(direction, count);
     }
 }
 

@@ -3,6 +3,7 @@
 #![tactic(auto)]
 
 mod binding;
+mod fitness;
 mod gate;
 mod listener;
 mod memory;
@@ -14,6 +15,6 @@ mod upstream;
 pub use binding::say_unbound;
 pub use gate::SayingGate;
 pub use listener::SayingListener;
-pub use signer::SayingSigner;
+pub use signer::{AskFailures, SayingSigner};
 pub use sink::KeepingSink;
 pub use upstream::SayingUpstream;

@@ -75,4 +75,10 @@ impl Repeats {
         };
         self.keys.get_mut(at)?.slot.admit(now)
     }
+
+    /// The same of a number as a key.
+    pub(crate) fn admit_number(&mut self, number: u64, now: u64) -> Option<u64> {
+        let name = Octets::from_slice(self.alloc, &number.to_be_bytes()).ok()?;
+        self.admit(&name, now)
+    }
 }

@@ -1,6 +1,6 @@
 //! What is said and counted of things in memory that fail and come back.
 
-use event_log::{FaultLine, Level, PullCause, SignCause};
+use event_log::{FaultLine, Level, PullCause};
 use figures::{Counters, Shows};
 use log_output::{Log, LogOutput};
 use spiffe_id::SpiffeId;
@@ -13,14 +13,16 @@ use std::sync::Arc;
 use std::sync::atomic::AtomicBool;
 use wl_document::DocFault;
 use wl_edge::{
-    BEFORE_KEEPING, BEFORE_UPKEEP, EdgeFault, Gate, MemorySigner, MemorySink, MemoryUpstream,
-    OpenGate, Script, Signer, Sink, Upstream,
+    Accepted, BEFORE_KEEPING, BEFORE_UPKEEP, EdgeFault, Gate, Listener, MemorySigner, MemorySink,
+    MemoryUpstream, OpenGate, Script, Signer, Sink, Upstream,
 };
-use wl_edge_real::{BindFault, Stop};
+use wl_edge_real::{BindFault, BoundAt, RealLink, Refusal, Stop};
 use wl_entry::{Ask, Signed};
 use wl_octets::{Memory, Octets, Row};
-use wl_outlook::{FaultLines, Outlook};
-use wl_saying::{KeepingSink, SayingGate, SayingSigner, SayingUpstream, say_unbound};
+use wl_outlook::{Callers, FaultLines, Outlook};
+use wl_saying::{
+    KeepingSink, SayingGate, SayingListener, SayingSigner, SayingUpstream, say_unbound,
+};
 
 /// The point that a seat passes which ended with a fault.
 const AFTER_FAILED_SEAT: u32 = 5;
@@ -49,7 +51,7 @@ fn watched(
     let output = LogOutput::over(ours.as_raw_fd(), false);
     let log = Log::over(own.clone().expect(rt, "runtime"), output, Level::Info, None);
     let log = Arc::new(alloc, log).expect(rt, "log");
-    let outlook = Outlook::start(alloc, log, Counters::start(alloc));
+    let outlook = Outlook::start(alloc, log, Counters::start(alloc), Callers::start(alloc));
     (Arc::new(alloc, outlook).expect(rt, "outlook"), ours, theirs)
 }
 
@@ -105,7 +107,48 @@ fn saying_signer(
     let tokens = Script::start(Row::empty(alloc), Row::empty(alloc));
     let signer = MemorySigner::start(alloc, identities, tokens);
     let is_failing = Arc::new(alloc, AtomicBool::new(false)).expect(rt, "flag");
-    SayingSigner::start(alloc, signer, outlook, SignCause::NoAnswer, is_failing)
+    SayingSigner::start(alloc, signer, outlook, is_failing)
+}
+
+/// The smallest certificate of `spiffe://a.b/w` up to its first time, from there to its second, and after that (RFC 5280, section 4.1).
+const LEAF: [&[u8]; 3] = [
+    b"\x30\x56\x30\x4f\xa0\x03\x02\x01\x02\x02\x01\x01\x30\x00\x30\x00\x30\x1e\x17\x0d",
+    b"\x17\x0d",
+    b"\x30\x00\x30\x00\xa3\x1d\x30\x1b\x30\x19\x06\x03\x55\x1d\x11\x04\x12\x30\x10\x86\x0espiffe://a.b/w\x30\x00\x03\x01\x00",
+];
+
+/// 100 seconds after the Unix epoch.
+const LONG_AGO: Moment = Moment {
+    text: b"700101000140Z",
+    second: 100,
+};
+
+/// 2049-01-01T00:00:00Z.
+const FAR_OFF: Moment = Moment {
+    text: b"490101000000Z",
+    second: 2_493_072_000,
+};
+
+/// 2049-12-31T23:59:59Z.
+const FARTHER_OFF: Moment = Moment {
+    text: b"491231235959Z",
+    second: 2_524_607_999,
+};
+
+/// A time, as a certificate has it and in Unix seconds.
+#[derive(Clone, Copy)]
+struct Moment {
+    text: &'static [u8],
+    second: u64,
+}
+
+/// A chain of one certificate of these times.
+fn chain(rt: &(impl AllocGlobal + Abort), before: Moment, after: Moment) -> Octets {
+    let mut chain = Octets::empty(rt.alloc());
+    for part in [LEAF[0], before.text, LEAF[1], after.text, LEAF[2]] {
+        chain.push_slice(part).expect(rt, "chain");
+    }
+    chain
 }
 
 /// An ask for one entry.
@@ -113,19 +156,19 @@ fn ask(rt: &(impl AllocGlobal + Abort)) -> Ask {
     let alloc = rt.alloc();
     Ask {
         entry_id: Octets::from_slice(alloc, b"e1").expect(rt, "id"),
-        spiffe_id: SpiffeId::parse(alloc, b"spiffe://a.b/one").expect(rt, "id"),
+        spiffe_id: SpiffeId::parse(alloc, b"spiffe://a.b/w").expect(rt, "id"),
         dns_names: Row::empty(alloc),
         ttl: 60,
     }
 }
 
 /// An identity of these times.
-fn signed(rt: &(impl AllocGlobal + Abort), not_before: u64, not_after: u64) -> Signed {
+fn signed(rt: &(impl AllocGlobal + Abort), before: Moment, after: Moment) -> Signed {
     Signed {
-        chain: Octets::from_slice(rt.alloc(), b"c").expect(rt, "chain"),
+        chain: chain(rt, before, after),
         key: Octets::from_slice(rt.alloc(), b"k").expect(rt, "key"),
-        not_before,
-        not_after,
+        not_before: before.second,
+        not_after: after.second,
     }
 }
 
@@ -146,7 +189,7 @@ fn failed_pulls_are_said_once(rt: HostRuntime) {
     assert!(rt; said.starts_with("level=warn event=authority_failed cause=file since=\"20"));
     assert!(rt;
         said.ends_with(
-            "Z\";level=info event=authority_back;level=info event=document_taken entries=0 bundles=1;"
+            "Z\";level=info event=authority_back;level=info event=document_taken entries=0 bundles=1 changed=0 removed=0;"
         )
     );
     assert_eq!(rt; numbers(&rt, &outlook), [2, 0, 0, 0]);
@@ -169,16 +212,16 @@ fn asks_twice_in_vain<S: Signer>(rt: &(impl AllocGlobal + Abort), signer: &mut S
 #[test]
 fn failed_asks_are_said_for_each_entry(rt: HostRuntime) {
     let (outlook, ours, mut theirs) = watched(&rt, &rt);
-    let identities = late(&rt, signed(&rt, 100, 200));
+    let identities = late(&rt, signed(&rt, LONG_AGO, FAR_OFF));
     let mut saying = saying_signer(&rt, identities, one_more(&rt, &outlook));
     let asked = asks_twice_in_vain(&rt, &mut saying);
     drop(saying);
     let said = lines_of(&rt, &mut theirs);
     assert_eq!(rt;
         said.as_str(),
-        "level=warn event=signing_failed entry=\"e1\" cause=no_answer;\
-        level=info event=signer_back;level=info event=signed entry=\"e1\" not_after=200;\
-        level=warn event=token_failed entry=\"e1\" cause=no_answer;"
+        "level=warn event=signing_failed entry=\"e1\" cause=not_an_answer;\
+        level=info event=signer_back;level=info event=signed entry=\"e1\" not_after=2493072000;\
+        level=warn event=token_failed entry=\"e1\" cause=not_an_answer;"
     );
     assert!(rt; asked && numbers(&rt, &outlook) == [0, 1, 2, 1]);
     drop(ours);
@@ -187,7 +230,7 @@ fn failed_asks_are_said_for_each_entry(rt: HostRuntime) {
 #[test]
 fn early_identities_are_said(rt: HostRuntime) {
     let (outlook, ours, mut theirs) = watched(&rt, &rt);
-    let identity = signed(&rt, 9_000_000_000, 9_000_000_060);
+    let identity = signed(&rt, FAR_OFF, FARTHER_OFF);
     let identities = Script::start(row_of(&rt, identity), Row::empty(rt.alloc()));
     let mut saying = saying_signer(&rt, identities, outlook);
     let ask = ask(&rt);
@@ -199,9 +242,95 @@ fn early_identities_are_said(rt: HostRuntime) {
     assert!(rt;
         is_signed
             && said.as_str()
-                == "level=info event=signed entry=\"e1\" not_after=9000000060;\
-        level=warn event=identity_not_yet_valid entry=\"e1\" not_before=9000000000;"
+                == "level=info event=signed entry=\"e1\" not_after=2524607999;\
+        level=warn event=identity_not_yet_valid entry=\"e1\" not_before=2493072000;"
     );
+}
+
+#[test]
+fn unfit_identities_are_said_and_count_as_failed(rt: HostRuntime) {
+    let (outlook, ours, mut theirs) = watched(&rt, &rt);
+    let mut identity = signed(&rt, LONG_AGO, FAR_OFF);
+    identity.not_after = FARTHER_OFF.second;
+    let identities = Script::start(row_of(&rt, identity), Row::empty(rt.alloc()));
+    let mut saying = saying_signer(&rt, identities, one_more(&rt, &outlook));
+    let ask = ask(&rt);
+    let is_answered = saying.sign_x509(&ask).is_ok();
+    drop(ask);
+    drop(saying);
+    let said = lines_of(&rt, &mut theirs);
+    drop(ours);
+    assert_eq!(rt;
+        said.as_str(),
+        "level=warn event=signing_failed entry=\"e1\" cause=unfit fault=other_times;"
+    );
+    assert!(rt; is_answered && numbers(&rt, &outlook) == [0, 0, 1, 0]);
+}
+
+/// A listener that refuses each caller for this reason, and tells nothing.
+#[derive(Drop)]
+struct Refusing {
+    refusal: Refusal,
+}
+
+impl BoundAt for Refusing {
+    ghost use Rattle.std.specs.Prelude.{[]};
+
+    ghost paths = { λ l. [] };
+
+    fn last_socket(&self) -> u32 {
+        0
+    }
+
+    fn last_refusal(&self) -> Option<Refusal> {
+        Some(self.refusal)
+    }
+}
+
+impl Listener for Refusing {
+    ghost use Rattle.std.specs.Prelude.{None};
+
+    type L = RealLink;
+
+    ghost sockets = { λ l. None };
+
+    ghost told = { λ l. None };
+
+    ghost faults = { λ l. 0 };
+
+    fn accept(&mut self) -> Accepted<RealLink> {
+        Accepted::Idle
+    }
+
+    fn finish(&mut self, _link: RealLink) {}
+}
+
+/// Three callers are refused for this reason.
+fn refuse_three(outlook: Arc<Outlook>, refusal: Refusal) {
+    let mut saying = SayingListener::start(Refusing { refusal }, outlook);
+    for _ in 0..3 {
+        saying.accept();
+    }
+}
+
+#[test]
+fn refused_callers_are_said_once(rt: HostRuntime) {
+    let (outlook, ours, mut theirs) = watched(&rt, &rt);
+    let unattested = Refusal::Unattested { socket: 1 };
+    refuse_three(one_more(&rt, &outlook), unattested);
+    let uid_full = Refusal::UidFull { socket: 0, uid: 7 };
+    refuse_three(one_more(&rt, &outlook), uid_full);
+    let said = lines_of(&rt, &mut theirs);
+    drop(ours);
+    assert_eq!(rt;
+        said.as_str(),
+        "level=warn event=attestation_failed socket=1;\
+        level=warn event=connections_of_uid_full socket=0 uid=7;"
+    );
+    let figures = outlook.figures().expect(&rt, "figures");
+    let faults = figures.faults;
+    drop(figures);
+    assert_eq!(rt; (faults.unattested, faults.uid_full), (3, 3));
 }
 
 /// Says of this path that it can't be bound.
