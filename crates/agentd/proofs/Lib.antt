@@ -1,1 +1,2 @@
 mod Premises
+mod OneMore

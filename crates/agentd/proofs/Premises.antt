@@ -1,5 +1,6 @@
 -- How serving ends, where links always tell their content: the same with no premise.
-use Rattle.std.specs.Prelude.{◌≡◌, ◌⊎◌, ⊤, ℕ, ◌+◌, List, [], ◌∷◌, Option, Some, None, IfSome, IsSomeAnd, Result, Ok, Err}
+use Rattle.std.specs.Prelude.{◌≡◌, ◌⊎◌, ⊤, ℕ, List, [], ◌∷◌, Option, Some, None, IfSome, IsSomeAnd, Result, Ok, Err}
+use Rattle.std.specs.List.{AllZip, range_with_len}
 use Rattle.std.proofs.Common.{inl, inr}
 use Rattle.wl_entry.specs.declared.asks.Ask.{Ask}
 use Rattle.wl_entry.specs.declared.tokens.JwtToken.{JwtToken}
@@ -9,7 +10,9 @@ use Rattle.wl_config.specs.declared.fault.ConfigFault.{ConfigFault}
 use Rattle.wl_config.specs.Configs.{Configuration}
 use Rattle.wl_worker.specs.declared.seat.SeatEnd.{SeatEnd}
 use Rattle.wl_serve.specs.Views.{SeatView, PartsView}
-use Rattle.wl_serve.specs.Serving.{HasTended, SeatRan, AllRan, Ran, EndTells, ServeTells, first_of}
+use Rattle.wl_dealing.specs.Dealt.{dealt}
+use Rattle.wl_serve.specs.Prepared.{seat_count}
+use Rattle.wl_serve.specs.Serving.{HasTended, SeatRan, Ran, EndTells, ServeTells, first_of}
 use Rattle.wl_serve.specs.declared.ending.ServeEnd.{ServeEnd}
 use Rattle.wl_serve.specs.declared.ending.ServeEnd.TheVariants.{Config, Unprepared, NoDocument, Document, HostFault, Memory, Done}
 use Rattle.wl_agent.specs.Ends.{Traffic}
@@ -27,17 +30,17 @@ module _ (vouched : Ask → List (List ℕ) → JwtToken → Type 0) (links tell
   tended : (first : Publication) (v : SeatView) (end : SeatEnd) → HasTended vouched links tells first v end → HasTended vouched ⊤ tells first v end
   tended first v end h = record { unused = h.unused; is_unused = h.is_unused; told = h.told; pass = h.pass; seen = h.seen; mine = h.mine; sent = λ _. h.sent always }
 
-  seat_ran : (first : Publication) (n : ℕ) (fact : SocketFact) (v : SeatView) → SeatRan vouched links tells first n fact v → SeatRan vouched ⊤ tells first n fact v
-  seat_ran first n fact v r = record { end = r.end; ended = r.ended; sockets = r.sockets; room = r.room; first = r.first; listened = r.listened; tended = tended first v r.end r.tended; listen = r.listen; wait = r.wait }
+  seat_ran : (first : Publication) (sockets : List (ℕ × SocketFact)) (v : SeatView) → SeatRan vouched links tells first sockets v → SeatRan vouched ⊤ tells first sockets v
+  seat_ran first sockets v r = record { end = r.end; ended = r.ended; sockets = r.sockets; room = r.room; first = r.first; listened = r.listened; tended = tended first v r.end r.tended; listen = r.listen; wait = r.wait }
 
-  all_ran : (first : Publication) (n : ℕ) (facts : List SocketFact) (vs : List SeatView) → AllRan vouched links tells first n facts vs → AllRan vouched ⊤ tells first n facts vs
-  all_ran first n [] [] h = h
-  all_ran first n [] (v ∷ vs) h = h
-  all_ran first n (s ∷ ss) [] h = h
-  all_ran first n (s ∷ ss) (v ∷ vs) h = (seat_ran first n s v h.0, all_ran first (n + 1) ss vs h.1)
+  all_ran : (first : Publication) (n : ℕ) (sockets : List SocketFact) (ks : List ℕ) (vs : List SeatView) → AllZip (λ k v. SeatRan vouched links tells first (dealt n k sockets) v) ks vs → AllZip (λ k v. SeatRan vouched ⊤ tells first (dealt n k sockets) v) ks vs
+  all_ran first n sockets [] [] h = h
+  all_ran first n sockets [] (v ∷ vs) h = h
+  all_ran first n sockets (k ∷ ks) [] h = h
+  all_ran first n sockets (k ∷ ks) (v ∷ vs) h = (seat_ran first (dealt n k sockets) v h.0, all_ran first n sockets ks vs h.1)
 
   ran : (c : Configuration) (p : PartsView) → Ran vouched links tells c p → Ran vouched ⊤ tells c p
-  ran c p r = record { document = r.document; state = r.state; is = r.is; pulled = r.pulled; seats = all_ran (first_of r.state) 0 c.sockets p.seats r.seats }
+  ran c p r = record { document = r.document; state = r.state; is = r.is; pulled = r.pulled; seats = all_ran (first_of r.state) (seat_count c) c.sockets (range_with_len 0 (seat_count c)) p.seats r.seats }
 
   or_ran : {N E : Type 0} (c : Configuration) (p : PartsView) → N ⊎ (Ran vouched links tells c p × E) → N ⊎ (Ran vouched ⊤ tells c p × E)
   or_ran {N} {E} c p (inl none) = inl none

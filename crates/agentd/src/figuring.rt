@@ -8,7 +8,7 @@ use std::sync::Arc;
 use wl_config::Config;
 use wl_document::DocFault;
 use wl_octets::Memory;
-use wl_outlook::{FaultLines, Outlook};
+use wl_outlook::{Callers, FaultLines, Outlook};
 use wl_replay::put_fault;
 
 /// How the line of a document's fault begins.
@@ -34,8 +34,10 @@ pub(crate) fn make_outlook(
     log: Arc<Log>,
 ) -> Result<Arc<Outlook>, Memory> {
     let mut counters = Counters::start(alloc);
+    let mut callers = Callers::start(alloc);
     for socket in config.sockets.as_slice() {
         counters.add_socket(alloc, &socket.path)?;
+        callers.add_socket(socket.selectors.copy(alloc)?)?;
     }
-    Arc::new(alloc, Outlook::start(alloc, log, counters)).map_err(|_| Memory)
+    Arc::new(alloc, Outlook::start(alloc, log, counters, callers)).map_err(|_| Memory)
 }

@@ -1,41 +1,42 @@
 //! The real host: what a configuration names, over the operating system.
 
-ghost use Rattle.std.specs.Prelude.{◌≡◌, ◌<◌, ◌≤◌, ⊤, [], ◌∷◌, None, Some, IfOk, IfSome, IsErrOf, length, string_bytes};
+ghost use Rattle.std.specs.Prelude.{◌≡◌, ◌<◌, ◌≤◌, ⊤, [], IfOk, IfSome, IsErrOf, length};
 ghost use Rattle.wl_edge.specs.Edge.{Rose};
-ghost use Rattle.wl_serve.specs.Prepared.{IsSeat};
 
+use crate::bells::SharedBell;
+use crate::bound::Bound;
 use crate::documents::{AgentUpstream, Source};
+use crate::doors::{Doors, discard_all, open_all};
 use crate::figuring::{DocumentFaults, make_outlook};
+use crate::listening::{listen_for_readers, text_of};
+use crate::mending::MendingGate;
+use crate::owners::{copy_of, one_more};
+use crate::seats::{HostAttestor, HostClock, HostListener, Seats};
 use crate::settings::level_of;
 use crate::signers::{AgentSigner, AgentVoucher, SignedBy};
 use document_signer::{DocumentSigner, SharedIdentities, SharingUpstream, share_identities};
-use event_log::{PullCause, SignCause};
+use event_log::PullCause;
 use log_output::Log;
 use page_server::serve_pages;
 use std::alloc::Global;
-use std::fs;
 use std::fs::Files;
+use std::mem;
 use std::net::Net;
-use std::os::unix::fs::FileTypeExt;
 use std::rt::Clock;
-use std::string::String;
 use std::sync::atomic::AtomicBool;
 use std::sync::{Arc, Wait};
 use std::thread::Threads;
-use wl_config::{Config, DocumentSource, SocketAttestor, SocketFact, SocketGuard};
-use wl_edge::{EdgeFault, Listener, Origin, Upstream};
-use wl_edge_real::{
-    BindFault, BoundAt, FileUpstream, Guard, RealBell, RealClock, RealGate, RealListener,
-    RealReady, RealUpstream, Stop, bind,
-};
-use wl_octets::{Memory, Octets};
+use wl_config::{Config, DocumentSource};
+use wl_dealing::seat_count;
+use wl_edge::{EdgeFault, Upstream};
+use wl_edge_real::{FileUpstream, RealClock, RealGate, RealReady, RealUpstream, Stop, Unnamed};
+use wl_octets::Memory;
 use wl_outlook::Outlook;
-use wl_saying::{SayingGate, SayingListener, SayingSigner, SayingUpstream, say_unbound};
-use wl_selector::Selectors;
-use wl_serve::{Binder, Parts, SeatMaker, SeatShown, Upkeep, make_seats};
+use wl_saying::{SayingGate, SayingSigner, SayingUpstream};
+use wl_serve::{Binder, Parts, Upkeep, make_seats};
 use wl_signlink::SignLink;
-use wl_telling::{TellingAttestor, TellingClock, TellingSigner, TellingUpstream};
-use wl_worker::{AskHub, Seat, SeatAsks, Signing};
+use wl_telling::{TellingClock, TellingSigner, TellingUpstream};
+use wl_worker::{AskHub, Signing};
 
 /// The operating system as a host. It keeps its own copy of the runtime.
 #[derive(Drop)]
@@ -45,127 +46,20 @@ pub struct RealHost<R> {
     log: Arc<Log>,
     /// What has all that it prepared end.
     stop: Arc<Stop>,
-    /// The paths at which it listens.
-    paths: Vec<String>,
+    /// The files of its sockets that have no names yet.
+    unnamed: Vec<Unnamed>,
+    /// Under which names peers find its sockets, once they were prepared.
+    doors: Option<Arc<Doors>>,
     faults: u64,
 }
 
-/// Who may read the pages: the agent's own user, and root.
-const PAGES_GUARD: Guard = Guard {
-    owner: None,
-    group: None,
-    mode: 0o600,
-};
-
 /// A signer of the real host.
 type HostSigner<R> = TellingSigner<SayingSigner<AgentSigner<R>>>;
-
-/// Its attestor.
-type HostAttestor = TellingAttestor<SocketAttestor>;
-
-/// Its clock.
-type HostClock<R> = TellingClock<RealClock<R>>;
 
 /// Its upstream.
 type HostUpstream<R> = TellingUpstream<
     SharingUpstream<SayingUpstream<AgentUpstream<R>, DocumentFaults>>,
 >;
-
-/// Its listener.
-type HostListener = SayingListener<RealListener>;
-
-/// A seat of the real host.
-type RealSeat<R> = Seat<
-    HostListener,
-    SeatAsks<AgentVoucher>,
-    HostAttestor,
-    HostClock<R>,
-    RealReady,
->;
-
-/// A copy of the runtime.
-fn copy_of<R: Clone>(rt: &R) -> Result<R, Memory> {
-    match rt.clone() {
-        Ok(rt) => Ok(rt),
-        Err(_) => Err(Memory),
-    }
-}
-
-/// One more owner of it.
-fn one_more<T>(owned: &Arc<T>) -> Result<Arc<T>, Memory> {
-    match Arc::try_clone(owned) {
-        Ok(owned) => Ok(owned),
-        Err(_) => Err(Memory),
-    }
-}
-
-/// The path as a text, which the paths of a configuration are.
-fn text_of(alloc: Global, path: &Octets) -> Result<String, EdgeFault>
-    ensures { IfOk result (λ text. string_bytes text ≡ path.now) }
-{
-    let Ok(path) = str::from_utf8(path.as_slice()) else {
-        return Err(EdgeFault::Failed);
-    };
-    match String::from_str(alloc, path) {
-        Ok(path) => Ok(path),
-        Err(_) => Err(EdgeFault::Memory),
-    }
-}
-
-/// Who may open the socket's file.
-fn guard_of(guard: SocketGuard) -> Guard
-    ensures owner { result.owner ≡ guard.owner }
-    ensures group { result.group ≡ guard.group }
-    ensures mode { result.mode ≡ guard.mode }
-{
-    Guard {
-        owner: guard.owner,
-        group: guard.group,
-        mode: guard.mode,
-    }
-}
-
-/// Whether a socket stands at this path.
-fn is_socket(rt: &impl Files, path: &str) -> bool {
-    match fs::symlink_metadata(rt, path) {
-        Ok(found) => found.file_type().is_socket(),
-        Err(_) => false,
-    }
-}
-
-/// The origin of the callers of the socket of this number.
-fn origin_of(alloc: Global, number: u32, fact: &SocketFact) -> Result<Origin, Memory>
-    ensures { IfOk result (λ o. o ≡ record { selectors = fact.now.selectors; socket = number; uid = None }) }
-{
-    Origin::new(alloc, fact.selectors.copy(alloc)?, number, None)
-}
-
-/// Listens at the socket's path. The log says why not.
-fn listener_at<R: Files + Net>(
-    rt: &R,
-    alloc: Global,
-    path: &Octets,
-    guard: Guard,
-    origin: Origin,
-    log: &Log,
-) -> Result<RealListener, EdgeFault>
-    ensures sockets { IfOk result (λ l. ⟦<RealListener as Listener>⟧.sockets l
-        ≡ Some (record { selectors = origin.selectors; number = origin.socket } ∷ [])) }
-    ensures fresh { IfOk result (λ l. ⟦<RealListener as Listener>⟧.faults l ≡ 0) }
-    ensures path { IfOk result (λ l. ⟦<RealListener as BoundAt>⟧.path l ≡ path.now) }
-    ensures told { IfOk result (λ l. ⟦<RealListener as Listener>⟧.told l ≡ Some (record { kinds = []; finished = [] })) }
-{
-    let text = text_of(alloc, path)?;
-    let fault = match bind(rt, alloc, text.as_str(), guard, origin) {
-        Ok(listener) => return Ok(listener),
-        Err(fault) => fault,
-    };
-    say_unbound(log, alloc, path, fault, is_socket(rt, text.as_str()));
-    match fault {
-        BindFault::Memory => Err(EdgeFault::Memory),
-        _ => Err(EdgeFault::Failed),
-    }
-}
 
 /// The identities of the documents, for the signers of a configuration that names none.
 fn identities_of(alloc: Global, config: &Config) -> Result<Option<SharedIdentities>, Memory> {
@@ -219,14 +113,6 @@ fn make_upstream<R: Net + Files + Clock + Clone + Drop>(
     Ok(TellingUpstream::start(sharing))
 }
 
-/// Why an ask fails, where it does.
-fn cause_of(config: &Config) -> SignCause {
-    match &config.signer {
-        Some(_) => SignCause::NoAnswer,
-        None => SignCause::NotInDocument,
-    }
-}
-
 /// A signer of a configuration: the one that it names, or its documents.
 fn make_signer<R: Net + Clock + Clone + Drop>(
     rt: &R,
@@ -245,64 +131,9 @@ fn make_signer<R: Net + Clock + Clone + Drop>(
         alloc,
         AgentSigner::start(by),
         one_more(outlook)?,
-        cause_of(config),
         is_failing,
     );
     Ok(TellingSigner::start(signer))
-}
-
-/// Makes the seats of a configuration.
-#[derive(Drop)]
-struct Seats<'a, R> {
-    rt: &'a R,
-    hub: &'a Arc<AskHub<AgentVoucher>>,
-    outlook: &'a Arc<Outlook>,
-    stop: &'a Arc<Stop>,
-}
-
-impl<'a, R: Net + Files + Clock + Clone + Drop> SeatMaker for Seats<'a, R> {
-    type Seat = RealSeat<R>;
-
-    type Ring = RealBell;
-
-    ghost tells = { ⊤ };
-
-    fn make_seat(
-        &mut self,
-        alloc: Global,
-        number: u32,
-        fact: &SocketFact,
-    ) -> Result<(RealSeat<R>, RealBell), EdgeFault>
-        ensures made { IfOk result (λ r. IsSeat ⊤ number fact.now (⟦<RealSeat<R> as SeatShown>⟧.shown r.0)) }
-        // its callers come over this socket alone, which has this number and these selectors
-        ensures sockets { IfOk result (λ r. ⟦<HostListener as Listener>⟧.sockets r.0.listener
-            ≡ Some (record { selectors = fact.now.selectors; number = number } ∷ [])) }
-        // the listener is the one at this socket's own path
-        ensures path { IfOk result (λ r. ⟦<HostListener as BoundAt>⟧.path r.0.listener ≡ fact.now.path) }
-    {
-        let rt = self.rt;
-        let origin = origin_of(alloc, number, fact)?;
-        let guard = guard_of(fact.guard);
-        let log = self.outlook.log();
-        let mut listener = listener_at(rt, alloc, &fact.path, guard, origin, log)?;
-        listener.obey(one_more(self.stop)?);
-        let Ok((ready, bell)) = RealReady::start(rt, alloc, &mut listener) else {
-            return Err(EdgeFault::Failed);
-        };
-        let seat = Seat {
-            listener: SayingListener::start(listener, number, one_more(self.outlook)?),
-            asks: SeatAsks::start(alloc, self.hub, number)?,
-            connections: 0,
-            attestor: TellingAttestor::start(SocketAttestor::start(alloc)),
-            clock: TellingClock::start(RealClock::start(copy_of(rt)?)),
-            pass: None,
-            end: None,
-            ready,
-            room: fact.connections,
-            starved: 0,
-        };
-        Ok((seat, bell))
-    }
 }
 
 /// A signer of a configuration, with its clock.
@@ -365,28 +196,31 @@ fn make_upkeep<R: Net + Files + Clock + Clone + Drop>(
     })
 }
 
-/// The gate of a configuration.
-fn make_gate<R: Clock + Clone + Drop>(
+/// A gate of the real host.
+type HostGate<R> = MendingGate<SayingGate<RealGate<R>>, R>;
+
+/// The gate of a configuration, whose sockets have these doors.
+fn make_gate<R: Net + Files + Clock + Clone + Drop>(
     rt: &R,
     config: &Config,
     outlook: &Arc<Outlook>,
     stop: &Arc<Stop>,
-) -> Result<SayingGate<RealGate<R>>, Memory> {
+    log: &Arc<Log>,
+    doors: &Arc<Doors>,
+) -> Result<HostGate<R>, Memory> {
     let gate = RealGate::start(copy_of(rt)?, config.poll_seconds, one_more(stop)?);
     let sockets = u32::try_from(config.sockets.len()).unwrap_or(u32::MAX);
     let gate = SayingGate::start(gate, one_more(outlook)?, sockets, one_more(stop)?);
-    Ok(gate)
+    Ok(MendingGate::start(
+        gate,
+        copy_of(rt)?,
+        one_more(log)?,
+        one_more(doors)?,
+        one_more(stop)?,
+    ))
 }
 
-/// The origin of the readers of pages, who have no selectors.
-fn readers_origin(alloc: Global) -> Result<Origin, Memory> {
-    let Ok(selectors) = Selectors::from_list(alloc, Vec::new(alloc), 0) else {
-        return Err(Memory);
-    };
-    Origin::new(alloc, selectors, 0, None)
-}
-
-/// Serves the pages, where the configuration names a socket for them. The log says why that can't be bound.
+/// Serves the pages, where the configuration names a socket for them, and gives what was bound. The log says why that can't be bound.
 fn start_pages<R: Net + Files, W: Threads>(
     threads: &W,
     rt: &R,
@@ -394,40 +228,28 @@ fn start_pages<R: Net + Files, W: Threads>(
     config: &Config,
     outlook: &Arc<Outlook>,
     stop: &Arc<Stop>,
-) -> Result<(), EdgeFault> {
+) -> Result<Bound, EdgeFault> {
+    let mut bound = Bound::start(alloc)?;
     let Some(path) = &config.metrics else {
-        return Ok(());
+        return Ok(bound);
     };
-    let origin = readers_origin(alloc)?;
-    let listener = listener_at(rt, alloc, path, PAGES_GUARD, origin, outlook.log())?;
+    let (listener, door) = listen_for_readers(rt, alloc, path, outlook.log())?;
+    bound.keep_pages(door);
     serve_pages(
         threads,
         alloc,
         listener,
         one_more(outlook)?,
-        one_more(stop)?,
-    )
+        Some(one_more(stop)?),
+    )?;
+    Ok(bound)
 }
 
-/// Adds a path.
-fn push_path(alloc: Global, paths: &mut Vec<String>, path: &Octets) -> Result<(), EdgeFault> {
-    let path = text_of(alloc, path)?;
-    match paths.push(path) {
-        Ok(()) => Ok(()),
-        Err(_) => Err(EdgeFault::Memory),
-    }
-}
-
-/// The paths of all sockets of a configuration.
-fn paths_of(alloc: Global, config: &Config) -> Result<Vec<String>, EdgeFault> {
-    let mut paths = Vec::new(alloc);
-    for fact in config.sockets.as_slice() {
-        push_path(alloc, &mut paths, &fact.path)?;
-    }
-    if let Some(path) = &config.metrics {
-        push_path(alloc, &mut paths, path)?;
-    }
-    Ok(paths)
+/// Over which the seats of a configuration ask its signers.
+fn make_hub(alloc: Global, config: &Config) -> Result<Arc<AskHub<AgentVoucher>>, Memory> {
+    let sockets = config.sockets.as_slice();
+    let seats = seat_count(config.threads, sockets) as usize;
+    AskHub::start(alloc, seats, sockets.len(), config.signers)
 }
 
 impl<R: Files + Drop> RealHost<R> {
@@ -440,15 +262,18 @@ impl<R: Files + Drop> RealHost<R> {
             rt,
             log,
             stop,
-            paths: Vec::new(alloc),
+            unnamed: Vec::new(alloc),
+            doors: None,
             faults: 0,
         })
     }
 
-    /// Removes the files of the sockets at which it listens still, so that nobody else listens there.
-    pub fn remove_files(&self) {
-        for path in self.paths.iter() {
-            let _ = fs::remove_file(&self.rt, path.as_str());
+    /// Removes the files of its sockets, named or not, so that nobody else listens there. Other files are left as they are.
+    pub fn remove_files(&mut self, alloc: Global) {
+        let unnamed = mem::replace(&mut self.unnamed, Vec::new(alloc));
+        discard_all(&self.rt, unnamed);
+        if let Some(doors) = &self.doors {
+            doors.remove_files(&self.rt);
         }
     }
 }
@@ -460,14 +285,21 @@ impl<R> RealHost<R> {
         ensures later { self.old.faults ≤ self.new.faults }
     {
         self.log.set_level(level_of(config));
-        self.paths = match paths_of(alloc, config) {
-            Ok(paths) => paths,
-            Err(fault) => return Err(self.count(fault)),
-        };
         match make_outlook(alloc, config, one_more(&self.log)?) {
             Ok(outlook) => Ok(outlook),
             Err(Memory) => Err(EdgeFault::Memory),
         }
+    }
+
+    /// Keeps what was bound, and gives its doors.
+    fn keep(&mut self, alloc: Global, bound: Bound) -> Result<Arc<Doors>, Memory>
+        ensures { self.new.faults ≡ self.old.faults }
+    {
+        let (doors, unnamed) = bound.part(alloc);
+        self.unnamed = unnamed;
+        let doors = doors?;
+        self.doors = Some(one_more(&doors)?);
+        Ok(doors)
     }
 
     /// Counts a fault, except out of memory.
@@ -494,11 +326,11 @@ impl<R: Net + Files + Clock + Clone + Drop + Send + Sync> Binder for RealHost<R>
 
     type Time = HostClock<R>;
 
-    type Poll = RealReady;
+    type Poll = RealReady<R>;
 
-    type Door = SayingGate<RealGate<R>>;
+    type Door = HostGate<R>;
 
-    type Ring = RealBell;
+    type Ring = SharedBell;
 
     ghost tells = { ⊤ };
 
@@ -515,27 +347,31 @@ impl<R: Net + Files + Clock + Clone + Drop + Send + Sync> Binder for RealHost<R>
             Ok(upkeep) => upkeep,
             Err(fault) => return Err(self.count(fault)),
         };
-        let hub = match AskHub::start(alloc, config.sockets.len(), config.signers) {
-            Ok(hub) => hub,
-            Err(Memory) => return Err(EdgeFault::Memory),
+        let hub = make_hub(alloc, config)?;
+        let bound = match start_pages(threads, &self.rt, alloc, config, &outlook, &self.stop) {
+            Ok(bound) => bound,
+            Err(fault) => return Err(self.count(fault)),
         };
         let mut maker = Seats {
             rt: &self.rt,
             hub: &hub,
             outlook: &outlook,
             stop: &self.stop,
+            limits: config.limits,
+            bound,
         };
-        let (seats, bells) = match make_seats(alloc, &mut maker, config.sockets.as_slice()) {
+        let sockets = config.sockets.as_slice();
+        let (seats, bells) = match make_seats(alloc, &mut maker, config.threads, sockets) {
             Ok(both) => both,
-            Err(fault) => return Err(self.count(fault)),
+            Err(fault) => {
+                let Seats { bound, .. } = maker;
+                bound.discard(&self.rt);
+                return Err(self.count(fault));
+            }
         };
-        let gate = match make_gate(&self.rt, config, &outlook, &self.stop) {
-            Ok(gate) => gate,
-            Err(Memory) => return Err(EdgeFault::Memory),
-        };
-        if let Err(fault) = start_pages(threads, &self.rt, alloc, config, &outlook, &self.stop) {
-            return Err(self.count(fault));
-        }
+        let Seats { bound, .. } = maker;
+        let doors = self.keep(alloc, bound)?;
+        let gate = make_gate(&self.rt, config, &outlook, &self.stop, &self.log, &doors)?;
         Ok(Parts {
             upkeep,
             gate,
@@ -543,5 +379,13 @@ impl<R: Net + Files + Clock + Clone + Drop + Send + Sync> Binder for RealHost<R>
             seats,
             bells,
         })
+    }
+
+    fn open(&mut self, alloc: Global) -> Result<(), EdgeFault> {
+        let unnamed = mem::replace(&mut self.unnamed, Vec::new(alloc));
+        match open_all(&self.rt, alloc, unnamed, &self.log) {
+            Ok(()) => Ok(()),
+            Err(fault) => Err(self.count(fault)),
+        }
     }
 }

@@ -5,29 +5,39 @@
 //! command why it ended with a status but 0.
 #![tactic(auto)]
 
+mod bells;
+mod bound;
 mod documents;
+mod doors;
 mod ending;
 mod figuring;
 mod host;
 mod lazy_file;
+mod listening;
+mod mending;
+mod owners;
 mod running;
+mod seats;
 mod settings;
 mod signers;
+mod threads;
 
 use crate::ending::{explain_end, say_end};
 use crate::host::RealHost;
 use crate::lazy_file::LazyFile;
 use crate::running::serve_here;
 use crate::settings::DEFAULT_LEVEL;
+use crate::threads::has_threads;
+use event_log::Event;
 use log_output::Log;
 use std::alloc::{AllocGlobal, Global};
 use std::process::ExitCode;
 use std::string::String;
 use std::sync::{Arc, Wait};
 use std::thread::Threads;
-use wl_agent::status::{OUT_OF_MEMORY, USAGE};
-use wl_agent::{Host, config_path, refusal, run};
-use wl_edge::RealSource;
+use wl_agent::status::{HOST_FAILED, OUT_OF_MEMORY, USAGE};
+use wl_agent::{Host, READ_LIMIT, config_path, refusal, run};
+use wl_edge::{RealSource, Source, read_all};
 use wl_edge_real::{RealOutput, words};
 use wl_octets::Memory;
 use wl_saying::KeepingSink;
@@ -62,7 +72,32 @@ fn start_host(
     RealHost::start(own, alloc, log)
 }
 
-/// Serves by the configuration in this file. The log says why it ended.
+/// Serves by the configuration that this source has. The log says why it ended.
+fn serve_by(
+    rt: &HostRuntime,
+    threads: &(impl Threads + Wait + Sync),
+    alloc: Global,
+    configuration: impl Source + Drop,
+    words: &[String],
+    log: &Arc<Log>,
+) -> u8 {
+    let Ok(binder) = start_host(rt, alloc, log) else {
+        return without_memory(rt, alloc);
+    };
+    let mut host = Host {
+        input: configuration,
+        output: KeepingSink::start(alloc, RealOutput::start(rt.stdout())),
+        binder,
+        parts: None,
+    };
+    let status = serve_here(threads, alloc, words, &mut host);
+    let is_prepared = host.parts.is_some();
+    host.binder.remove_files(alloc);
+    say_end(log, alloc, status, host.output.first_line(), is_prepared);
+    status
+}
+
+/// Serves by the configuration in this file, which is read once. Where the threads that it needs can't be had, nothing is bound.
 fn serve_file(
     rt: &HostRuntime,
     threads: &(impl Threads + Wait + Sync),
@@ -73,22 +108,19 @@ fn serve_file(
     let Ok(log) = start_log(rt, alloc) else {
         return without_memory(rt, alloc);
     };
-    let Ok(binder) = start_host(rt, alloc, &log) else {
-        return without_memory(rt, alloc);
+    let mut file = RealSource::start(LazyFile::start(rt, path));
+    let Ok(configuration) = read_all(alloc, &mut file, READ_LIMIT) else {
+        // serving fails at the same, and says so
+        let again = RealSource::start(LazyFile::start(rt, path));
+        return serve_by(rt, threads, alloc, again, words, &log);
     };
-    let mut host = Host {
-        input: RealSource::start(LazyFile::start(rt, path)),
-        output: KeepingSink::start(alloc, RealOutput::start(rt.stdout())),
-        binder,
-        parts: None,
-    };
-    let status = serve_here(threads, alloc, words, &mut host);
-    let is_prepared = host.parts.is_some();
-    if is_prepared {
-        host.binder.remove_files();
+    if !has_threads(threads, rt, alloc, configuration.as_slice()) {
+        log.say(&Event::NoThread);
+        say_end(&log, alloc, HOST_FAILED, &[], false);
+        return HOST_FAILED;
     }
-    say_end(&log, alloc, status, host.output.first_line(), is_prepared);
-    status
+    let source = RealSource::start(configuration.as_slice());
+    serve_by(rt, threads, alloc, source, words, &log)
 }
 
 /// Runs a command on standard input, and writes why it ended.

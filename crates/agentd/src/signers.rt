@@ -3,12 +3,14 @@
 ghost use Rattle.std.specs.Prelude.{◌≡◌, None};
 
 use document_signer::{DocumentSigner, DocumentVoucher};
+use event_log::SignCause;
 use std::net::Net;
 use std::rt::Clock;
 use wl_edge::{EdgeFault, Signer};
 use wl_entry::{Ask, JwtToken, Signed, Voucher};
 use wl_octets::Octets;
-use wl_signlink::{ReplyVoucher, SignLink};
+use wl_saying::AskFailures;
+use wl_signlink::{AskFault, ReplyVoucher, SignLink};
 
 /// Vouches for what a signer replied to the ask, and for an identity that a document has for the entry of the ask.
 #[derive(Clone, Copy, Debug, PartialEq, Eq)]
@@ -72,5 +74,23 @@ impl<R: Net + Clock + Clone + Drop> Signer for AgentSigner<R> {
             self.faults = self.faults.saturating_add(1);
         }
         token
+    }
+}
+
+/// Why an ask of the signer's socket failed.
+fn cause_of(fault: Option<AskFault>) -> SignCause {
+    match fault {
+        Some(AskFault::NotReached) => SignCause::NotReached,
+        Some(AskFault::TimedOut) => SignCause::TimedOut,
+        Some(AskFault::NotAnAnswer) | None => SignCause::NotAnAnswer,
+    }
+}
+
+impl<R: Net + Clock + Clone + Drop> AskFailures for AgentSigner<R> {
+    fn cause(&self) -> SignCause {
+        match &self.by {
+            SignedBy::Link(signer) => cause_of(signer.last_fault()),
+            SignedBy::Documents(_) => SignCause::NotInDocument,
+        }
     }
 }

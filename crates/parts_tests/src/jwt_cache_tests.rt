@@ -41,16 +41,16 @@ fn keep(
     tokens.keep(alloc, ask, audience, token)
 }
 
-/// Whether a token of these bytes is found.
+/// Whether a token of these bytes is found: issued since the first of these seconds, at the second one.
 fn finds(
     alloc: Global,
     tokens: &Tokens,
     ask: &Ask,
     audience: &[Octets],
-    now: u64,
+    (renew_before, now): (u64, u64),
     text: &[u8],
 ) -> Result<bool, Memory> {
-    match tokens.find(alloc, ask, audience, now)? {
+    match tokens.find(alloc, ask, audience, renew_before, now)? {
         Some(token) => Ok(token.token.as_slice() == text),
         None => Ok(text.is_empty()),
     }
@@ -65,7 +65,7 @@ fn finds_for(
     text: &[u8],
 ) -> Result<bool, Memory> {
     let audience = audiences(alloc, audience.0, audience.1)?;
-    finds(alloc, tokens, ask, audience.as_slice(), 149, text)
+    finds(alloc, tokens, ask, audience.as_slice(), (0, 149), text)
 }
 
 /// A token `t` for the audiences `b` and `a` is kept.
@@ -76,16 +76,17 @@ fn kept(alloc: Global, ask: &Ask) -> Result<Tokens, Memory> {
     Ok(tokens)
 }
 
-/// Whether these are found at these times for the audiences `b` and `a`.
+/// Whether these are found for the audiences `b` and `a`: each issued since a second, at another one.
 fn are_found(
     alloc: Global,
     tokens: &Tokens,
     ask: &Ask,
-    due: &[(u64, &[u8])],
+    due: &[(u64, u64, &[u8])],
 ) -> Result<bool, Memory> {
     let audience = audiences(alloc, b"b", b"a")?;
-    for (now, text) in due {
-        if !finds(alloc, tokens, ask, audience.as_slice(), *now, text)? {
+    for (renew_before, now, text) in due {
+        let times = (*renew_before, *now);
+        if !finds(alloc, tokens, ask, audience.as_slice(), times, text)? {
             return Ok(false);
         }
     }
@@ -96,8 +97,31 @@ fn are_found(
 fn token_calls(rt: HostRuntime) -> Result<(), Fail> {
     let ask = ask(rt.alloc(), b"e1")?;
     let tokens = kept(rt.alloc(), &ask)?;
-    assert!(rt; are_found(rt.alloc(), &Tokens::start(rt.alloc()), &ask, &[(149, b"")])?);
-    assert!(rt; are_found(rt.alloc(), &tokens, &ask, &[(149, b"t"), (150, b"")])?);
+    assert!(rt;
+        are_found(
+            rt.alloc(),
+            &Tokens::start(rt.alloc()),
+            &ask,
+            &[(0, 149, b"")]
+        )?
+    );
+    assert!(rt; are_found(rt.alloc(), &tokens, &ask, &[(0, 149, b"t"), (0, 150, b"")])?);
+    Ok(())
+}
+
+/// The token is issued at second 100.
+#[test]
+fn tokens_of_an_old_root_or_a_clock_ahead(rt: HostRuntime) -> Result<(), Fail> {
+    let ask = ask(rt.alloc(), b"e1")?;
+    let tokens = kept(rt.alloc(), &ask)?;
+    let renewed_root: &[(u64, u64, &[u8])] = &[
+        (100, 120, b"t"),
+        (101, 120, b""),
+        (u64::MAX, 120, b""),
+    ];
+    let clock_went_back: &[(u64, u64, &[u8])] = &[(0, 0, b""), (0, 99, b""), (0, 100, b"t")];
+    assert!(rt; are_found(rt.alloc(), &tokens, &ask, renewed_root)?);
+    assert!(rt; are_found(rt.alloc(), &tokens, &ask, clock_went_back)?);
     Ok(())
 }
 
@@ -106,7 +130,7 @@ fn tokens_are_forgotten(rt: HostRuntime) -> Result<(), Fail> {
     let ask = ask(rt.alloc(), b"e1")?;
     let mut tokens = kept(rt.alloc(), &ask)?;
     tokens.forget(b"e1");
-    assert!(rt; are_found(rt.alloc(), &tokens, &ask, &[(149, b"")])?);
+    assert!(rt; are_found(rt.alloc(), &tokens, &ask, &[(0, 149, b"")])?);
     Ok(())
 }
 
@@ -119,7 +143,7 @@ fn keep_single(alloc: Global, tokens: &mut Tokens, ask: &Ask) -> Result<(), Memo
 /// Whether it is found for the audience `a`, written once.
 fn finds_single(alloc: Global, tokens: &Tokens, ask: &Ask) -> Result<bool, Memory> {
     let audience = [Octets::from_slice(alloc, b"a")?];
-    finds(alloc, tokens, ask, &audience, 149, b"u")
+    finds(alloc, tokens, ask, &audience, (0, 149), b"u")
 }
 
 #[test]

@@ -101,6 +101,7 @@ pub(crate) fn publication(alloc: Global, state: AuthorityState) -> Result<Snapsh
         bundles,
         entries,
         svids,
+        renew_before: _,
     } = state;
     let svids = keep_in_blocks(alloc, entries.as_slice(), svids)?;
     let entries = share_list(alloc, entries)?;

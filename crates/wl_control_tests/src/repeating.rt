@@ -39,6 +39,10 @@ impl Link for RepeatingLink {
         &self.origin
     }
 
+    fn note_call(&mut self) {}
+
+    fn note_error(&mut self, _code: u32) {}
+
     fn receive(&mut self, into: &mut [u8]) -> Received {
         let count = if self.times == 0 {
             copy_front(self.then.as_slice(), into)

@@ -57,6 +57,14 @@ impl<L: Link + Drop> Link for TickingLink<'_, '_, L> {
         self.link.origin()
     }
 
+    fn note_call(&mut self) {
+        self.link.note_call();
+    }
+
+    fn note_error(&mut self, code: u32) {
+        self.link.note_error(code);
+    }
+
     fn receive(&mut self, into: &mut [u8]) -> Received {
         let answer = if tick(self.keeper) {
             self.link.receive(into)

@@ -1,8 +1,8 @@
-//! Numbers are doubled beside a sum.
+//! Numbers are doubled beside a sum, and threads come together.
 
 ghost use Rattle.std.specs.Prelude.{◌≡◌, ◌*◌, ◌<◌, ℕ, All, length, slice_index};
 
-use at_once::for_each_beside;
+use at_once::{can_start, for_each_beside};
 use std::thread::Threads;
 
 // Doubles each, and adds up others beside it.
@@ -28,4 +28,10 @@ fn each_element_and_the_rest(rt: HostRuntime) {
     double_beside(&rt, &mut numbers, &mut beside);
     assert_eq!(rt; numbers, [2, 40, 600]);
     assert_eq!(rt; beside, 7);
+}
+
+#[test]
+fn some_threads_start(rt: HostRuntime) {
+    assert!(rt; can_start(&rt, &rt, 2));
+    assert!(rt; can_start(&rt, &rt, 64));
 }

@@ -162,6 +162,7 @@ fn binder(rt: &(impl AllocGlobal + Abort), case: &Case) -> MemoryHost<OpenGate> 
         keeper_times: Row::empty(alloc),
         signer_times: Row::empty(alloc),
         gate: OpenGate,
+        is_shut: false,
         seats,
     }))
 }

@@ -14,7 +14,7 @@ returns-clause-prepared g c = record {
   upstream = c.in-Ok.ensures.told;
   upstream_told = λ t. refl;
   upstream_faults = c.in-Ok.ensures.faults;
-  seats = rw (← c.config.view_is, ← c.as_slice.ensures) c.in-Ok-make_seats.ensures.seats;
+  seats = rw (← c.config.view_is, ← c.as_slice-sockets.ensures) c.in-Ok-make_seats.ensures.seats;
 }
 
 -- the count of a call, and of the one before it
