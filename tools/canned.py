@@ -255,8 +255,8 @@ def run_cases(cases, only):
         if only and case.__name__ not in only:
             continue
         try:
-            case()
-            print(f"{case.__name__} ok", flush=True)
+            told = case()
+            print(f"{case.__name__} ok {told or ''}".strip(), flush=True)
         except (Exception, SystemExit) as error:
             failed += 1
             print(f"{case.__name__} FAILED {type(error).__name__} {str(error)[:400]}", flush=True)

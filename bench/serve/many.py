@@ -161,4 +161,5 @@ def main():
             measure(place, load, count, poll, seconds)
 
 
-main()
+if __name__ == "__main__":
+    main()
