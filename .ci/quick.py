@@ -260,6 +260,13 @@ def check_measurements():
             fault(f"bench/uses.txt: {name}: there is no crate {it}")
 
 
+def check_plots():
+    """docs/plots has what bench/plots.py draws from the tables of docs/PERFORMANCE.md."""
+    drawn = subprocess.run([sys.executable, TOP / "bench" / "plots.py", "--check"], capture_output=True, text=True)
+    for line in drawn.stdout.splitlines() + drawn.stderr.splitlines()[-1:]:
+        fault(line)
+
+
 def main():
     files = tracked()
     check_layout(files)
@@ -273,6 +280,7 @@ def main():
     check_version()
     check_states()
     check_measurements()
+    check_plots()
     for text in faults:
         print(text)
     return 1 if faults else 0
