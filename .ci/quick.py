@@ -267,11 +267,22 @@ def check_plots():
         fault(line)
 
 
+def check_format(files):
+    """Each source has the form that `rt fmt` gives it: rt ci refuses a crate with another, and says so late."""
+    sources = [str(it) for it in files if it.parent != TOP and it.is_relative_to(TOP / "crates") and it.suffix in (".rt", ".antt")]
+    looked = subprocess.run(["rattle", "fmt", "--check", *sources], cwd=TOP, capture_output=True, text=True)
+    if looked.returncode:
+        said = looked.stdout + looked.stderr
+        named = [it for it in sources if it in said]
+        fault(f"run rt fmt: {' '.join(named) or said[:300]}")
+
+
 def main():
     files = tracked()
     check_layout(files)
     check_costs()
     check_functions(files)
+    check_format(files)
     check_edits(files)
     check_pages(files)
     check_proof_names(files)
