@@ -6,6 +6,7 @@ use Rattle.wl_edge.specs.Listeners.{BoundSocket, ListenerLog}
 use Rattle.wl_edge.specs.declared.origin.Origin.{Origin}
 use Rattle.wl_edge_real.specs.declared.listener.RealListener.{RealListener}
 use Rattle.wl_edge_real.specs.Places as place
+use Rattle.wl_config.specs.SocketPlaces.{name_of}
 use Rattle.wl_config.specs.declared.config.SocketFact.{SocketFact}
 use Rattle.wl_dealing.specs.declared.dealing.DealtSocket.{DealtSocket}
 use Rattle.wl_dealing.specs.Dealt.{socket_of}
@@ -46,10 +47,10 @@ listened_more xs i x inside at known new origin selectors number is before =
     ∙ ap (λ (ks : List BoundSocket). Some ks) (sym all)
 
 abbrev pub path_of : ℕ × SocketFact → List ℕ
-path_of s = s.1.path
+path_of s = name_of s.1.place
 
-pub paths_more : (xs : List DealtSocket) (i : ℕ) (x : DealtSocket) → i < length xs → x ≡ slice_index_or xs i x → (old new : List (List ℕ)) → new ≡ old ++ x.fact.now.path ∷ [] → old ≡ map path_of (map shown (take i xs)) → new ≡ map path_of (map shown (take (i + 1) xs))
+pub paths_more : (xs : List DealtSocket) (i : ℕ) (x : DealtSocket) → i < length xs → x ≡ slice_index_or xs i x → (old new : List (List ℕ)) → new ≡ old ++ name_of x.fact.now.place ∷ [] → old ≡ map path_of (map shown (take i xs)) → new ≡ map path_of (map shown (take (i + 1) xs))
 paths_more xs i x inside at old new is before =
-    let all : map path_of (map shown (take (i + 1) xs)) ≡ map path_of (map shown (take i xs)) ++ x.fact.now.path ∷ [] =
+    let all : map path_of (map shown (take (i + 1) xs)) ≡ map path_of (map shown (take i xs)) ++ name_of x.fact.now.place ∷ [] =
     ap (map path_of) (one_more shown xs i x inside at) ∙ map_push path_of (map shown (take i xs)) (shown x) in
-    is ∙ ap (λ (ps : List (List ℕ)). ps ++ x.fact.now.path ∷ []) before ∙ sym all
+    is ∙ ap (λ (ps : List (List ℕ)). ps ++ name_of x.fact.now.place ∷ []) before ∙ sym all

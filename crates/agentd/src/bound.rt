@@ -4,14 +4,14 @@ ghost use Rattle.std.specs.Prelude.{◌≡◌, IfOk, string_bytes};
 
 use crate::doors::{Door, Doors, SeatDoors, discard_all};
 use std::alloc::Global;
-use std::fs::Files;
+use std::fs::{File, Files};
 use std::mem;
-use std::net::Net;
+use std::net::{Net, SocketAddr, TcpListener, TcpStream};
 use std::string::String;
 use std::sync::Arc;
 use wl_edge_real::{
-    BindFault, Guard, MAX_OPEN_LINKS, OpenLinks, PathListener, RealBell, Replacements, Unnamed,
-    bind_unnamed,
+    BindFault, Guard, LoopbackListener, MAX_OPEN_LINKS, OpenLinks, PathListener, RealBell,
+    Replacements, Unnamed, bind_loopback, bind_unnamed,
 };
 use wl_octets::Memory;
 
@@ -22,8 +22,8 @@ pub(crate) struct Bound {
     links: Arc<OpenLinks>,
     /// Files that have no names yet.
     unnamed: Vec<Unnamed>,
-    /// The doors of the seat that is being made, where its files are to stand.
-    doors: Vec<Door>,
+    /// The doors of the seat that is being made, in the order of its sockets. A port has none.
+    doors: Vec<Option<Door>>,
     /// Those of the seats that were made.
     seats: Vec<SeatDoors>,
     pages: Option<Door>,
@@ -68,8 +68,26 @@ impl Bound {
         let (socket, unnamed) = bind_unnamed(rt, alloc, path, guard, self.unnamed.as_slice())?;
         // There is room for both.
         let _ = self.unnamed.push(unnamed);
-        let _ = self.doors.push(Door::new(text, guard, socket.file));
+        let _ = self.doors.push(Some(Door::new(text, guard, socket.file)));
         Ok(socket)
+    }
+
+    /// Binds the port of this address, which has no door.
+    pub(crate) fn bind_port<
+        R: Files<File = File> + Net<Listener = TcpListener, Stream = TcpStream>,
+    >(
+        &mut self,
+        rt: &R,
+        alloc: Global,
+        address: SocketAddr,
+    ) -> Result<LoopbackListener, BindFault> {
+        if self.doors.reserve(1).is_err() {
+            return Err(BindFault::Memory);
+        }
+        let port = bind_loopback(rt, alloc, address)?;
+        // There is room for it.
+        let _ = self.doors.push(None);
+        Ok(port)
     }
 
     /// Ends a seat, which this bell wakes, and whose listener takes these replacements.

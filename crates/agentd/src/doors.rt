@@ -101,10 +101,10 @@ impl Door {
     }
 }
 
-/// The doors of a seat, in the order in which its listener has their sockets.
+/// The doors of a seat, in the order in which its listener has their sockets. A port has none.
 #[derive(Drop)]
 pub(crate) struct SeatDoors {
-    list: Vec<Door>,
+    list: Vec<Option<Door>>,
     /// Where sockets are put that were bound anew.
     replacements: Arc<Replacements>,
     bell: Arc<RealBell>,
@@ -113,7 +113,7 @@ pub(crate) struct SeatDoors {
 impl SeatDoors {
     /// These doors, of the listener that takes these replacements, and whose seat this bell wakes.
     pub(crate) fn new(
-        list: Vec<Door>,
+        list: Vec<Option<Door>>,
         replacements: Arc<Replacements>,
         bell: Arc<RealBell>,
     ) -> SeatDoors {
@@ -140,13 +140,15 @@ impl SeatDoors {
     /// Binds each socket anew whose file is gone, or another's.
     fn mend<R: Files + Net>(&self, rt: &R, alloc: Global, log: &Log) {
         for (at, door) in (0_u32..).zip(self.list.iter()) {
-            self.mend_one(rt, alloc, log, at, door);
+            if let Some(door) = door {
+                self.mend_one(rt, alloc, log, at, door);
+            }
         }
     }
 
     /// Removes the files that are still the agent's own.
     fn remove_files(&self, rt: &impl Files) {
-        for door in self.list.iter() {
+        for door in self.list.iter().flatten() {
             door.remove(rt);
         }
     }
@@ -195,6 +197,28 @@ fn is_socket(rt: &impl Files, path: &str) -> bool {
     }
 }
 
+/// Whether memory ran out.
+fn fault_of(fault: BindFault) -> EdgeFault {
+    match fault {
+        BindFault::Memory => EdgeFault::Memory,
+        _ => EdgeFault::Failed,
+    }
+}
+
+/// Says that nobody listens at the port of this name, and gives whether memory ran out.
+pub(crate) fn say_unbound_port(
+    alloc: Global,
+    log: &Log,
+    name: &str,
+    fault: BindFault,
+) -> EdgeFault {
+    let Ok(bytes) = Octets::from_slice(alloc, name.as_bytes()) else {
+        return EdgeFault::Memory;
+    };
+    say_unbound(log, alloc, &bytes, fault, false);
+    fault_of(fault)
+}
+
 /// Says that nobody listens at this path, and gives whether memory ran out.
 pub(crate) fn say_unbound_at(
     rt: &impl Files,
@@ -207,10 +231,7 @@ pub(crate) fn say_unbound_at(
         return EdgeFault::Memory;
     };
     say_unbound(log, alloc, &bytes, fault, is_socket(rt, path));
-    match fault {
-        BindFault::Memory => EdgeFault::Memory,
-        _ => EdgeFault::Failed,
-    }
+    fault_of(fault)
 }
 
 /// Has peers find this socket. The log says why they can't.

@@ -36,7 +36,7 @@ pub(crate) fn make_outlook(
     let mut counters = Counters::start(alloc);
     let mut callers = Callers::start(alloc);
     for socket in config.sockets.as_slice() {
-        counters.add_socket(alloc, &socket.path)?;
+        counters.add_socket(alloc, socket.place.name())?;
         callers.add_socket(socket.selectors.copy(alloc)?)?;
     }
     Arc::new(alloc, Outlook::start(alloc, log, counters, callers)).map_err(|_| Memory)

@@ -19,9 +19,9 @@ use event_log::PullCause;
 use log_output::Log;
 use page_server::serve_pages;
 use std::alloc::Global;
-use std::fs::Files;
+use std::fs::{File, Files};
 use std::mem;
-use std::net::Net;
+use std::net::{Net, TcpListener, TcpStream};
 use std::rt::Clock;
 use std::sync::atomic::AtomicBool;
 use std::sync::{Arc, Wait};
@@ -220,8 +220,9 @@ fn make_gate<R: Net + Files + Clock + Clone + Drop>(
     ))
 }
 
-/// Serves the pages, where the configuration names a socket for them, and gives what was bound. The log says why that can't be bound.
-fn start_pages<R: Net + Files, W: Threads>(
+/// Serves the pages, where the configuration has a place for them, and gives what was bound. The log says why that can't be bound. Only
+/// readers at a path can stop the agent: its file says who they are.
+fn start_pages<R: Net<Listener = TcpListener, Stream = TcpStream> + Files<File = File>, W: Threads>(
     threads: &W,
     rt: &R,
     alloc: Global,
@@ -230,18 +231,18 @@ fn start_pages<R: Net + Files, W: Threads>(
     stop: &Arc<Stop>,
 ) -> Result<Bound, EdgeFault> {
     let mut bound = Bound::start(alloc)?;
-    let Some(path) = &config.metrics else {
+    let Some(place) = &config.metrics else {
         return Ok(bound);
     };
-    let (listener, door) = listen_for_readers(rt, alloc, path, outlook.log())?;
-    bound.keep_pages(door);
-    serve_pages(
-        threads,
-        alloc,
-        listener,
-        one_more(outlook)?,
-        Some(one_more(stop)?),
-    )?;
+    let (listener, door) = listen_for_readers(rt, alloc, place, outlook.log())?;
+    let stop = match door {
+        Some(door) => {
+            bound.keep_pages(door);
+            Some(one_more(stop)?)
+        }
+        None => None,
+    };
+    serve_pages(threads, alloc, listener, one_more(outlook)?, stop)?;
     Ok(bound)
 }
 
@@ -315,7 +316,15 @@ impl<R> RealHost<R> {
     }
 }
 
-impl<R: Net + Files + Clock + Clone + Drop + Send + Sync> Binder for RealHost<R> {
+impl<
+    R: Net<Listener = TcpListener, Stream = TcpStream>
+        + Files<File = File>
+        + Clock
+        + Clone
+        + Drop
+        + Send
+        + Sync,
+> Binder for RealHost<R> {
     type Up = HostUpstream<R>;
 
     type Listen = HostListener;

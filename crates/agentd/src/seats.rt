@@ -1,6 +1,7 @@
 //! Seats of the real host.
 
 ghost use Rattle.std.specs.Prelude.{◌≡◌, ◌<◌, ◌≤◌, ⊤, Some, IfOk, length, map};
+ghost use Rattle.wl_config.specs.SocketPlaces.{name_of};
 ghost use Rattle.wl_dealing.specs.Dealt.{dealt, socket_of};
 ghost use Rattle.wl_serve.specs.Prepared.{IsSeat};
 
@@ -10,8 +11,8 @@ use crate::listening::listen_at_all;
 use crate::owners::{copy_of, one_more};
 use crate::signers::AgentVoucher;
 use std::alloc::Global;
-use std::fs::Files;
-use std::net::Net;
+use std::fs::{File, Files};
+use std::net::{Net, TcpListener, TcpStream};
 use std::rt::Clock;
 use std::sync::Arc;
 use wl_config::{ConnectionLimits, SocketAttestor, SocketFact};
@@ -86,7 +87,10 @@ impl<'a, R> Seats<'a, R> {
     }
 }
 
-impl<'a, R: Net + Files + Clock + Clone + Drop> SeatMaker for Seats<'a, R> {
+impl<
+    'a,
+    R: Net<Listener = TcpListener, Stream = TcpStream> + Files<File = File> + Clock + Clone + Drop,
+> SeatMaker for Seats<'a, R> {
     type Seat = RealSeat<R>;
 
     type Ring = SharedBell;
@@ -106,8 +110,8 @@ impl<'a, R: Net + Files + Clock + Clone + Drop> SeatMaker for Seats<'a, R> {
         // its callers come over these sockets alone, each of which has its number and its selectors
         ensures sockets { IfOk result (λ r. ⟦<HostListener as Listener>⟧.sockets r.0.listener
             ≡ Some (map socket_of (dealt seats seat sockets.now))) }
-        // the listener is the one at these sockets' own paths, in their order
-        ensures paths { IfOk result (λ r. ⟦<HostListener as BoundAt>⟧.paths r.0.listener ≡ map (λ s. s.1.path) (dealt seats seat sockets.now)) }
+        // the listener is the one at these sockets' own paths and addresses, in their order
+        ensures paths { IfOk result (λ r. ⟦<HostListener as BoundAt>⟧.paths r.0.listener ≡ map (λ s. name_of s.1.place) (dealt seats seat sockets.now)) }
     {
         let rt = self.rt;
         let outlook = self.outlook;

@@ -1,5 +1,6 @@
 mod Says
 mod NoQuestionMarks
 mod NamedFaults
+mod Steps
 mod NamedDocuments
 mod NamedConfigs

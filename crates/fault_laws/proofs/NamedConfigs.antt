@@ -20,94 +20,53 @@ use Rattle.wl_config.specs.declared.fault.ConfigFault.TheVariants as fault
 use Rattle.wl_config.specs.declared.limits.TheConstants.{CONFIG_LIMIT, MAX_SOCKETS, MAX_SOCKET_ITEMS, MAX_POLL_SECONDS, DEFAULT_POLL_SECONDS, MAX_SIGNERS, DEFAULT_SIGNERS, MAX_THREADS, DEFAULT_THREADS, MAX_LIMIT_SECONDS, DEFAULT_STALL_SECONDS, DEFAULT_OPENING_SECONDS, MIN_MEMORY_MIB, MAX_MEMORY_MIB, DEFAULT_MEMORY_MIB, MAX_SOCKET_SELECTORS, MAX_CONNECTIONS, DEFAULT_CONNECTIONS, DEFAULT_MODE, MAX_ID}
 use Rattle.wl_config.specs.Places.{at_socket}
 use Rattle.wl_config.specs.Checks.{no_selector_fault}
-use Rattle.wl_config.specs.Members.{number_within, number_or, path_at, path_of, list_at, list_of}
+use Rattle.wl_config.specs.Members.{number_within, number_or, path_at, list_at, list_of}
 use Rattle.wl_config.specs.Guards.{mode_of, id_at, id_of, mode_at, mode_in, guard_of, no_value, absent, no_guard_of}
 use Rattle.wl_config.specs.Uids.{range_of, numbers_of, range_at, ranges_at, room_for, uids_of}
-use Rattle.wl_config.specs.Files.{marks_of, own_file_of, uid_files_of, paths_for, are_new, files_of}
+use Rattle.wl_config.specs.Loopbacks.{loopback_of}
+use Rattle.wl_config.specs.Files.{marks_of, own_file_of, uid_files_of, paths_for, no_uid_limit_of, files_of}
+use Rattle.wl_config.specs.Endpoints.{loopback_place_of, tcp_endpoint_of, endpoints_by, are_new, naming_field, endpoints_of}
 use Rattle.wl_config.specs.Sockets.{says_workers, connections_of, selector_of, selector_list_of, texts_of, some_plain, socket_of, sockets_of}
-use Rattle.wl_config.specs.Configs.{Configuration, version_of, source_by, source_of, signer_of, suppliers_of, poll_seconds_of, signers_of, threads_of, stall_seconds_of, opening_seconds_of, memory_mib_of, limits_of, level_of, level_at, log_of, root_path_at, metrics_of, manner_of, config_sockets_of, config_of, configuration_of}
+use Rattle.wl_config.specs.Configs.{Configuration, version_of, source_by, source_of, signer_of, suppliers_of, poll_seconds_of, signers_of, threads_of, stall_seconds_of, opening_seconds_of, memory_mib_of, limits_of, level_of, level_at, log_of, metrics_by, metrics_at, metrics_of, manner_of, config_sockets_of, config_of, configuration_of}
 use Rattle.fault_lines.specs.Names.{config_place, config_member, socket_member}
 use Rattle.fault_lines.specs.Lines.{AreBounded}
 use Rattle.fault_laws.specs.Lines.{config_numbers}
 use Rattle.fault_laws.specs.Sentences.{IsNamed, config_says}
+use Rattle.fault_laws.proofs.Steps.{FailsBy, next, either, needed, maybe, each, member, object, text, number, array}
 use Rattle.fault_laws.proofs.NoQuestionMarks.{item_named}
 use Rattle.fault_laws.proofs.NamedFaults.{InConfig, ConfigurationFault, config_named}
 
 abbrev Fails : {A : Type 0} → Result A ConfigFault → Type 0
-Fails (Ok x) = ⊤
-Fails (Err e) = ConfigurationFault e
+Fails r = FailsBy ConfigurationFault r
 
--- ---- steps
-
-next : {A B : Type 0} (r : Result A ConfigFault) (f : A → Result B ConfigFault) → Fails r → ((x : A) → Fails (f x)) → Fails (r >>= f)
-next (Ok x) f here there = there x
-next (Err e) f here there = here
-
-either : {A : Type 0} (b : Bool) (x y : Result A ConfigFault) → Fails x → Fails y → Fails (if b then x else y)
-either true x y first second = first
-either false x y first second = second
-
-needed : {A : Type 0} (e : ConfigFault) (o : Option A) → ConfigurationFault e → Fails (or_fault e o)
-needed e None sited = sited
-needed e (Some x) sited = tt
-
-maybe : {A : Type 0} (read : Data → Result A ConfigFault) (x : A) (o : Option Data) → ((d : Data) → Fails (read d)) → Fails (optional read x o)
-maybe read x None each = tt
-maybe read x (Some d) each = each d
-
-each : {S X : Type 0} (read : ℕ → S → Data → Result X ConfigFault) (add : S → X → S) (i : ℕ) (done : S) (ds : List Data) → ((i : ℕ) (s : S) (d : Data) → Fails (read i s d)) → Fails (each_from read add i done ds)
-unfolding each_from
-each read add i done [] all = tt
-each read add i done (d ∷ ds) all = next (read i done d) (λ x. each_from read add (i + 1) (add done x) ds) (all i done d) (λ x. each read add (i + 1) (add done x) ds all)
+-- ---- a member at a place
 
 selector_checked : (p : Place) (text : List ℕ) (o : Option SelectorFault) → InConfig p → Fails (no_selector_fault p text o)
 selector_checked p text None sited = tt
 selector_checked p text (Some e) sited = sited
 
--- ---- a member at a place
-
 module _ (p : Place) (sited : InConfig p) where
-  member : (name : List ℕ) (d : Data) → Fails (required (fault.Missing p) name d)
-  unfolding required
-  member name d = needed (fault.Missing p) (get name d) sited
-
-  object : (d : Data) → Fails (object_at (fault.Kind p) d)
-  unfolding object_at
-  object d = next (or_fault (fault.Kind p) (as_object d)) (λ _. Ok tt) (needed (fault.Kind p) (as_object d) sited) (λ _. tt)
-
-  number : (d : Data) → Fails (number_at (fault.Kind p) d)
-  unfolding number_at
-  number d = needed (fault.Kind p) (option_and_then as_u64 (as_number d)) sited
-
   number_maybe : (x m n : ℕ) (name : List ℕ) (d : Data) → Fails (number_or x m n p name d)
   unfolding number_or number_within
   number_maybe x m n name d = maybe (number_within m n p) x (get name d)
-      (λ v. next (number_at (fault.Kind p) v) _ (number v) (λ k. either (nat_lt k m || nat_lt n k) (Err (fault.Kind p)) (Ok k) sited tt))
+      (λ v. next (number_at (fault.Kind p) v) _ (number (fault.Kind p) sited v) (λ k. either (nat_lt k m || nat_lt n k) (Err (fault.Kind p)) (Ok k) sited tt))
 
   path : (d : Data) → Fails (path_at p d)
   unfolding path_at text_at
-  path d = next (text_at (fault.Kind p) d) _ (needed (fault.Kind p) (as_str d) sited) (λ t. either (length t == 0) (Err (fault.EmptyText p)) (Ok t) sited tt)
-
-  path_member : (name : List ℕ) (d : Data) → Fails (path_of p name d)
-  unfolding path_of
-  path_member name d = next (required (fault.Missing p) name d) (path_at p) (member name d) path
-
-  array : (d : Data) → Fails (array_at (fault.Kind p) d)
-  unfolding array_at
-  array d = next (or_fault (fault.Kind p) (as_array d)) (λ items. Ok (list_items items)) (needed (fault.Kind p) (as_array d) sited) (λ items. tt)
+  path d = next (text_at (fault.Kind p) d) _ (text (fault.Kind p) sited d) (λ t. either (length t == 0) (Err (fault.EmptyText p)) (Ok t) sited tt)
 
   list : (n : ℕ) (d : Data) → Fails (list_at n p d)
   unfolding list_at
-  list n d = next (array_at (fault.Kind p) d) _ (array d)
+  list n d = next (array_at (fault.Kind p) d) _ (array (fault.Kind p) sited d)
       (λ items. either (length items == 0) (Err (fault.Kind p)) _ sited (either (nat_lt n (length items)) (Err (fault.TooMany p (length items))) (Ok items) sited tt))
 
   list_member : (n : ℕ) (name : List ℕ) (d : Data) → Fails (list_of n p name d)
   unfolding list_of
-  list_member n name d = next (required (fault.Missing p) name d) (list_at n p) (member name d) (list n)
+  list_member n name d = next (required (fault.Missing p) name d) (list_at n p) (member (fault.Missing p) sited name d) (list n)
 
   selector : (k : ℕ) (d : Data) → Fails (selector_of p k d)
   unfolding selector_of text_at config_place
-  selector k d = next (text_at (fault.Kind (item_at p k)) d) _ (needed (fault.Kind (item_at p k)) (as_str d) sited) (λ t. selector_checked (item_at p k) t (selector_fault t) sited)
+  selector k d = next (text_at (fault.Kind (item_at p k)) d) _ (text (fault.Kind (item_at p k)) sited d) (λ t. selector_checked (item_at p k) t (selector_fault t) sited)
 
   selector_list : (ds : List Data) → Fails (selector_list_of p ds)
   unfolding selector_list_of
@@ -120,18 +79,14 @@ module _ (p : Place) (sited : InConfig p) where
       (maybe (λ v. list_at MAX_SOCKET_SELECTORS p v >>= selector_list_of p) [] (get (codes "selectors") d)
       (λ v. next (list_at MAX_SOCKET_SELECTORS p v) (selector_list_of p) (list MAX_SOCKET_SELECTORS v) selector_list))
 
-  text : (d : Data) → Fails (text_at (fault.Kind p) d)
-  unfolding text_at
-  text d = needed (fault.Kind p) (as_str d) sited
-
   id_maybe : (name : List ℕ) (d : Data) → Fails (id_of p name d)
   unfolding id_of id_at
   id_maybe name d = maybe (id_at p) None (get name d)
-      (λ v. next (number_at (fault.Kind p) v) _ (number v) (λ n. either (nat_lt MAX_ID n) (Err (fault.Kind p)) (Ok (Some n)) sited tt))
+      (λ v. next (number_at (fault.Kind p) v) _ (number (fault.Kind p) sited v) (λ n. either (nat_lt MAX_ID n) (Err (fault.Kind p)) (Ok (Some n)) sited tt))
 
   mode : (d : Data) → Fails (mode_at p d)
   unfolding mode_at
-  mode d = next (text_at (fault.Kind p) d) _ (text d) (λ t. needed (fault.Kind p) (mode_of t) sited)
+  mode d = next (text_at (fault.Kind p) d) _ (text (fault.Kind p) sited d) (λ t. needed (fault.Kind p) (mode_of t) sited)
 
   not_there : (name : List ℕ) (d : Data) → Fails (absent p name d)
   unfolding absent
@@ -147,7 +102,7 @@ module _ (p : Place) (sited : InConfig p) where
 
   range : (k : ℕ) (d : Data) → Fails (range_at p k d)
   unfolding range_at text_at config_place
-  range k d = next (text_at (fault.Kind (item_at p k)) d) _ (needed (fault.Kind (item_at p k)) (as_str d) sited) (λ t. needed (fault.Kind (item_at p k)) (range_of t) sited)
+  range k d = next (text_at (fault.Kind (item_at p k)) d) _ (text (fault.Kind (item_at p k)) sited d) (λ t. needed (fault.Kind (item_at p k)) (range_of t) sited)
 
   ranges : (ds : List Data) → Fails (ranges_at p ds)
   unfolding ranges_at
@@ -199,12 +154,45 @@ for_path i count path [] d = own_file i count path d
 for_path i count path (at ∷ []) d = uid_files i count path at d
 for_path i count path (at ∷ more ∷ rest) d = socket i 1 refl
 
-files : (i : ℕ) (before : List SocketFact) (d : Data) → Fails (files_of i before d)
-unfolding files_of socket_member
-files i before d = next (object_at (fault.Kind (at_socket i 0)) d) _ (object (at_socket i 0) (socket i 0 refl) d)
-    (λ _. next (path_of (at_socket i 1) (codes "path") d) _ (path_member (at_socket i 1) (socket i 1 refl) (codes "path") d)
-    (λ path. next (paths_for i (length before) path (marks_of path) d) _ (for_path i (length before) path (marks_of path) d)
-    (λ fs. either (are_new before fs) (Ok fs) (Err (fault.Duplicate (at_socket i 1))) tt (socket i 1 refl))))
+files : (i count : ℕ) (path_member d : Data) → Fails (files_of i count path_member d)
+unfolding files_of no_uid_limit_of socket_member
+files i count path_member d = next (path_at (at_socket i 1) path_member) _ (path (at_socket i 1) (socket i 1 refl) path_member)
+    (λ text. next (no_uid_limit_of i d) _ (not_there (at_socket i 10) (socket i 10 refl) (codes "connections_per_uid") d)
+    (λ _. for_path i count text (marks_of text) d))
+
+-- ---- endpoints
+
+loopback_place : (i : ℕ) (tcp d : Data) → Fails (loopback_place_of i tcp d)
+unfolding loopback_place_of socket_member
+loopback_place i tcp d = next (text_at (fault.Kind (at_socket i 9)) tcp) _ (text (fault.Kind (at_socket i 9)) (socket i 9 refl) tcp)
+    (λ t. next (or_fault (fault.Kind (at_socket i 9)) (loopback_of t)) _ (needed (fault.Kind (at_socket i 9)) (loopback_of t) (socket i 9 refl))
+    (λ a. next (no_guard_of i d) _ (no_guard i d)
+    (λ _. next (absent (at_socket i 7) (codes "uids") d) _ (not_there (at_socket i 7) (socket i 7 refl) (codes "uids") d)
+    (λ _. next (number_or DEFAULT_CONNECTIONS 1 MAX_CONNECTIONS (at_socket i 10) (codes "connections_per_uid") d) _
+    (number_maybe (at_socket i 10) (socket i 10 refl) DEFAULT_CONNECTIONS 1 MAX_CONNECTIONS (codes "connections_per_uid") d) (λ n. tt)))))
+
+tcp_endpoint : (i count : ℕ) (tcp d : Data) → Fails (tcp_endpoint_of i count tcp d)
+unfolding tcp_endpoint_of config_member
+tcp_endpoint i count tcp d = next (loopback_place_of i tcp d) _ (loopback_place i tcp d)
+    (λ place. next (room_for (at_top 5) count 1) _ (room (at_top 5) (top 5 refl) count 1) (λ _. tt))
+
+by_member : (i count : ℕ) (path_member tcp : Option Data) (d : Data) → Fails (endpoints_by i count path_member tcp d)
+unfolding socket_member
+by_member i count (Some path_member) None d = files i count path_member d
+by_member i count None (Some tcp) d = tcp_endpoint i count tcp d
+by_member i count None None d = socket i 1 refl
+by_member i count (Some path_member) (Some tcp) d = socket i 1 refl
+
+naming : (i : ℕ) (tcp : Option Data) → InConfig (at_socket i (naming_field tcp))
+unfolding socket_member
+naming i None = socket i 1 refl
+naming i (Some tcp) = socket i 9 refl
+
+endpoints : (i : ℕ) (before : List SocketFact) (d : Data) → Fails (endpoints_of i before d)
+unfolding endpoints_of socket_member
+endpoints i before d = next (object_at (fault.Kind (at_socket i 0)) d) _ (object (fault.Kind (at_socket i 0)) (socket i 0 refl) d)
+    (λ _. next (endpoints_by i (length before) (get (codes "path") d) (get (codes "tcp") d) d) _ (by_member i (length before) (get (codes "path") d) (get (codes "tcp") d) d)
+    (λ ends. either (are_new before ends) (Ok ends) (Err (fault.Duplicate (at_socket i (naming_field (get (codes "tcp") d))))) tt (naming i (get (codes "tcp") d))))
 
 connections : (i : ℕ) (d : Data) → Fails (connections_of i d)
 unfolding connections_of socket_member
@@ -214,16 +202,16 @@ connections i d = either (says_workers d) _ _
 
 one_socket : (i : ℕ) (before : List SocketFact) (d : Data) → Fails (socket_of i before d)
 unfolding socket_of socket_member
-one_socket i before d = next (files_of i before d) _ (files i before d)
-    (λ fs. next (connections_of i d) _ (connections i d)
-    (λ n. next (texts_of (some_plain fs) (at_socket i 3) d) _ (texts (at_socket i 3) (socket i 3 refl) (some_plain fs) d) (λ ts. tt)))
+one_socket i before d = next (endpoints_of i before d) _ (endpoints i before d)
+    (λ ends. next (connections_of i d) _ (connections i d)
+    (λ n. next (texts_of (some_plain ends) (at_socket i 3) d) _ (texts (at_socket i 3) (socket i 3 refl) (some_plain ends) d) (λ ts. tt)))
 
 -- ---- the top
 
 version : (d : Data) → Fails (version_of d)
 unfolding version_of config_member
-version d = next (required (fault.Missing (at_top 1)) (codes "version") d) _ (member (at_top 1) (top 1 refl) (codes "version") d)
-    (λ v. next (number_at (fault.Kind (at_top 1)) v) _ (number (at_top 1) (top 1 refl) v) (λ n. either (n == 1) (Ok n) (Err fault.Version) tt tt))
+version d = next (required (fault.Missing (at_top 1)) (codes "version") d) _ (member (fault.Missing (at_top 1)) (top 1 refl) (codes "version") d)
+    (λ v. next (number_at (fault.Kind (at_top 1)) v) _ (number (fault.Kind (at_top 1)) (top 1 refl) v) (λ n. either (n == 1) (Ok n) (Err fault.Version) tt tt))
 
 source : (socket file : Option Data) → Fails (source_by socket file)
 unfolding config_member
@@ -239,7 +227,7 @@ signer d = maybe (λ member. path_at (at_top 3) member >>= λ path. Ok (Some pat
 
 suppliers : (d : Data) → Fails (suppliers_of d)
 unfolding suppliers_of source_of config_member
-suppliers d = next (object_at (fault.Kind (at_top 0)) d) _ (object (at_top 0) (top 0 refl) d)
+suppliers d = next (object_at (fault.Kind (at_top 0)) d) _ (object (fault.Kind (at_top 0)) (top 0 refl) d)
     (λ _. next (version_of d) _ (version d)
     (λ v. next (source_of d) _ (source (get (codes "upstream") d) (get (codes "document") d))
     (λ s. next (signer_of d) _ (signer d) (λ s. tt))))
@@ -255,16 +243,14 @@ signers d = number_maybe (at_top 6) (top 6 refl) DEFAULT_SIGNERS 1 MAX_SIGNERS (
 level : (d : Data) → Fails (log_of d)
 unfolding log_of level_at config_member
 level d = maybe level_at log.Info (get (codes "log") d)
-    (λ v. next (text_at (fault.Kind (at_top 7)) v) _ (text (at_top 7) (top 7 refl) v) (λ t. needed (fault.Kind (at_top 7)) (level_of t) (top 7 refl)))
-
-root_path : (p : Place) (sited : InConfig p) (d : Data) → Fails (root_path_at p d)
-unfolding root_path_at
-root_path p sited d = next (path_at p d) _ (path p sited d) (λ t. either (starts_with nat_eq t (codes "/")) (Ok t) (Err (fault.Kind p)) tt sited)
+    (λ v. next (text_at (fault.Kind (at_top 7)) v) _ (text (fault.Kind (at_top 7)) (top 7 refl) v) (λ t. needed (fault.Kind (at_top 7)) (level_of t) (top 7 refl)))
 
 metrics : (d : Data) → Fails (metrics_of d)
-unfolding metrics_of config_member
-metrics d = maybe (λ member. root_path_at (at_top 8) member >>= λ path. Ok (Some path)) None (get (codes "metrics") d)
-    (λ v. next (root_path_at (at_top 8) v) (λ path. Ok (Some path)) (root_path (at_top 8) (top 8 refl) v) (λ path. tt))
+unfolding metrics_of metrics_at config_member
+metrics d = maybe (λ member. metrics_at member >>= λ found. Ok (Some found)) None (get (codes "metrics") d)
+    (λ v. next (metrics_at v) (λ found. Ok (Some found))
+    (next (path_at (at_top 8) v) _ (path (at_top 8) (top 8 refl) v) (λ t. needed (fault.Kind (at_top 8)) (metrics_by t) (top 8 refl)))
+    (λ found. tt))
 
 threads : (d : Data) → Fails (threads_of d)
 unfolding threads_of config_member

@@ -32,35 +32,14 @@ use Rattle.fault_lines.specs.Names.{document_place, document_member, bundle_memb
 use Rattle.fault_lines.specs.Lines.{AreBounded}
 use Rattle.wl_replay.specs.Faults.{fault_numbers}
 use Rattle.fault_laws.specs.Sentences.{IsNamed, document_says}
+use Rattle.fault_laws.proofs.Steps.{FailsBy, next, either, needed, maybe, each, member, object, text, number, array}
 use Rattle.fault_laws.proofs.NoQuestionMarks.{item_named}
 use Rattle.fault_laws.proofs.NamedFaults.{InDocument, DocumentFault, document_named}
 
 abbrev Fails : {A : Type 0} → Result A DocFault → Type 0
-Fails (Ok x) = ⊤
-Fails (Err e) = DocumentFault e
+Fails r = FailsBy DocumentFault r
 
--- ---- steps
-
-next : {A B : Type 0} (r : Result A DocFault) (f : A → Result B DocFault) → Fails r → ((x : A) → Fails (f x)) → Fails (r >>= f)
-next (Ok x) f here there = there x
-next (Err e) f here there = here
-
-either : {A : Type 0} (b : Bool) (x y : Result A DocFault) → Fails x → Fails y → Fails (if b then x else y)
-either true x y first second = first
-either false x y first second = second
-
-needed : {A : Type 0} (e : DocFault) (o : Option A) → DocumentFault e → Fails (or_fault e o)
-needed e None sited = sited
-needed e (Some x) sited = tt
-
-maybe : {A : Type 0} (read : Data → Result A DocFault) (x : A) (o : Option Data) → ((d : Data) → Fails (read d)) → Fails (optional read x o)
-maybe read x None each = tt
-maybe read x (Some d) each = each d
-
-each : {S X : Type 0} (read : ℕ → S → Data → Result X DocFault) (add : S → X → S) (i : ℕ) (done : S) (ds : List Data) → ((i : ℕ) (s : S) (d : Data) → Fails (read i s d)) → Fails (each_from read add i done ds)
-unfolding each_from
-each read add i done [] all = tt
-each read add i done (d ∷ ds) all = next (read i done d) (λ x. each_from read add (i + 1) (add done x) ds) (all i done d) (λ x. each read add (i + 1) (add done x) ds all)
+-- ---- a text at a place
 
 id_checked : (p : Place) (text : List ℕ) (o : Option IdFault) → InDocument p → Fails (no_id_fault p text o)
 id_checked p text None sited = tt
@@ -77,45 +56,25 @@ bytes_checked p (Err e) sited = sited
 -- ---- a member at a place
 
 module _ (p : Place) (sited : InDocument p) where
-  member : (name : List ℕ) (d : Data) → Fails (required (fault.Missing p) name d)
-  unfolding required
-  member name d = needed (fault.Missing p) (get name d) sited
-
-  object : (d : Data) → Fails (object_at (fault.Kind p) d)
-  unfolding object_at
-  object d = next (or_fault (fault.Kind p) (as_object d)) (λ _. Ok tt) (needed (fault.Kind p) (as_object d) sited) (λ _. tt)
-
-  text : (d : Data) → Fails (text_at (fault.Kind p) d)
-  unfolding text_at
-  text d = needed (fault.Kind p) (as_str d) sited
-
   text_member : (name : List ℕ) (d : Data) → Fails (text_of p name d)
   unfolding text_of
-  text_member name d = next (required (fault.Missing p) name d) (text_at (fault.Kind p)) (member name d) text
-
-  number : (d : Data) → Fails (number_at (fault.Kind p) d)
-  unfolding number_at
-  number d = needed (fault.Kind p) (option_and_then as_u64 (as_number d)) sited
+  text_member name d = next (required (fault.Missing p) name d) (text_at (fault.Kind p)) (member (fault.Missing p) sited name d) (text (fault.Kind p) sited)
 
   number_member : (name : List ℕ) (d : Data) → Fails (number_of p name d)
   unfolding number_of
-  number_member name d = next (required (fault.Missing p) name d) (number_at (fault.Kind p)) (member name d) number
-
-  array : (d : Data) → Fails (array_at (fault.Kind p) d)
-  unfolding array_at
-  array d = next (or_fault (fault.Kind p) (as_array d)) (λ items. Ok (list_items items)) (needed (fault.Kind p) (as_array d) sited) (λ items. tt)
+  number_member name d = next (required (fault.Missing p) name d) (number_at (fault.Kind p)) (member (fault.Missing p) sited name d) (number (fault.Kind p) sited)
 
   list : (n : ℕ) (d : Data) → Fails (list_at n p d)
   unfolding list_at
-  list n d = next (array_at (fault.Kind p) d) _ (array d) (λ items. either (nat_lt n (length items)) (Err (fault.TooMany p (length items))) (Ok items) sited tt)
+  list n d = next (array_at (fault.Kind p) d) _ (array (fault.Kind p) sited d) (λ items. either (nat_lt n (length items)) (Err (fault.TooMany p (length items))) (Ok items) sited tt)
 
   list_member : (n : ℕ) (name : List ℕ) (d : Data) → Fails (list_of n p name d)
   unfolding list_of
-  list_member n name d = next (required (fault.Missing p) name d) (list_at n p) (member name d) (list n)
+  list_member n name d = next (required (fault.Missing p) name d) (list_at n p) (member (fault.Missing p) sited name d) (list n)
 
   number_maybe : (name : List ℕ) (d : Data) → Fails (number_or_zero p name d)
   unfolding number_or_zero
-  number_maybe name d = maybe (number_at (fault.Kind p)) 0 (get name d) number
+  number_maybe name d = maybe (number_at (fault.Kind p)) 0 (get name d) (number (fault.Kind p) sited)
 
   list_maybe : (n : ℕ) (name : List ℕ) (d : Data) → Fails (list_or_empty n p name d)
   unfolding list_or_empty
@@ -123,11 +82,11 @@ module _ (p : Place) (sited : InDocument p) where
 
   domain : (d : Data) → Fails (domain_at p d)
   unfolding domain_at
-  domain d = next (text_at (fault.Kind p) d) (λ t. no_id_fault p t (domain_fault 0 t)) (text d) (λ t. id_checked p t (domain_fault 0 t) sited)
+  domain d = next (text_at (fault.Kind p) d) (λ t. no_id_fault p t (domain_fault 0 t)) (text (fault.Kind p) sited d) (λ t. id_checked p t (domain_fault 0 t) sited)
 
   domain_member : (name : List ℕ) (d : Data) → Fails (domain_of p name d)
   unfolding domain_of
-  domain_member name d = next (required (fault.Missing p) name d) (domain_at p) (member name d) domain
+  domain_member name d = next (required (fault.Missing p) name d) (domain_at p) (member (fault.Missing p) sited name d) domain
 
   id_member : (own name : List ℕ) (d : Data) → Fails (id_of own p name d)
   unfolding id_of
@@ -140,11 +99,11 @@ module _ (p : Place) (sited : InDocument p) where
 
   base64 : (d : Data) → Fails (base64_at p d)
   unfolding base64_at
-  base64 d = next (text_at (fault.Kind p) d) _ (text d) (λ t. bytes_checked p _ sited)
+  base64 d = next (text_at (fault.Kind p) d) _ (text (fault.Kind p) sited d) (λ t. bytes_checked p _ sited)
 
   base64_member : (name : List ℕ) (d : Data) → Fails (base64_of p name d)
   unfolding base64_of
-  base64_member name d = next (required (fault.Missing p) name d) (base64_at p) (member name d) base64
+  base64_member name d = next (required (fault.Missing p) name d) (base64_at p) (member (fault.Missing p) sited name d) base64
 
   few : (n : ℕ) (bytes : List ℕ) → Fails (at_most n p bytes)
   unfolding at_most
@@ -152,7 +111,7 @@ module _ (p : Place) (sited : InDocument p) where
 
   few_text : (n : ℕ) (d : Data) → Fails (text_within n p d)
   unfolding text_within
-  few_text n d = next (text_at (fault.Kind p) d) (at_most n p) (text d) (few n)
+  few_text n d = next (text_at (fault.Kind p) d) (at_most n p) (text (fault.Kind p) sited d) (few n)
 
   text_maybe : (n : ℕ) (name : List ℕ) (d : Data) → Fails (text_or_empty n p name d)
   unfolding text_or_empty
@@ -162,7 +121,7 @@ module _ (p : Place) (sited : InDocument p) where
 
   selector : (k : ℕ) (d : Data) → Fails (selector_of p k d)
   unfolding selector_of text_at document_place
-  selector k d = next (text_at (fault.Kind (item_at p k)) d) _ (needed (fault.Kind (item_at p k)) (as_str d) sited) (λ t. selector_checked (item_at p k) t (selector_fault t) sited)
+  selector k d = next (text_at (fault.Kind (item_at p k)) d) _ (text (fault.Kind (item_at p k)) sited d) (λ t. selector_checked (item_at p k) t (selector_fault t) sited)
 
   selectors : (d : Data) → Fails (selectors_of p d)
   unfolding selectors_of selector_list_of
@@ -172,11 +131,11 @@ module _ (p : Place) (sited : InDocument p) where
   federated : (ds : List Data) → Fails (federates_of p ds)
   unfolding federates_of federated_of domain_at text_at document_place
   federated ds = each (λ k before d. federated_of p k d) at_end 0 [] ds
-      (λ k before d. next (text_at (fault.Kind (item_at p k)) d) (λ t. no_id_fault (item_at p k) t (domain_fault 0 t)) (needed (fault.Kind (item_at p k)) (as_str d) sited) (λ t. id_checked (item_at p k) t (domain_fault 0 t) sited))
+      (λ k before d. next (text_at (fault.Kind (item_at p k)) d) (λ t. no_id_fault (item_at p k) t (domain_fault 0 t)) (text (fault.Kind (item_at p k)) sited d) (λ t. id_checked (item_at p k) t (domain_fault 0 t) sited))
 
   dns_name : (k : ℕ) (d : Data) → Fails (dns_name_of p k d)
   unfolding dns_name_of text_at document_place
-  dns_name k d = next (text_at (fault.Kind (item_at p k)) d) _ (needed (fault.Kind (item_at p k)) (as_str d) sited)
+  dns_name k d = next (text_at (fault.Kind (item_at p k)) d) _ (text (fault.Kind (item_at p k)) sited d)
       (λ t. either ((length t == 0) || nat_lt MAX_DNS_NAME_LEN (length t)) (Err (fault.Kind (item_at p k))) (Ok t) sited tt)
 
   dns_names : (ds : List Data) → Fails (dns_names_of p ds)
@@ -186,7 +145,7 @@ module _ (p : Place) (sited : InDocument p) where
   ttl : (d : Data) → Fails (ttl_of p d)
   unfolding ttl_of ttl_at
   ttl d = maybe (ttl_at p) DEFAULT_TTL (get (codes "ttl") d)
-      (λ v. next (number_at (fault.Kind p) v) _ (number v) (λ n. either ((n == 0) || nat_lt MAX_TTL n) (Err (fault.Kind p)) (Ok n) sited tt))
+      (λ v. next (number_at (fault.Kind p) v) _ (number (fault.Kind p) sited v) (λ n. either ((n == 0) || nat_lt MAX_TTL n) (Err (fault.Kind p)) (Ok n) sited tt))
 
   hint : (version : ℕ) (d : Data) → Fails (hint_of version p d)
   unfolding hint_of
@@ -218,7 +177,7 @@ svid i field named fits = item_named (codes "svids") (svid_member field) i refl 
 
 bundle_name : (i : ℕ) (d : Data) → Fails (bundle_name_of i d)
 unfolding bundle_name_of bundle_member
-bundle_name i d = next (object_at (fault.Kind (at_bundle i 0)) d) _ (object (at_bundle i 0) (bundle i 0 refl) d) (λ _. domain_member (at_bundle i 1) (bundle i 1 refl) (codes "trust_domain") d)
+bundle_name i d = next (object_at (fault.Kind (at_bundle i 0)) d) _ (object (fault.Kind (at_bundle i 0)) (bundle i 0 refl) d) (λ _. domain_member (at_bundle i 1) (bundle i 1 refl) (codes "trust_domain") d)
 
 bundle_domain : (i : ℕ) (given : List ℕ → Bool) (d : Data) → Fails (bundle_domain_of i given d)
 unfolding bundle_domain_of bundle_member
@@ -249,7 +208,7 @@ extras version i d = next (federates_with_of i d) _ (next (federated_list_of i d
 
 entry_name : (i : ℕ) (given : List ℕ → Bool) (d : Data) → Fails (entry_name_of i given d)
 unfolding entry_name_of entry_member
-entry_name i given d = next (object_at (fault.Kind (at_entry i 0)) d) _ (object (at_entry i 0) (entry i 0 refl) d)
+entry_name i given d = next (object_at (fault.Kind (at_entry i 0)) d) _ (object (fault.Kind (at_entry i 0)) (entry i 0 refl) d)
     (λ _. next (name_of (at_entry i 1) (codes "id") d) _ (name_member (at_entry i 1) (entry i 1 refl) (codes "id") d)
     (λ id. either (given id) (Err (fault.Duplicate (at_entry i 1))) (Ok id) (entry i 1 refl) tt))
 
@@ -268,7 +227,7 @@ entries own version ds = next (read_entries own version ds) _ (each (λ i before
 
 svid_name : (i : ℕ) (given : List ℕ → Bool) (d : Data) → Fails (svid_name_of i given d)
 unfolding svid_name_of svid_member
-svid_name i given d = next (object_at (fault.Kind (at_svid i 0)) d) _ (object (at_svid i 0) (svid i 0 refl) d)
+svid_name i given d = next (object_at (fault.Kind (at_svid i 0)) d) _ (object (fault.Kind (at_svid i 0)) (svid i 0 refl) d)
     (λ _. next (name_of (at_svid i 1) (codes "entry") d) _ (name_member (at_svid i 1) (svid i 1 refl) (codes "entry") d)
     (λ id. either (given id) (Err (fault.Duplicate (at_svid i 1))) (Ok id) (svid i 1 refl) tt))
 
@@ -306,7 +265,7 @@ renew_before d = number_maybe (at_top 6) (top 6 refl) (codes "renew_before") d
 
 members : (own : Option (List ℕ)) (d : Data) → Fails (top_of own d)
 unfolding top_of document_member
-members own d = next (object_at (fault.Kind (at_top 0)) d) _ (object (at_top 0) (top 0 refl) d)
+members own d = next (object_at (fault.Kind (at_top 0)) d) _ (object (fault.Kind (at_top 0)) (top 0 refl) d)
     (λ _. next (version_of d) _ (version d)
     (λ v. next (own_domain_of own d) _ (own_domain own d)
     (λ o. next (lists_of d) _ (lists d)

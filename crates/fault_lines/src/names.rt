@@ -1,6 +1,6 @@
 //! Places in words.
 
-ghost use Rattle.std.specs.Prelude.{◌≡◌, IfOk};
+ghost use Rattle.std.specs.Prelude.{◌≡◌, map, get_or, IfOk};
 ghost use Rattle.fault_lines.specs.Names.{document_member, bundle_member, entry_member, svid_member, config_member, socket_member, item_name, document_place, config_place};
 
 use crate::places::Place;
@@ -8,105 +8,132 @@ use crate::texts::around;
 use std::alloc::Global;
 use wl_octets::{Memory, Octets};
 
+/// The name of the field of this number, from 0, or the other text where it has none.
+fn name_at(names: &[&'static [u8]], field: u64, other: &'static [u8]) -> &'static [u8]
+    ensures { result.now ≡ get_or (map (λ n. n.now) names.now) field other.now }
+{
+    match names.get(field as usize) {
+        Some(name) => name,
+        None => other,
+    }
+}
+
+/// A member of a document.
 #[tactic(auto, unfolding(crate::specs::Names::document_member))]
 fn document_member(field: u64) -> &'static [u8]
     ensures { result.now ≡ document_member field }
 {
-    match field {
-        0 => b"document",
-        1 => b"version",
-        2 => b"trust_domain",
-        3 => b"bundles",
-        4 => b"entries",
-        5 => b"svids",
-        6 => b"renew_before",
-        _ => b"?",
-    }
+    name_at(
+        &[
+            b"document",
+            b"version",
+            b"trust_domain",
+            b"bundles",
+            b"entries",
+            b"svids",
+            b"renew_before",
+        ],
+        field,
+        b"?",
+    )
 }
 
+/// A member of a bundle.
 #[tactic(auto, unfolding(crate::specs::Names::bundle_member))]
 fn bundle_member(field: u64) -> &'static [u8]
     ensures { result.now ≡ bundle_member field }
 {
-    match field {
-        0 => b"",
-        1 => b".trust_domain",
-        2 => b".x509",
-        3 => b".jwks",
-        _ => b".?",
-    }
+    name_at(&[b"", b".trust_domain", b".x509", b".jwks"], field, b".?")
 }
 
+/// A member of an entry.
 #[tactic(auto, unfolding(crate::specs::Names::entry_member))]
 fn entry_member(field: u64) -> &'static [u8]
     ensures { result.now ≡ entry_member field }
 {
-    match field {
-        0 => b"",
-        1 => b".id",
-        2 => b".spiffe_id",
-        3 => b".selectors",
-        4 => b".federates_with",
-        5 => b".dns_names",
-        6 => b".ttl",
-        7 => b".hint",
-        _ => b".?",
-    }
+    name_at(
+        &[
+            b"",
+            b".id",
+            b".spiffe_id",
+            b".selectors",
+            b".federates_with",
+            b".dns_names",
+            b".ttl",
+            b".hint",
+        ],
+        field,
+        b".?",
+    )
 }
 
+/// A member of a signed identity.
 #[tactic(auto, unfolding(crate::specs::Names::svid_member))]
 fn svid_member(field: u64) -> &'static [u8]
     ensures { result.now ≡ svid_member field }
 {
-    match field {
-        0 => b"",
-        1 => b".entry",
-        2 => b".chain",
-        3 => b".key",
-        4 => b".not_before",
-        5 => b".not_after",
-        _ => b".?",
-    }
+    name_at(
+        &[
+            b"",
+            b".entry",
+            b".chain",
+            b".key",
+            b".not_before",
+            b".not_after",
+        ],
+        field,
+        b".?",
+    )
 }
 
+/// A member of a configuration.
 #[tactic(auto, unfolding(crate::specs::Names::config_member))]
 fn config_member(field: u64) -> &'static [u8]
     ensures { result.now ≡ config_member field }
 {
-    match field {
-        0 => b"configuration",
-        1 => b"version",
-        2 => b"upstream or document",
-        3 => b"signer",
-        4 => b"poll_seconds",
-        5 => b"sockets",
-        6 => b"signers",
-        7 => b"log",
-        8 => b"metrics",
-        9 => b"threads",
-        10 => b"stall_seconds",
-        11 => b"opening_seconds",
-        12 => b"memory_mib",
-        _ => b"?",
-    }
+    name_at(
+        &[
+            b"configuration",
+            b"version",
+            b"upstream or document",
+            b"signer",
+            b"poll_seconds",
+            b"sockets",
+            b"signers",
+            b"log",
+            b"metrics",
+            b"threads",
+            b"stall_seconds",
+            b"opening_seconds",
+            b"memory_mib",
+        ],
+        field,
+        b"?",
+    )
 }
 
+/// A member of a socket.
 #[tactic(auto, unfolding(crate::specs::Names::socket_member))]
 fn socket_member(field: u64) -> &'static [u8]
     ensures { result.now ≡ socket_member field }
 {
-    match field {
-        0 => b"",
-        1 => b".path",
-        2 => b".workers",
-        3 => b".selectors",
-        4 => b".owner",
-        5 => b".group",
-        6 => b".mode",
-        7 => b".uids",
-        8 => b".connections",
-        _ => b".?",
-    }
+    name_at(
+        &[
+            b"",
+            b".path or tcp",
+            b".workers",
+            b".selectors",
+            b".owner",
+            b".group",
+            b".mode",
+            b".uids",
+            b".connections",
+            b".tcp",
+            b".connections_per_uid",
+        ],
+        field,
+        b".?",
+    )
 }
 
 /// `NAME[INDEX]` and a member of that item.

@@ -115,7 +115,7 @@ const DOCUMENTS: [Case; 29] = [
     ("fault document 14", "document: memory ran out"),
 ];
 
-const CONFIGS: [Case; 21] = [
+const CONFIGS: [Case; 25] = [
     ("fault config 1", "configuration: is not JSON"),
     ("fault config 2", "version: is not 1"),
     ("fault config 3 0 0 2 0", "upstream or document: is missing"),
@@ -164,7 +164,20 @@ const CONFIGS: [Case; 21] = [
         "fault config 7 4 2 8 0 65600",
         "sockets[2].connections: comes to 65600, more than its limit",
     ),
-    ("fault config 5 4 0 1 0", "sockets[0].path: is empty"),
+    (
+        "fault config 3 4 0 1 0",
+        "sockets[0].path or tcp: is missing",
+    ),
+    (
+        "fault config 4 4 1 9 0",
+        "sockets[1].tcp: is of the wrong kind or out of range",
+    ),
+    (
+        "fault config 4 4 1 10 0",
+        "sockets[1].connections_per_uid: is of the wrong kind or out of range",
+    ),
+    ("fault config 8 4 1 9 0", "sockets[1].tcp: was given before"),
+    ("fault config 5 4 0 1 0", "sockets[0].path or tcp: is empty"),
     (
         "fault config 6 4 0 3 1",
         "sockets[0].selectors[1]: is not a selector",
@@ -175,7 +188,7 @@ const CONFIGS: [Case; 21] = [
     ),
     (
         "fault config 8 4 1 1 0",
-        "sockets[1].path: was given before",
+        "sockets[1].path or tcp: was given before",
     ),
     (
         "fault config 9 1048577",

@@ -3,4 +3,5 @@ mod Walks
 mod Distinct
 pub mod Ranges
 pub mod Marks
+pub mod Parts
 mod OwnSelectors

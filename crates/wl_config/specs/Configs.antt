@@ -1,6 +1,6 @@
 -- A configuration (own rules): the checks in their order over the value that its JSON is (RFC 8259, the last of equal
 -- members); the first that fails is the fault.
-use Rattle.std.specs.Prelude.{◌≡◌, ℕ, ◌<◌, ◌≤◌, ◌==◌, List, length, codes, true, nat_eq, nat_lt, if◌then◌else◌, Option, Some, None, IfSome, Result, Ok, Err}
+use Rattle.std.specs.Prelude.{◌≡◌, ℕ, ◌<◌, ◌≤◌, ◌==◌, List, length, codes, true, nat_eq, nat_lt, if◌then◌else◌, Option, Some, None, IfSome, option_map, Result, Ok, Err}
 use Rattle.std.specs.List.{starts_with}
 use Rattle.std.specs.Str.{bytes_eq}
 use Rattle.serde_json.specs.Data.{Data}
@@ -9,13 +9,15 @@ use Rattle.list_laws.specs.Results.{◌>>=◌}
 use Rattle.json_members.specs.Members.{or_fault, required, optional, object_at, number_at, text_at}
 use Rattle.json_members.specs.Texts.{value_of}
 use Rattle.wl_document.specs.Places.{at_top}
-use Rattle.wl_document.specs.declared.fault.Place.{Place}
 use Rattle.wl_config.specs.Members.{number_or, path_at, list_of}
+use Rattle.wl_config.specs.Loopbacks.{loopback_of, IsLoopbackEnd}
 use Rattle.wl_config.specs.Sockets.{sockets_of, SocketsWithin}
 use Rattle.wl_config.specs.declared.config.ConnectionLimits.{ConnectionLimits}
 use Rattle.wl_config.specs.declared.config.SocketFact.{SocketFact}
 use Rattle.wl_config.specs.declared.config.DocumentSource.{DocumentSource}
 use Rattle.wl_config.specs.declared.config.DocumentSource.TheVariants.{Socket, File}
+use Rattle.wl_config.specs.declared.config.MetricsPlace.{MetricsPlace}
+use Rattle.wl_config.specs.declared.config.MetricsPlace.TheVariants as place
 use Rattle.wl_config.specs.declared.config.LogLevel.{LogLevel}
 use Rattle.wl_config.specs.declared.config.LogLevel.TheVariants as level
 use Rattle.wl_config.specs.declared.fault.ConfigFault.{ConfigFault}
@@ -33,10 +35,15 @@ pub record Configuration : Type 0 where
   pub poll_seconds : ℕ
   pub signers : ℕ
   pub log : LogLevel
-  pub metrics : Option (List ℕ)
+  pub metrics : Option MetricsPlace
   pub threads : ℕ
   pub limits : ConnectionLimits
   pub sockets : List SocketFact
+
+-- a path from the root, or a loopback address with a port
+abbrev pub MetricsWithin : MetricsPlace → Type 0
+MetricsWithin (place.Path path) = starts_with nat_eq path (codes "/") ≡ true
+MetricsWithin (place.Loopback address) = IsLoopbackEnd address
 
 -- the limits of connections are within these
 pub record LimitsWithin (l : ConnectionLimits) : Type 0 where
@@ -55,7 +62,7 @@ pub record Within (c : Configuration) : Type 0 where
   pub few_seconds : c.poll_seconds ≤ MAX_POLL_SECONDS
   pub some_signers : 0 < c.signers
   pub few_signers : c.signers ≤ MAX_SIGNERS
-  pub metrics : IfSome c.metrics (λ path. starts_with nat_eq path (codes "/") ≡ true)
+  pub metrics : IfSome c.metrics MetricsWithin
   pub some_threads : 0 < c.threads
   pub few_threads : c.threads ≤ MAX_THREADS
   pub limits : LimitsWithin c.limits
@@ -120,15 +127,18 @@ level_at d = text_at (Kind (at_top 7)) d >>= λ text. or_fault (Kind (at_top 7))
 unfoldable pub log_of : Data → Result LogLevel ConfigFault
 log_of d = optional level_at level.Info (get (codes "log") d)
 
--- a path from the root
-unfoldable pub root_path_at : Place → Data → Result (List ℕ) ConfigFault
-root_path_at p d = do
-  path ← path_at p d
-  if starts_with nat_eq path (codes "/") then Ok path else Err (Kind p)
+-- a text that begins with `/` is a path, any other has to be a loopback address with a port
+unfoldable pub metrics_by : List ℕ → Option MetricsPlace
+metrics_by text =
+    if starts_with nat_eq text (codes "/") then Some (place.Path text)
+    else option_map place.Loopback (loopback_of text)
 
--- the socket of the agent's figures, which may be left out
-unfoldable pub metrics_of : Data → Result (Option (List ℕ)) ConfigFault
-metrics_of d = optional (λ member. root_path_at (at_top 8) member >>= λ path. Ok (Some path)) None (get (codes "metrics") d)
+unfoldable pub metrics_at : Data → Result MetricsPlace ConfigFault
+metrics_at d = path_at (at_top 8) d >>= λ text. or_fault (Kind (at_top 8)) (metrics_by text)
+
+-- the place of the agent's figures, which may be left out
+unfoldable pub metrics_of : Data → Result (Option MetricsPlace) ConfigFault
+metrics_of d = optional (λ member. metrics_at member >>= λ found. Ok (Some found)) None (get (codes "metrics") d)
 
 -- how many threads serve the sockets: the default, where it is absent
 unfoldable pub threads_of : Data → Result ℕ ConfigFault
@@ -156,7 +166,7 @@ pub record Manner : Type 0 where
   pub poll_seconds : ℕ
   pub signers : ℕ
   pub log : LogLevel
-  pub metrics : Option (List ℕ)
+  pub metrics : Option MetricsPlace
   pub threads : ℕ
   pub limits : ConnectionLimits
 

@@ -24,9 +24,6 @@ path_at p d = do
   text ← text_at (Kind p) d
   if length text == 0 then Err (EmptyText p) else Ok text
 
-unfoldable pub path_of : Place → List ℕ → Data → Result (List ℕ) ConfigFault
-path_of p name d = required (Missing p) name d >>= path_at p
-
 -- an array of 1 to n items
 unfoldable pub list_at : ℕ → Place → Data → Result (List Data) ConfigFault
 list_at n p d = do

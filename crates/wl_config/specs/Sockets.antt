@@ -12,9 +12,10 @@ use Rattle.wl_config.specs.Checks.{no_selector_fault}
 use Rattle.json_members.specs.Arrays.{each_from, at_end}
 use Rattle.json_members.specs.Members.{optional, text_at}
 use Rattle.wl_config.specs.Members.{number_or, list_at, list_of}
-use Rattle.wl_config.specs.Files.{are_distinct, files_of}
+use Rattle.wl_config.specs.SocketPlaces.{name_of, PlaceWithin}
+use Rattle.wl_config.specs.Endpoints.{is_plain, are_distinct, endpoints_of}
 use Rattle.wl_config.specs.declared.config.SocketFact.{SocketFact}
-use Rattle.wl_config.specs.declared.files.SocketFile.{SocketFile}
+use Rattle.wl_config.specs.declared.endpoints.Endpoint.{Endpoint}
 use Rattle.wl_config.specs.declared.fault.ConfigFault.{ConfigFault}
 use Rattle.wl_config.specs.declared.fault.ConfigFault.TheVariants.{Kind}
 use Rattle.wl_config.specs.declared.limits.TheConstants.{MAX_SOCKET_SELECTORS, MAX_CONNECTIONS, DEFAULT_CONNECTIONS}
@@ -53,39 +54,38 @@ own_selectors (Some uid) = (codes "unix:uid:" ++ decimal uid) ∷ []
 -- ---- one item of the array, beside the sockets before it
 
 -- Repeated selectors count once in the set and each in the length.
-abbrev pub fact_of : ℕ → List (List ℕ) → SocketFile → SocketFact
-fact_of connections texts file = record {
-  path = file.path;
-  guard = file.guard;
+abbrev pub fact_of : ℕ → List (List ℕ) → Endpoint → SocketFact
+fact_of connections texts end = record {
+  place = end.place;
   connections = connections;
-  selectors = sorted_texts (texts ++ own_selectors file.uid);
+  selectors = sorted_texts (texts ++ own_selectors end.uid);
 }
 
--- some file has no selector of its own
-abbrev pub some_plain : List SocketFile → Bool
-some_plain files = list_any (λ f. is_none f.uid) files
+-- the callers of some endpoint have no selector but those of `selectors`
+abbrev pub some_plain : List Endpoint → Bool
+some_plain ends = list_any is_plain ends
 
 -- the sockets of the item at this index, in the order of their uids
 unfoldable pub socket_of : ℕ → List SocketFact → Data → Result (List SocketFact) ConfigFault
 socket_of i before d = do
-  files ← files_of i before d
+  ends ← endpoints_of i before d
   connections ← connections_of i d
-  texts ← texts_of (some_plain files) (at_socket i 3) d
-  Ok (map (fact_of connections texts) files)
+  texts ← texts_of (some_plain ends) (at_socket i 3) d
+  Ok (map (fact_of connections texts) ends)
 
 -- ---- all sockets
 
 unfoldable pub sockets_of : List Data → Result (List SocketFact) ConfigFault
 sockets_of ds = each_from socket_of (λ before more. before ++ more) 0 [] ds
 
--- A socket has a path and a room, and not too many selectors: its own beside those of `selectors`.
+-- A socket has a place and a room, and not too many selectors: its own beside those of `selectors`.
 pub record SocketWithin (s : SocketFact) : Type 0 where
-  pub path : 0 < length s.path
+  pub place : PlaceWithin s.place
   pub some_connections : 0 < s.connections
   pub few_connections : s.connections ≤ MAX_CONNECTIONS
   pub selectors : length s.selectors ≤ MAX_SOCKET_SELECTORS + 1
 
--- So has each of them, and their paths are distinct.
+-- So has each of them, and their names are distinct.
 pub record SocketsWithin (sockets : List SocketFact) : Type 0 where
   pub each : AllByRecursion SocketWithin sockets
-  pub distinct : are_distinct (map (λ s. s.path) sockets) ≡ true
+  pub distinct : are_distinct (map (λ s. name_of s.place) sockets) ≡ true

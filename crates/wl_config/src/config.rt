@@ -1,7 +1,12 @@
 //! What a configuration says.
 
+ghost use Rattle.std.specs.Prelude.{◌≡◌, IfOk};
+ghost use Rattle.wl_config.specs.SocketPlaces.{name_of};
+
+use std::alloc::Global;
 use std::marker::Model;
-use wl_octets::{Octets, Row};
+use std::net::SocketAddr;
+use wl_octets::{Memory, Octets, Row};
 use wl_selector::Selectors;
 
 /// Who may open a socket's file, and so connect to it.
@@ -15,12 +20,63 @@ pub struct SocketGuard {
     pub mode: u32,
 }
 
+/// Where callers connect, and how the kernel says who they are.
+#[derive(Drop, PartialEq)]
+pub enum SocketPlace {
+    /// The path of a Unix socket, and who may open its file.
+    Path {
+        path: Octets,
+        guard: SocketGuard,
+    },
+    /// A loopback address and a port (TCP). A caller is the uid that the kernel's table names.
+    Loopback {
+        /// The address and the port, as the configuration has them.
+        text: Octets,
+        address: SocketAddr,
+        /// How many connections it serves at once for one uid.
+        connections_per_uid: u32,
+    },
+}
+
+impl SocketPlace {
+    /// What names the socket in the log and in the figures: its path, or the text of its address. No two sockets of a
+    /// configuration have the same name.
+    pub fn name(&self) -> &Octets
+        ensures { result.now ≡ name_of self.now }
+    {
+        match self {
+            SocketPlace::Path { path, .. } => path,
+            SocketPlace::Loopback { text, .. } => text,
+        }
+    }
+
+    /// A copy.
+    pub(crate) fn copy(&self, alloc: Global) -> Result<SocketPlace, Memory>
+        ensures { IfOk result (λ p. p ≡ self.now) }
+    {
+        match self {
+            SocketPlace::Path { path, guard } => Ok(SocketPlace::Path {
+                path: path.copy(alloc)?,
+                guard: *guard,
+            }),
+            SocketPlace::Loopback {
+                text,
+                address,
+                connections_per_uid,
+            } => Ok(SocketPlace::Loopback {
+                text: text.copy(alloc)?,
+                address: *address,
+                connections_per_uid: *connections_per_uid,
+            }),
+        }
+    }
+}
+
 /// A socket on which the agent listens.
 #[derive(Drop, PartialEq)]
 pub struct SocketFact {
-    pub path: Octets,
-    /// Who may connect to it.
-    pub guard: SocketGuard,
+    /// Where callers connect to it.
+    pub place: SocketPlace,
     /// How many connections it serves at once.
     pub connections: u32,
     /// The selectors of each caller that connects to it.
@@ -34,6 +90,15 @@ pub enum DocumentSource {
     Socket(Octets),
     /// A file.
     File(Octets),
+}
+
+/// Where the agent's figures can be read.
+#[derive(Drop, PartialEq)]
+pub enum MetricsPlace {
+    /// The path, from the root, of a Unix socket.
+    Path(Octets),
+    /// A loopback address and a port (TCP).
+    Loopback(SocketAddr),
 }
 
 /// Which events the agent's log has: each level has those of the levels before it.
@@ -56,8 +121,9 @@ pub struct ConnectionLimits {
     pub memory_mib: u32,
 }
 
-/// A configuration within its limits: paths are not empty, and those of the sockets are distinct. The sockets may serve
-/// more connections together than [`MAX_ALL_CONNECTIONS`](crate::MAX_ALL_CONNECTIONS), which is the limit of those that are open.
+/// A configuration within its limits: paths are not empty, the names of the sockets are distinct, and an address is one of
+/// 127.0.0.0/8 or ::1 with a port other than 0. The sockets may serve more connections together than
+/// [`MAX_ALL_CONNECTIONS`](crate::MAX_ALL_CONNECTIONS), which is the limit of those that are open.
 #[derive(Drop)]
 pub struct Config {
     /// Where documents come from.
@@ -70,8 +136,8 @@ pub struct Config {
     pub signers: u32,
     /// Which events the log has.
     pub log: LogLevel,
-    /// The path, from the root, of the socket at which the agent's figures can be read. Without it there is none.
-    pub metrics: Option<Octets>,
+    /// Where the agent's figures can be read. Without it they cannot.
+    pub metrics: Option<MetricsPlace>,
     /// How many threads serve the sockets.
     pub threads: u32,
     /// What a connection, and the connections of a thread, may take.

@@ -23,7 +23,7 @@ pub enum ConfigFault {
     Selector(Place),
     /// An array has so many items, or the sockets up to here have so many workers, more than the limit.
     TooMany(Place, usize),
-    /// A socket before has the same path.
+    /// A socket before has the same path, or the same address.
     Duplicate(Place),
     /// The configuration has so many bytes, more than its limit.
     TooLong(usize),

@@ -8,12 +8,12 @@ pub const MAX_SOCKETS: usize = 4_096;
 pub const MAX_SOCKET_ITEMS: usize = 1_024;
 /// How many selectors `selectors` of a socket has at most, repeats counted.
 pub const MAX_SOCKET_SELECTORS: usize = 256;
-/// How many connections a socket serves at once at most.
+/// How many connections a socket serves at once at most, and at a loopback address one uid.
 pub const MAX_CONNECTIONS: u32 = 16_384;
+/// The same where the socket does not say.
+pub const DEFAULT_CONNECTIONS: u32 = 64;
 /// How many connections are open over all sockets at most, whatever the sockets say.
 pub const MAX_ALL_CONNECTIONS: u32 = 65_536;
-/// How many connections a socket serves at once where it does not say.
-pub const DEFAULT_CONNECTIONS: u32 = 64;
 /// The greatest number of a user or a group: all bits set stand for "unchanged" (chown of POSIX).
 pub const MAX_ID: u32 = 4_294_967_294;
 /// The mode of a socket's file where it does not say: read and write for its owner.

@@ -3,7 +3,7 @@
 ghost use Rattle.std.specs.Prelude.{◌≡◌, ℕ, ◌<◌, ◌≤◌, length, map, IfOk};
 ghost use Rattle.serde_json.specs.View.{view};
 ghost use Rattle.wl_config.specs.Checks.{Gives};
-ghost use Rattle.wl_config.specs.Members.{number_within, number_or, path_at, path_of, list_at, list_of};
+ghost use Rattle.wl_config.specs.Members.{number_within, number_or, path_at, list_at, list_of};
 
 use crate::fault::ConfigFault;
 use json_members::{array_at, number_at, required, text_at};
@@ -59,24 +59,6 @@ pub(crate) fn path_at(alloc: Global, place: Place, value: &Value) -> Result<Octe
         return Err(ConfigFault::EmptyText(place));
     }
     Ok(Octets::from_slice(alloc, text)?)
-}
-
-/// A path, which has to be there and is not empty.
-#[tactic(auto, unfolding(crate::specs::Members::path_of))]
-pub(crate) fn path_of(
-    alloc: Global,
-    place: Place,
-    name: &str,
-    value: &Value,
-) -> Result<Octets, ConfigFault>
-    ensures value { Gives (λ o. o) result (path_of place name.now (view value.now)) }
-    ensures some { IfOk result (λ o. 0 < length o) }
-{
-    path_at(
-        alloc,
-        place,
-        required(ConfigFault::Missing(place), name, value)?,
-    )
 }
 
 /// An array of at least one item and at most so many.

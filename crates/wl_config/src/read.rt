@@ -1,30 +1,29 @@
 //! A configuration, read.
 
-ghost use Rattle.std.specs.Prelude.{◌≡◌, ℕ, ◌<◌, ◌≤◌, length, codes, true, nat_eq, IfOk, IfSome};
-ghost use Rattle.std.specs.List.{starts_with};
+ghost use Rattle.std.specs.Prelude.{◌≡◌, ℕ, ◌<◌, ◌≤◌, length, IfOk, IfSome};
 ghost use Rattle.serde_json.specs.View.{view};
 ghost use Rattle.json_members.specs.Members.{or_fault};
 ghost use Rattle.json_members.specs.Texts.{value_of};
 ghost use Rattle.wl_config.specs.Checks.{Gives};
 ghost use Rattle.wl_config.specs.declared.limits.TheConstants.{MAX_SOCKETS, MAX_POLL_SECONDS, MAX_SIGNERS, MAX_THREADS, MAX_LIMIT_SECONDS, MIN_MEMORY_MIB, MAX_MEMORY_MIB};
 ghost use Rattle.wl_config.specs.Sockets.{SocketsWithin};
-ghost use Rattle.wl_config.specs.Configs.{LimitsWithin, threads_of, stall_seconds_of, opening_seconds_of, memory_mib_of, limits_of, path_in, version_of, source_of, signer_of, suppliers_of, poll_seconds_of, signers_of, level_of, level_at, log_of, root_path_at, metrics_of, manner_of, config_sockets_of, config_of, configuration_of};
+ghost use Rattle.wl_config.specs.Configs.{MetricsWithin, LimitsWithin, threads_of, stall_seconds_of, opening_seconds_of, memory_mib_of, limits_of, path_in, version_of, source_of, signer_of, suppliers_of, poll_seconds_of, signers_of, level_of, level_at, log_of, metrics_by, metrics_at, metrics_of, manner_of, config_sockets_of, config_of, configuration_of};
 ghost use Rattle.wl_config.specs.declared.fault.ConfigFault.TheVariants.{NotJson};
 
-use crate::config::{Config, ConnectionLimits, DocumentSource, LogLevel, SocketFact};
+use crate::config::{Config, ConnectionLimits, DocumentSource, LogLevel, MetricsPlace, SocketFact};
 use crate::fault::ConfigFault;
 use crate::limits::{
     CONFIG_LIMIT, DEFAULT_MEMORY_MIB, DEFAULT_OPENING_SECONDS, DEFAULT_POLL_SECONDS,
     DEFAULT_SIGNERS, DEFAULT_STALL_SECONDS, DEFAULT_THREADS, MAX_LIMIT_SECONDS, MAX_MEMORY_MIB,
     MAX_POLL_SECONDS, MAX_SIGNERS, MAX_SOCKET_ITEMS, MAX_THREADS, MIN_MEMORY_MIB,
 };
+use crate::loopbacks::loopback;
 use crate::members::{list_of, number_or, path_at};
 use crate::places::top_place;
 use crate::sockets::sockets;
 use json_members::{json_value, number_at, object_at, required, text_at};
 use serde_json::Value;
 use std::alloc::Global;
-use wl_document::Place;
 use wl_octets::{Octets, Row};
 
 /// The version, which is 1.
@@ -188,28 +187,39 @@ fn log(value: &Value) -> Result<LogLevel, ConfigFault>
     }
 }
 
-/// A path from the root.
-#[tactic(auto, unfolding(crate::specs::Configs::root_path_at))]
-fn root_path_at(alloc: Global, place: Place, value: &Value) -> Result<Octets, ConfigFault>
-    ensures value { Gives (λ o. o) result (root_path_at place (view value.now)) }
-    ensures root { IfOk result (λ o. starts_with nat_eq o (codes "/") ≡ true) }
+/// Where figures can be read: a text that begins with `/` is a path, any other has to be a loopback address with a port.
+#[tactic(auto, unfolding(crate::specs::Configs::metrics_by))]
+fn metrics_by(text: Octets) -> Option<MetricsPlace>
+    ensures value { result ≡ metrics_by text }
+    ensures within { IfSome result MetricsWithin }
 {
-    let path = path_at(alloc, place, value)?;
-    if path.as_slice().starts_with(b"/") {
-        Ok(path)
-    } else {
-        Err(ConfigFault::Kind(place))
+    if text.as_slice().starts_with(b"/") {
+        return Some(MetricsPlace::Path(text));
+    }
+    Some(MetricsPlace::Loopback(loopback(text.as_slice())?))
+}
+
+/// Where figures can be read, as this member says.
+#[tactic(auto, unfolding(crate::specs::Configs::metrics_at))]
+fn metrics_at(alloc: Global, value: &Value) -> Result<MetricsPlace, ConfigFault>
+    ensures value { Gives (λ m. m) result (metrics_at (view value.now)) }
+    ensures within { IfOk result MetricsWithin }
+{
+    let place = top_place(8);
+    match metrics_by(path_at(alloc, place, value)?) {
+        Some(found) => Ok(found),
+        None => Err(ConfigFault::Kind(place)),
     }
 }
 
-/// The path of the socket of the agent's figures, where it is given.
+/// Where the agent's figures can be read, where it is given.
 #[tactic(auto, unfolding(crate::specs::Configs::metrics_of))]
-fn metrics(alloc: Global, value: &Value) -> Result<Option<Octets>, ConfigFault>
+fn metrics(alloc: Global, value: &Value) -> Result<Option<MetricsPlace>, ConfigFault>
     ensures value { Gives (λ m. m) result (metrics_of (view value.now)) }
-    ensures root { IfOk result (λ m. IfSome m (λ path. starts_with nat_eq path (codes "/") ≡ true)) }
+    ensures within { IfOk result (λ m. IfSome m MetricsWithin) }
 {
     match value.get("metrics") {
-        Some(member) => Ok(Some(root_path_at(alloc, top_place(8), member)?)),
+        Some(member) => Ok(Some(metrics_at(alloc, member)?)),
         None => Ok(None),
     }
 }
@@ -304,7 +314,7 @@ struct Manner {
     poll_seconds: u32,
     signers: u32,
     log: LogLevel,
-    metrics: Option<Octets>,
+    metrics: Option<MetricsPlace>,
     threads: u32,
     limits: ConnectionLimits,
 }
@@ -317,7 +327,7 @@ fn other_members(alloc: Global, value: &Value) -> Result<Manner, ConfigFault>
     ensures few_seconds { IfOk result (λ m. m.poll_seconds ≤ MAX_POLL_SECONDS) }
     ensures some_signers { IfOk result (λ m. 0 < m.signers) }
     ensures few_signers { IfOk result (λ m. m.signers ≤ MAX_SIGNERS) }
-    ensures metrics { IfOk result (λ m. IfSome m.metrics (λ path. starts_with nat_eq path (codes "/") ≡ true)) }
+    ensures metrics { IfOk result (λ m. IfSome m.metrics MetricsWithin) }
     ensures some_threads { IfOk result (λ m. 0 < m.threads) }
     ensures few_threads { IfOk result (λ m. m.threads ≤ MAX_THREADS) }
     ensures limits { IfOk result (λ m. LimitsWithin m.limits) }

@@ -6,12 +6,12 @@ ghost use Rattle.serde_json.specs.View.{view};
 ghost use Rattle.wl_config.specs.declared.fault.ConfigFault.TheVariants.{Memory};
 ghost use Rattle.wl_config.specs.declared.limits.TheConstants.{MAX_SOCKETS, MAX_SOCKET_ITEMS, MAX_CONNECTIONS, MAX_SOCKET_SELECTORS};
 ghost use Rattle.wl_config.specs.Checks.{Gives};
-ghost use Rattle.wl_config.specs.Files.{HasPath};
+ghost use Rattle.wl_config.specs.Endpoints.{HasPlace};
 ghost use Rattle.wl_config.specs.Sockets.{says_workers, connections_of, fact_of, some_plain, socket_of, sockets_of, SocketsWithin, SocketWithin};
 
 use crate::config::SocketFact;
+use crate::endpoints::{Endpoint, endpoints, is_plain};
 use crate::fault::ConfigFault;
-use crate::files::{SocketFile, files};
 use crate::limits::{DEFAULT_CONNECTIONS, MAX_CONNECTIONS};
 use crate::members::number_or;
 use crate::places::socket_place;
@@ -43,55 +43,54 @@ fn connections(index: u32, value: &Value) -> Result<u32, ConfigFault>
     number_or(DEFAULT_CONNECTIONS, 1, MAX_CONNECTIONS, place, name, value)
 }
 
-/// The socket of a file.
+/// The socket at an endpoint.
 fn fact(
     alloc: Global,
     connections: u32,
     texts: &[Selector],
-    file: &SocketFile,
+    end: &Endpoint,
 ) -> Result<SocketFact, wl_octets::Memory>
     requires texts { length texts.now ≤ MAX_SOCKET_SELECTORS }
     requires some { 0 < connections }
     requires at_most { connections ≤ MAX_CONNECTIONS }
-    requires path { HasPath file.now }
-    ensures value { IfOk result (λ s. s ≡ fact_of connections texts.now file.now) }
+    requires place { HasPlace end.now }
+    ensures value { IfOk result (λ s. s ≡ fact_of connections texts.now end.now) }
     ensures within { IfOk result SocketWithin }
 {
     Ok(SocketFact {
-        path: file.path.copy(alloc)?,
-        guard: file.guard,
+        place: end.place.copy(alloc)?,
         connections,
-        selectors: selectors_with(alloc, texts, file.uid)?,
+        selectors: selectors_with(alloc, texts, end.uid)?,
     })
 }
 
-/// The sockets of files.
+/// The sockets at these endpoints.
 fn facts(
     alloc: Global,
     connections: u32,
     texts: &[Selector],
-    files: &[SocketFile],
+    ends: &[Endpoint],
 ) -> Result<Vec<SocketFact>, ConfigFault>
     requires texts { length texts.now ≤ MAX_SOCKET_SELECTORS }
     requires some { 0 < connections }
     requires at_most { connections ≤ MAX_CONNECTIONS }
-    requires paths { AllByRecursion HasPath files.now }
-    ensures value { IfOk result (λ v. v.items ≡ map (fact_of connections texts.now) files.now) }
+    requires places { AllByRecursion HasPlace ends.now }
+    ensures value { IfOk result (λ v. v.items ≡ map (fact_of connections texts.now) ends.now) }
     ensures within { IfOk result (λ v. AllByRecursion SocketWithin v.items) }
     ensures memory { IfErr result (λ e. e ≡ Memory) }
 {
     let mut facts = Vec::new(alloc);
-    for file in files {
-        facts.push(fact(alloc, connections, texts, file)?)?;
+    for end in ends {
+        facts.push(fact(alloc, connections, texts, end)?)?;
     }
     Ok(facts)
 }
 
-/// Whether some file has no selector of its own.
-fn some_plain(files: &[SocketFile]) -> bool
-    ensures { result ≡ some_plain files.now }
+/// Whether the callers of some endpoint have no selector but those of `selectors`.
+fn some_plain(ends: &[Endpoint]) -> bool
+    ensures { result ≡ some_plain ends.now }
 {
-    files.iter().any(|file| file.uid.is_none())
+    ends.iter().any(|end| is_plain(end))
 }
 
 /// The sockets of the item at this index, beside those before it.
@@ -109,11 +108,11 @@ fn socket(
     ensures some { IfOk result (λ v. 0 < length v.items) }
     ensures at_most { IfOk result (λ v. length (before.now ++ v.items) ≤ MAX_SOCKETS) }
 {
-    let files = files(alloc, index, before, value)?;
+    let ends = endpoints(alloc, index, before, value)?;
     let connections = connections(index, value)?;
-    let needed = some_plain(files.as_slice());
+    let needed = some_plain(ends.as_slice());
     let texts = texts(alloc, needed, socket_place(index, 3), value)?;
-    let sockets = facts(alloc, connections, texts.as_slice(), files.as_slice())?;
+    let sockets = facts(alloc, connections, texts.as_slice(), ends.as_slice())?;
     Ok(sockets)
 }
 

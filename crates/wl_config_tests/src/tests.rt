@@ -1,6 +1,7 @@
 //! What a configuration says.
 
 use std::alloc::Global;
+use std::net::{IpAddr, Ipv4Addr, Ipv6Addr, SocketAddr};
 use std::process::Abort;
 use wl_config::*;
 use wl_edge::{Attestor, Origin};
@@ -22,8 +23,22 @@ fn is_socket(
     connections: u32,
     selectors: &[&str],
 ) {
-    assert_eq!(rt; socket.path.as_slice(), path.as_bytes());
-    assert_eq!(rt; socket.guard, guard);
+    assert_eq!(rt; socket.place.name().as_slice(), path.as_bytes());
+    match &socket.place {
+        SocketPlace::Path {
+            path: found,
+            guard: open,
+        } => {
+            assert_eq!(rt; found.as_slice(), path.as_bytes());
+            assert_eq!(rt; *open, guard);
+        }
+        SocketPlace::Loopback { .. } => panic!(rt; "a path"),
+    }
+    has_callers(rt, socket, connections, selectors);
+}
+
+/// Asserts how many connections a socket serves, and the selectors of its callers.
+fn has_callers(rt: &impl Abort, socket: &SocketFact, connections: u32, selectors: &[&str]) {
     assert_eq!(rt; socket.connections, connections);
     let found = socket.selectors.as_slice();
     assert_eq!(rt; found.len(), selectors.len());
@@ -92,7 +107,10 @@ fn is_example(rt: &impl Abort, alloc: Global, config: &Config) {
     );
     assert_eq!(rt; config.poll_seconds, 5);
     assert!(rt; (config.signers, config.log) == (7, LogLevel::Debug));
-    assert!(rt; config.metrics.as_ref().map(|path| path.as_slice()) == Some(b"/m".as_slice()));
+    match &config.metrics {
+        Some(MetricsPlace::Path(path)) => assert_eq!(rt; path.as_slice(), b"/m".as_slice()),
+        _ => panic!(rt; "a path"),
+    }
     are_limits(rt, config, 3, [40, 50, 60]);
     match config.sockets.as_slice() {
         [web] => {
@@ -161,6 +179,52 @@ fn sockets_by_uid(rt: HostRuntime) {
     drop(config);
 }
 
+/// Asserts that a socket is at a loopback address.
+fn is_endpoint(rt: &impl Abort, socket: &SocketFact, text: &str, address: SocketAddr, each: u32) {
+    assert_eq!(rt; socket.place.name().as_slice(), text.as_bytes());
+    match &socket.place {
+        SocketPlace::Loopback {
+            text: found,
+            address: at,
+            connections_per_uid,
+        } => {
+            assert_eq!(rt; found.as_slice(), text.as_bytes());
+            assert_eq!(rt; *at, address);
+            assert_eq!(rt; *connections_per_uid, each);
+        }
+        SocketPlace::Path { .. } => panic!(rt; "an address"),
+    }
+}
+
+/// An endpoint at a loopback address of each version, and figures at another.
+#[test]
+fn loopback_endpoints(rt: HostRuntime) {
+    let text =
+        r#"{"version":1,"document":"d","metrics":"127.0.0.1:9469","sockets":[{"tcp":"127.2.3.4:8082","connections_per_uid":3,"connections":9},{"tcp":"[::1]:65535","selectors":["b:1","a:1"]}]}"#;
+    let config = config_of(&rt, rt.alloc(), text);
+    match config.sockets.as_slice() {
+        [first, second] => {
+            let address = IpAddr::V4(Ipv4Addr::new(127, 2, 3, 4));
+            let address = SocketAddr::new(address, 8_082);
+            is_endpoint(&rt, first, "127.2.3.4:8082", address, 3);
+            has_callers(&rt, first, 9, &[]);
+            let address = SocketAddr::new(IpAddr::V6(Ipv6Addr::LOCALHOST), 65_535);
+            is_endpoint(&rt, second, "[::1]:65535", address, 64);
+            has_callers(&rt, second, 64, &["a:1", "b:1"]);
+            is_attested_to(&rt, rt.alloc(), 0, first, Some(33), "unix:uid:33 ");
+        }
+        _ => panic!(rt; "two sockets"),
+    }
+    match &config.metrics {
+        Some(MetricsPlace::Loopback(at)) => {
+            let localhost = IpAddr::V4(Ipv4Addr::LOCALHOST);
+            assert_eq!(rt; *at, SocketAddr::new(localhost, 9_469));
+        }
+        _ => panic!(rt; "an address"),
+    }
+    drop(config);
+}
+
 /// Asserts the mode of a socket with these digits.
 fn is_mode(rt: &impl Abort, alloc: Global, digits: &str, mode: u32) {
     let text = format!(in alloc;
@@ -168,8 +232,13 @@ fn is_mode(rt: &impl Abort, alloc: Global, digits: &str, mode: u32) {
     ).expect(rt, "memory");
     let config = config_of(rt, alloc, text.as_str());
     match config.sockets.as_slice() {
-        [socket] => assert_eq!(rt; socket.guard.mode, mode, "of {digits}"),
-        _ => panic!(rt; "one socket"),
+        [
+            SocketFact {
+                place: SocketPlace::Path { guard, .. },
+                ..
+            },
+        ] => assert_eq!(rt; guard.mode, mode, "of {digits}"),
+        _ => panic!(rt; "one path"),
     }
     drop(config);
 }

@@ -11,5 +11,5 @@ pub contains_at : {X Y : Type 0} (f : X → Y) (xs : List X) (k : ℕ) (x : X) �
 contains_at {X} {Y} f xs k x at = let here : slice_get (map f xs) k ≡ Some (f x) = slice_get-map f xs k ∙ ap (λ o. option_map f o) at in (k, slice_get_within (map f xs) k (f x) here, get_or_from_slice_get (map f xs) k (f x) (f x) here)
 
 -- the socket of an origin stands in the list, where it is the origin of one of the places
-pub origin_at : (places : List Place) (k : ℕ) (place : Place) (origin : Origin) → k < length places → place ≡ slice_index_or places k place → origin ≡ place.origin → Contains (map (λ p. socket_of p.origin) places) (socket_of origin)
-origin_at places k place origin within at is = subst (λ o. Contains (map (λ p. socket_of p.origin) places) (socket_of o)) (sym is) (contains_at (λ p. socket_of p.origin) places k place (slice_get-get_or places k place within ∙ ap (λ p. Some p) (sym at)))
+pub origin_at : (places : List Place) (k : ℕ) (place : Place) (origin : Origin) → k < length places → place ≡ slice_index_or places k place → socket_of origin ≡ socket_of place.origin → Contains (map (λ p. socket_of p.origin) places) (socket_of origin)
+origin_at places k place origin within at is = subst (λ o. Contains (map (λ p. socket_of p.origin) places) o) (sym is) (contains_at (λ p. socket_of p.origin) places k place (slice_get-get_or places k place within ∙ ap (λ p. Some p) (sym at)))

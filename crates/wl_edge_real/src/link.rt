@@ -1,4 +1,4 @@
-//! Links over Unix sockets that do not block.
+//! Links over sockets that do not block.
 
 ghost use Rattle.std.specs.Prelude.{◌≡◌, ◌≤◌, ℕ, List, [], ◌++◌, take, Some, IfOk, OnErr, IsSome, MatchResult, length};
 ghost use Rattle.wl_edge_real.specs.Pieces.{piece_of, pieces_of};
@@ -7,6 +7,7 @@ ghost use Rattle.wl_edge.specs.Links.{heard_of, IsFresh, IsWithin, OnFailed};
 
 use crate::open_links::Counted;
 use crate::stop::{Stop, is_asked, is_urgent};
+use crate::stream::Stream;
 use crate::telling::heard;
 use crate::told_stream::ToldStream;
 use crate::watch::{Lateness, Watch};
@@ -31,6 +32,8 @@ pub(crate) struct Held {
     pub(crate) at: u32,
     /// Among the links of its socket.
     pub(crate) of_socket: Counted,
+    /// Among the links of its uid, where the kernel names that.
+    pub(crate) of_uid: Option<Counted>,
     /// Among all.
     pub(crate) of_all: Counted,
 }
@@ -60,12 +63,12 @@ pub trait LinkFailures {
     fn traffic(&self) -> Traffic;
 }
 
-/// A link over a Unix socket. It tells what it gave and took, by lists that exist only in proofs. A receive that finds
+/// A link over a Unix socket or a loopback TCP connection. It tells what it gave and took, by lists that exist only in proofs. A receive that finds
 /// nothing is idle at once, so that one who has nothing else to do waits with a `RealReady`.
 #[derive(Drop)]
 pub struct RealLink {
     pub(crate) origin: Origin,
-    stream: ToldStream<UnixStream>,
+    stream: ToldStream<Stream>,
     /// Shared with one who watches the link.
     watch: Option<Arc<Watch>>,
     /// What has it end.
@@ -93,10 +96,19 @@ pub(crate) fn is_pause(error: &io::Error) -> bool {
 }
 
 impl RealLink {
-    /// A link from there over this socket, which from now on does not block.
+    /// A link from there over this Unix socket, which from now on does not block.
     pub fn start(origin: Origin, stream: UnixStream) -> io::Result<RealLink>
         ensures origin { IfOk result (λ l. ⟦<RealLink as Link>⟧.origin l ≡ origin) }
         ensures tells { (l : RealLink) → IsSome (⟦<RealLink as Link>⟧.told l) }
+        ensures fresh { IfOk result (λ l. IsFresh (⟦<RealLink as Link>⟧.told l) (⟦<RealLink as Link>⟧.failed_receives l)
+            (⟦<RealLink as Link>⟧.failed_sends l) (⟦<RealLink as Link>⟧.stalls l)) }
+    {
+        RealLink::start_over(origin, Stream::Unix(stream))
+    }
+
+    /// A link from there over this connection, which from now on does not block.
+    pub(crate) fn start_over(origin: Origin, stream: Stream) -> io::Result<RealLink>
+        ensures origin { IfOk result (λ l. ⟦<RealLink as Link>⟧.origin l ≡ origin) }
         ensures fresh { IfOk result (λ l. IsFresh (⟦<RealLink as Link>⟧.told l) (⟦<RealLink as Link>⟧.failed_receives l)
             (⟦<RealLink as Link>⟧.failed_sends l) (⟦<RealLink as Link>⟧.stalls l)) }
     {
@@ -255,7 +267,7 @@ fn lateness(watch: &Option<Arc<Watch>>) -> Option<Lateness> {
 fn receive_until(
     stop: &Option<Arc<Stop>>,
     watch: &Option<Arc<Watch>>,
-    stream: &mut ToldStream<UnixStream>,
+    stream: &mut ToldStream<Stream>,
     into: &mut [u8],
 ) -> Received
     ensures room { length into.new ≡ length into.old }
@@ -276,7 +288,7 @@ fn receive_until(
 }
 
 /// Writes some of the bytes, and waits until that can be done.
-fn write_waiting(stream: &mut ToldStream<UnixStream>, bytes: &[u8]) -> io::Result<usize>
+fn write_waiting(stream: &mut ToldStream<Stream>, bytes: &[u8]) -> io::Result<usize>
     ensures within { IfOk result (λ count. count ≤ length bytes.now) }
     ensures put { IfOk result (λ n. stream.new.put.list ≡ stream.old.put.list ++ take n bytes.now) }
     ensures nothing { OnErr result (stream.new.put ≡ stream.old.put) }

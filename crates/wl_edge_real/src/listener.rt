@@ -1,4 +1,4 @@
-//! Listeners at Unix sockets.
+//! Listeners at sockets of this machine.
 
 ghost use Rattle.std.specs.Prelude.{◌≡◌, ◌≤◌, ◌++◌, ℕ, List, [], ◌∷◌, map, string_bytes, Contains, Some, IfOk, IfSome, OnOk, OnErr};
 ghost use Rattle.wl_edge.specs.Links.{IsFresh};
@@ -7,11 +7,14 @@ ghost use Rattle.wl_edge_real.specs.Places.{socket_of};
 
 use crate::arrivals::Arrivals;
 use crate::binding::PathListener;
+use crate::doors::Door;
 use crate::link::RealLink;
+use crate::loopback::{Loopback, LoopbackListener};
+use crate::missed::{ENOMEM, Missed};
 use crate::open_links::OpenLinks;
 use crate::refusal::Refusal;
 use crate::replacements::Replacements;
-use crate::sockets::{ENOMEM, Sockets};
+use crate::sockets::Sockets;
 use crate::stop::{Stop, is_asked, share_stop};
 use std::alloc::Global;
 use std::io;
@@ -32,7 +35,7 @@ const EMFILE: i32 = 24;
 /// The network has no buffer left.
 const ENOBUFS: i32 = 105;
 
-/// A listener at Unix sockets, from which it takes connections in turn. It tells its answers and the links that were finished, by lists
+/// A listener at Unix sockets and loopback TCP ports, from which it takes connections in turn. It tells its answers and the links that were finished, by lists
 /// that exist only in proofs.
 #[derive(Drop)]
 pub struct RealListener {
@@ -41,6 +44,8 @@ pub struct RealListener {
     all: Arc<OpenLinks>,
     /// What has it and its links end.
     stop: Option<Arc<Stop>>,
+    /// What the last accept refused.
+    refusal: Option<Refusal>,
     faults: u64,
     kinds: Told<AcceptKind>,
     finished: Told<RealLink>,
@@ -67,6 +72,10 @@ impl BoundAt for RealListener {
     fn last_socket(&self) -> u32 {
         self.sockets.tried()
     }
+
+    fn last_refusal(&self) -> Option<Refusal> {
+        self.refusal
+    }
 }
 
 /// Adds the path of a socket.
@@ -76,6 +85,15 @@ impl Adds<PathListener, Octets> for ItsPath {
     ghost use Rattle.std.specs.Prelude.{◌∷◌, [], string_bytes};
 
     ghost added = { λ s. string_bytes s.path ∷ [] };
+}
+
+/// Adds a name of a socket.
+struct ItsName;
+
+impl Adds<String, Octets> for ItsName {
+    ghost use Rattle.std.specs.Prelude.{◌∷◌, [], string_bytes};
+
+    ghost added = { λ name. string_bytes name ∷ [] };
 }
 
 /// Whether an accept found no room for one more connection. Room comes as others end.
@@ -110,6 +128,7 @@ impl RealListener {
             sockets: Sockets::start(rt, alloc)?,
             all,
             stop: None,
+            refusal: None,
             faults: 0,
             kinds: Told::new(),
             finished: Told::new(),
@@ -134,7 +153,39 @@ impl RealListener {
         ensures faults { ⟦<RealListener as Listener>⟧.faults self.new ≡ ⟦<RealListener as Listener>⟧.faults self.old }
     {
         let paths = self.paths.and::<PathListener, ItsPath>(&socket);
-        self.sockets.add(socket.listener, origin, connections)?;
+        self.sockets
+            .add(Door::Unix(socket.listener), origin, connections)?;
+        self.paths = paths;
+        Ok(())
+    }
+
+    /// Listens at one more socket, a TCP port of this machine, which has this name. Its links have this origin, and the uid of their
+    /// caller, whom the kernel names. So many of them may be open at once, and so many of one uid: one more of that uid is
+    /// closed at once, as one that the kernel doesn't name (`last_refusal`). After a fault, which is out of memory or one of the
+    /// operating system, the listener is as it was and the socket is closed.
+    pub fn add_loopback(
+        &mut self,
+        socket: LoopbackListener,
+        name: String,
+        origin: Origin,
+        connections: u32,
+        connections_per_uid: u32,
+    ) -> io::Result<()>
+        ensures sockets { OnOk result (IfSome (⟦<RealListener as Listener>⟧.sockets self.old) (λ known.
+            ⟦<RealListener as Listener>⟧.sockets self.new
+            ≡ Some (known ++ record { selectors = origin.selectors; number = origin.socket } ∷ []))) }
+        ensures paths { OnOk result (⟦<RealListener as BoundAt>⟧.paths self.new
+            ≡ ⟦<RealListener as BoundAt>⟧.paths self.old ++ string_bytes name ∷ []) }
+        ensures same_sockets { OnErr result (⟦<RealListener as Listener>⟧.sockets self.new
+            ≡ ⟦<RealListener as Listener>⟧.sockets self.old) }
+        ensures same_paths { OnErr result (⟦<RealListener as BoundAt>⟧.paths self.new
+            ≡ ⟦<RealListener as BoundAt>⟧.paths self.old) }
+        ensures told { ⟦<RealListener as Listener>⟧.told self.new ≡ ⟦<RealListener as Listener>⟧.told self.old }
+        ensures faults { ⟦<RealListener as Listener>⟧.faults self.new ≡ ⟦<RealListener as Listener>⟧.faults self.old }
+    {
+        let paths = self.paths.and::<String, ItsName>(&name);
+        let loopback = Loopback::start(self.sockets.alloc(), socket, connections_per_uid);
+        self.sockets.add(Door::Tcp(loopback), origin, connections)?;
         self.paths = paths;
         Ok(())
     }
@@ -182,6 +233,7 @@ impl RealListener {
         ensures kinds { self.new.kinds ≡ self.old.kinds }
         ensures finished { self.new.finished ≡ self.old.finished }
     {
+        self.refusal = None;
         if is_asked(&self.stop) {
             return Accepted::End;
         }
@@ -194,9 +246,8 @@ impl RealListener {
             return Accepted::Idle;
         }
         match self.sockets.accept(&self.all, &self.stop) {
-            Ok(Some(link)) => Accepted::Link(link),
-            Ok(None) => Accepted::Idle,
-            Err(error) => {
+            Ok(link) => Accepted::Link(link),
+            Err(Missed::Failed(error)) => {
                 self.faults = self.faults.saturating_add(1);
                 if is_full(&error) {
                     Accepted::Idle
@@ -204,6 +255,11 @@ impl RealListener {
                     Accepted::Failed
                 }
             }
+            Err(Missed::Refused(refusal)) => {
+                self.refusal = Some(refusal);
+                Accepted::Idle
+            }
+            Err(_) => Accepted::Idle,
         }
     }
 }

@@ -5,7 +5,9 @@ ghost use Rattle.wl_edge.specs.Links.{IsFresh};
 ghost use Rattle.wl_edge_real.specs.Places.{socket_of};
 
 use crate::arrivals::Arrivals;
+use crate::doors::{Caller, Door};
 use crate::link::{Held, RealLink};
+use crate::missed::{Missed, no_memory};
 use crate::open_links::OpenLinks;
 use crate::replacements::{MOST_WAITING, Replacement, Replacements};
 use crate::stop::{Stop, share_stop};
@@ -17,48 +19,16 @@ use std::io;
 use std::io::ErrorKind;
 use std::net::Net;
 use std::os::fd::{AsRawFd, RawFd};
-use std::os::unix::net::UnixListener;
 use std::sync::Arc;
 use std::sync::atomic::{AtomicBool, Ordering};
 use std::time::Duration;
 use wl_edge::{Link, Origin};
-
-/// There is no memory (the number of errno(3) on Linux).
-pub(crate) const ENOMEM: i32 = 12;
 
 /// How many events a look lists at most; others are left for the next one.
 const EVENTS: usize = 256;
 
 /// How many sockets an accept tries at most.
 const TRIES: u32 = 1_024;
-
-/// Out of memory, as an error of the system.
-pub(crate) fn no_memory<E: Drop>(_cause: E) -> io::Error {
-    io::Error::from_raw_os_error(ENOMEM)
-}
-
-/// Why a socket gave no link.
-#[derive(Drop)]
-pub(crate) enum Missed {
-    /// No peer waits there.
-    Nobody,
-    /// Another may wait: the system was interrupted, the peer was gone, or was closed since too many links are open.
-    Again,
-    /// As many of its links are open as may be.
-    Full,
-    /// The operating system refused.
-    Failed(io::Error),
-}
-
-impl From<io::Error> for Missed {
-    fn from(error: io::Error) -> Missed {
-        match error.kind() {
-            ErrorKind::WouldBlock => Missed::Nobody,
-            ErrorKind::Interrupted | ErrorKind::ConnectionAborted => Missed::Again,
-            _ => Missed::Failed(error),
-        }
-    }
-}
 
 /// One of the sockets.
 #[derive(Drop)]
@@ -79,15 +49,15 @@ impl Place {
     /// The next connection of its socket, one of these, as a link.
     fn next_link(
         &self,
-        doors: &[UnixListener],
+        doors: &mut [Door],
         all: &Arc<OpenLinks>,
         stop: &Option<Arc<Stop>>,
     ) -> Result<RealLink, Missed>
-        ensures origin { IfOk result (λ l. ⟦<RealLink as Link>⟧.origin l ≡ self.now.origin) }
+        ensures origin { IfOk result (λ l. socket_of (⟦<RealLink as Link>⟧.origin l) ≡ socket_of self.now.origin) }
         ensures fresh { IfOk result (λ l. IsFresh (⟦<RealLink as Link>⟧.told l) (⟦<RealLink as Link>⟧.failed_receives l)
             (⟦<RealLink as Link>⟧.failed_sends l) (⟦<RealLink as Link>⟧.stalls l)) }
     {
-        let Some(door) = doors.get(self.at as usize) else {
+        let Some(door) = doors.get_mut(self.at as usize) else {
             return Err(Missed::Nobody);
         };
         let Some(of_socket) = OpenLinks::enter(&self.open) else {
@@ -95,16 +65,22 @@ impl Place {
         };
         let origin = self.origin.share().map_err(no_memory)?;
         let stop = share_stop(stop)?;
-        let (stream, _) = door.accept()?;
         let Some(of_all) = OpenLinks::enter(all) else {
+            door.turn_away()?;
             all.note_refused();
             return Err(Missed::Again);
         };
-        let mut link = RealLink::start(origin, stream)?;
+        let Caller {
+            stream,
+            origin,
+            of_uid,
+        } = door.accept(origin)?;
+        let mut link = RealLink::start_over(origin, stream)?;
         link.obey(stop);
         link.hold(Held {
             at: self.at,
             of_socket,
+            of_uid,
             of_all,
         });
         Ok(link)
@@ -135,7 +111,7 @@ pub(crate) struct Sockets {
     events: Events<Global>,
     pub(crate) places: Vec<Place>,
     /// The sockets themselves, in the same order: one may take the place of another.
-    doors: Vec<UnixListener>,
+    doors: Vec<Door>,
     /// Those that are to take the places of others.
     replacements: Arc<Replacements>,
     /// The places of those that may have a peer and room for it, each once, in turn.
@@ -167,7 +143,7 @@ fn note_all(events: &Events<Global>, places: &[Place], due: &mut VecDeque<u32>) 
 /// The next connection at this place as a link.
 fn link_at(
     places: &[Place],
-    doors: &[UnixListener],
+    doors: &mut [Door],
     at: u32,
     all: &Arc<OpenLinks>,
     stop: &Option<Arc<Stop>>,
@@ -252,17 +228,12 @@ impl Sockets {
     }
 
     /// One more socket, whose links have this origin. So many of them may be open at once.
-    pub(crate) fn add(
-        &mut self,
-        listener: UnixListener,
-        origin: Origin,
-        connections: u32,
-    ) -> io::Result<()>
+    pub(crate) fn add(&mut self, door: Door, origin: Origin, connections: u32) -> io::Result<()>
         ensures added { OnOk result (map (λ p. socket_of p.origin) self.new.places.items
             ≡ map (λ p. socket_of p.origin) self.old.places.items ++ socket_of origin ∷ []) }
         ensures kept { OnErr result (self.new.places.items ≡ self.old.places.items) }
     {
-        listener.set_nonblocking(true)?;
+        door.set_nonblocking(true)?;
         let at = u32::try_from(self.places.len()).map_err(no_memory)?;
         self.due
             .reserve(self.places.len().saturating_add(1))
@@ -276,26 +247,31 @@ impl Sockets {
             is_due: AtomicBool::new(false),
             is_full: AtomicBool::new(false),
         };
-        register(self.poll.registry(), listener.as_raw_fd(), at)?;
+        register(self.poll.registry(), door.descriptor(), at)?;
         // A socket for which there is no memory is closed, and so leaves the poll.
         self.places.push(place).map_err(no_memory)?;
         // There is room for it.
-        let _ = self.doors.push(listener);
+        let _ = self.doors.push(door);
         Ok(())
     }
 
-    /// Puts a socket in the place of another. If the system refuses that, the other stays.
+    /// What its memory is taken from.
+    pub(crate) fn alloc(&self) -> Global {
+        self.alloc
+    }
+
+    /// Puts a Unix socket in the place of another. If the system refuses that, the other stays.
     fn replace(&mut self, replacement: Replacement) -> io::Result<()>
         ensures { self.new.places ≡ self.old.places }
     {
         let Replacement { place, listener } = replacement;
-        let Some(door) = self.doors.get_mut(place as usize) else {
+        let Some(Door::Unix(other)) = self.doors.get_mut(place as usize) else {
             return Err(io::Error::from(ErrorKind::NotFound));
         };
         listener.set_nonblocking(true)?;
         register(self.poll.registry(), listener.as_raw_fd(), place)?;
         // The other leaves the poll as it is closed.
-        *door = listener;
+        *other = listener;
         self.arrivals.note();
         Ok(())
     }
@@ -355,7 +331,13 @@ impl Sockets {
             (⟦<RealLink as Link>⟧.failed_sends l) (⟦<RealLink as Link>⟧.stalls l)) }
     {
         self.tried = number_at(self.places.as_slice(), at);
-        let found = link_at(self.places.as_slice(), self.doors.as_slice(), at, all, stop);
+        let found = link_at(
+            self.places.as_slice(),
+            self.doors.as_mut_slice(),
+            at,
+            all,
+            stop,
+        );
         if stays_due_at(self.places.as_slice(), at, &found) {
             // There is room for each place.
             let _ = self.due.push_back(at);
@@ -363,31 +345,34 @@ impl Sockets {
         found
     }
 
-    /// The next connection as a link, from the sockets in turn. None where there is none, or none for which there is room.
+    /// The next connection as a link, from the sockets in turn. Nobody where there is none, or none for which there is room.
     pub(crate) fn accept(
         &mut self,
         all: &Arc<OpenLinks>,
         stop: &Option<Arc<Stop>>,
-    ) -> io::Result<Option<RealLink>>
+    ) -> Result<RealLink, Missed>
         ensures places { self.new.places ≡ self.old.places }
-        ensures origin { IfOk result (λ o. IfSome o (λ l. Contains (map (λ p. socket_of p.origin) self.old.places.items)
-            (socket_of (⟦<RealLink as Link>⟧.origin l)))) }
-        ensures fresh { IfOk result (λ o. IfSome o (λ l. IsFresh (⟦<RealLink as Link>⟧.told l)
-            (⟦<RealLink as Link>⟧.failed_receives l) (⟦<RealLink as Link>⟧.failed_sends l) (⟦<RealLink as Link>⟧.stalls l))) }
+        ensures origin { IfOk result (λ l. Contains (map (λ p. socket_of p.origin) self.old.places.items)
+            (socket_of (⟦<RealLink as Link>⟧.origin l))) }
+        ensures fresh { IfOk result (λ l. IsFresh (⟦<RealLink as Link>⟧.told l) (⟦<RealLink as Link>⟧.failed_receives l)
+            (⟦<RealLink as Link>⟧.failed_sends l) (⟦<RealLink as Link>⟧.stalls l)) }
     {
         for _ in 0..TRIES {
             let Some(at) = self.next_due()? else {
-                return Ok(None);
+                return Err(Missed::Nobody);
             };
             match self.accept_at(at, all, stop) {
-                Ok(link) => return Ok(Some(link)),
-                Err(Missed::Failed(error)) => return Err(error),
-                Err(_) => {}
+                Err(Missed::Nobody | Missed::Again | Missed::Full) => {}
+                Err(Missed::Refused(refusal)) => {
+                    self.arrivals.hurry();
+                    return Err(Missed::Refused(refusal));
+                }
+                answer => return answer,
             }
         }
         // The others are tried after a wait, which finds what else is to be done.
         self.arrivals.hurry();
-        Ok(None)
+        Err(Missed::Nobody)
     }
 
     /// Notes that a link of the socket at this place has ended: it is due where peers may wait for that.

@@ -3,12 +3,11 @@
 
 ghost use Rattle.std.specs.Prelude.{◌≡◌, ◌≤◌, ◌++◌, [], length, take, IfOk, OnErr, MatchResult};
 
+use crate::stream::Stream;
 use crate::telling::{Front, Took};
 use std::io;
 use std::io::{Read, Write};
-use std::net::Shutdown;
-use std::os::fd::{AsRawFd, RawFd};
-use std::os::unix::net::UnixStream;
+use std::os::fd::RawFd;
 use wl_told::Told;
 
 /// A socket, with what came of it and what went into it.
@@ -60,7 +59,7 @@ impl<S: Read + Write + Drop> ToldStream<S> {
     }
 }
 
-impl ToldStream<UnixStream> {
+impl ToldStream<Stream> {
     /// Has its calls wait, or not.
     pub(crate) fn set_nonblocking(&self, nonblocking: bool) -> io::Result<()> {
         self.stream.set_nonblocking(nonblocking)
@@ -68,11 +67,11 @@ impl ToldStream<UnixStream> {
 
     /// The socket.
     pub(crate) fn descriptor(&self) -> RawFd {
-        self.stream.as_raw_fd()
+        self.stream.descriptor()
     }
 
     /// Nothing more is written.
     pub(crate) fn shut(&self) -> io::Result<()> {
-        self.stream.shutdown(Shutdown::Write)
+        self.stream.shut()
     }
 }

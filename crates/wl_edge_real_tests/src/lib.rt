@@ -6,6 +6,8 @@ mod file_tests;
 #[cfg(test)]
 mod late_tests;
 #[cfg(test)]
+mod loopback_tests;
+#[cfg(test)]
 mod many_tests;
 #[cfg(test)]
 mod replacing_tests;

@@ -1,4 +1,4 @@
-use Rattle.std.proofs.Common.{◌≡◌, ◌<◌, ◌≤◌, [], ◌++◌, length}
+use Rattle.std.proofs.Common.{◌<◌, ◌≤◌, [], ◌++◌, length}
 use Rattle.json_members.proofs.Walks.{Reached}
 use Rattle.wl_config.specs.Sockets.{socket_of, SocketsWithin}
 use Rattle.wl_config.proofs.sockets.sockets.Given as goal
