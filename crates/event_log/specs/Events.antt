@@ -132,6 +132,8 @@ unfit_name unfit.TooLong = codes "too_long"
 unfit_name unfit.NoLeaf = codes "no_leaf"
 unfit_name unfit.OtherId = codes "other_id"
 unfit_name unfit.OtherTimes = codes "other_times"
+unfit_name unfit.EmptyToken = codes "empty_token"
+unfit_name unfit.TokenByte = codes "token_byte"
 
 -- RFC 9113, section 7
 unfoldable pub error_name : ErrorCode → List ℕ

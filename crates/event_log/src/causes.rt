@@ -1,7 +1,7 @@
 //! Why something failed. The causes of connections are those of [`figures`].
 
 use std::io::ErrorKind;
-use wl_entry::Unfit;
+use wl_entry::{JwtUnfit, Unfit};
 
 /// Why nobody listens at a path.
 #[derive(Clone, Copy, Debug, Drop, PartialEq, Eq)]
@@ -50,11 +50,11 @@ pub enum SignCause {
     NotAnAnswer,
     /// The document has no identity for the entry, and signs no token.
     NotInDocument,
-    /// The answer is an identity, which is of no use for this reason.
+    /// The answer is an identity or a token, which is of no use for this reason.
     Unfit(UnfitCause),
 }
 
-/// Why an identity is of no use for the ask for which it was signed.
+/// Why an identity, or a token, is of no use for the ask for which it was signed.
 #[derive(Clone, Copy, Debug, Drop, PartialEq, Eq)]
 pub enum UnfitCause {
     /// It ends at or before its begin.
@@ -65,7 +65,7 @@ pub enum UnfitCause {
     EmptyChain,
     /// It has no key.
     EmptyKey,
-    /// Chain and key are too long.
+    /// Chain and key are too long, or the token is.
     TooLong,
     /// The chain has no leaf that can be read.
     NoLeaf,
@@ -73,6 +73,10 @@ pub enum UnfitCause {
     OtherId,
     /// The leaf has other times than the signer says.
     OtherTimes,
+    /// The token has no byte.
+    EmptyToken,
+    /// A byte of the token may not stand in one.
+    TokenByte,
 }
 
 /// An error code of HTTP/2 (RFC 9113, section 7).
@@ -120,7 +124,18 @@ impl ErrorCode {
 }
 
 impl UnfitCause {
-    /// The cause of this reason.
+    /// The cause of this reason against a token.
+    pub fn of_token(reason: JwtUnfit) -> UnfitCause {
+        match reason {
+            JwtUnfit::Times => UnfitCause::Times,
+            JwtUnfit::Expired => UnfitCause::Expired,
+            JwtUnfit::Empty => UnfitCause::EmptyToken,
+            JwtUnfit::TokenByte(_) => UnfitCause::TokenByte,
+            JwtUnfit::TooLong(_) => UnfitCause::TooLong,
+        }
+    }
+
+    /// The cause of this reason against an identity.
     pub fn of_reason(reason: &Unfit) -> UnfitCause {
         match reason {
             Unfit::Times => UnfitCause::Times,

@@ -80,6 +80,8 @@ impl UnfitCause {
             UnfitCause::NoLeaf => b"no_leaf",
             UnfitCause::OtherId => b"other_id",
             UnfitCause::OtherTimes => b"other_times",
+            UnfitCause::EmptyToken => b"empty_token",
+            UnfitCause::TokenByte => b"token_byte",
         }
     }
 }

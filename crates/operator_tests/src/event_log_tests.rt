@@ -6,7 +6,7 @@ use spiffe_id::SpiffeId;
 use std::alloc::AllocGlobal;
 use std::io::ErrorKind;
 use std::process::Abort;
-use wl_entry::{Ask, Unfit};
+use wl_entry::{Ask, JwtUnfit, Unfit};
 use wl_octets::{Octets, Row};
 
 /// 2026-11-29T05:10:00Z.
@@ -91,6 +91,9 @@ fn ids_are_escaped_and_repeats_are_told(rt: HostRuntime) {
         &Event::SigningFailed(&ask, unfit),
         b"\\u00c3\" cause=unfit fault=other_id\n",
     );
+    let bad_byte = SignCause::Unfit(UnfitCause::of_token(JwtUnfit::TokenByte(1)));
+    let refused = Event::TokenFailed(&ask, bad_byte);
+    ends(&rt, &refused, b"\\u00c3\" cause=unfit fault=token_byte\n");
     drop(ask);
 }
 

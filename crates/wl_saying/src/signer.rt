@@ -157,19 +157,40 @@ impl AsksSaid {
         }
     }
 
-    /// Says what came of an ask for a token; this is why, where it failed.
-    fn note_token(&mut self, ask: &Ask, answer: &Result<JwtToken, EdgeFault>, cause: SignCause) {
+    /// Says that no token came for an ask that is of use.
+    fn say_no_token(&mut self, ask: &Ask, cause: SignCause, now: u64) {
+        self.note_failure(cause);
+        if let Some(held) = self.tokens.admit(&ask.entry_id, now) {
+            let event = Event::TokenFailed(ask, cause);
+            self.outlook.log().say_after(now, &event, held);
+        }
+    }
+
+    /// Says what came of an ask for a token, and whether that is one that is of use. This is why, where the ask failed.
+    fn note_token(
+        &mut self,
+        ask: &Ask,
+        answer: &Result<JwtToken, EdgeFault>,
+        cause: SignCause,
+    ) -> bool {
+        let now = self.outlook.log().now();
         match answer {
-            Ok(_) => self.note_answer(),
-            Err(EdgeFault::Failed) => {
-                self.note_failure(cause);
-                let now = self.outlook.log().now();
-                if let Some(held) = self.tokens.admit(&ask.entry_id, now) {
-                    let event = Event::TokenFailed(ask, cause);
-                    self.outlook.log().say_after(now, &event, held);
-                }
+            Ok(token) => {
+                self.note_answer();
+                let Some(reason) = token.unfit(now) else {
+                    return true;
+                };
+                self.say_no_token(ask, SignCause::Unfit(UnfitCause::of_token(reason)), now);
+                false
             }
-            Err(EdgeFault::Memory) => self.memory.say(self.outlook.log()),
+            Err(EdgeFault::Failed) => {
+                self.say_no_token(ask, cause, now);
+                false
+            }
+            Err(EdgeFault::Memory) => {
+                self.memory.say(self.outlook.log());
+                false
+            }
         }
     }
 }
@@ -219,8 +240,8 @@ impl<S: Signer + AskFailures + Drop> Signer for SayingSigner<S> {
     fn sign_jwt(&mut self, ask: &Ask, audience: &[Octets]) -> Result<JwtToken, EdgeFault> {
         let began = self.said.outlook.milliseconds();
         let answer = self.inner.sign_jwt(ask, audience);
-        self.said.count(SigningKind::Jwt, answer.is_ok(), began);
-        self.said.note_token(ask, &answer, self.inner.cause());
+        let is_signed = self.said.note_token(ask, &answer, self.inner.cause());
+        self.said.count(SigningKind::Jwt, is_signed, began);
         answer
     }
 }

@@ -17,7 +17,7 @@ use wl_edge::{
     MemoryUpstream, OpenGate, Script, Signer, Sink, Upstream,
 };
 use wl_edge_real::{BindFault, BoundAt, RealLink, Refusal, Stop};
-use wl_entry::{Ask, Signed};
+use wl_entry::{Ask, JwtToken, Signed};
 use wl_octets::{Memory, Octets, Row};
 use wl_outlook::{Callers, FaultLines, Outlook};
 use wl_saying::{
@@ -97,17 +97,27 @@ fn row_of<T: Drop>(rt: &(impl AllocGlobal + Abort), item: T) -> Row<T> {
     Row::from_vec(row)
 }
 
+/// A signer with these scripts.
+fn signer_of(
+    rt: &(impl AllocGlobal + Abort),
+    identities: Script<Signed>,
+    tokens: Script<JwtToken>,
+    outlook: Arc<Outlook>,
+) -> SayingSigner<MemorySigner> {
+    let alloc = rt.alloc();
+    let signer = MemorySigner::start(alloc, identities, tokens);
+    let is_failing = Arc::new(alloc, AtomicBool::new(false)).expect(rt, "flag");
+    SayingSigner::start(alloc, signer, outlook, is_failing)
+}
+
 /// A signer with this script for identities, and none for tokens.
 fn saying_signer(
     rt: &(impl AllocGlobal + Abort),
     identities: Script<Signed>,
     outlook: Arc<Outlook>,
 ) -> SayingSigner<MemorySigner> {
-    let alloc = rt.alloc();
-    let tokens = Script::start(Row::empty(alloc), Row::empty(alloc));
-    let signer = MemorySigner::start(alloc, identities, tokens);
-    let is_failing = Arc::new(alloc, AtomicBool::new(false)).expect(rt, "flag");
-    SayingSigner::start(alloc, signer, outlook, is_failing)
+    let tokens = Script::start(Row::empty(rt.alloc()), Row::empty(rt.alloc()));
+    signer_of(rt, identities, tokens, outlook)
 }
 
 /// The smallest certificate of `spiffe://a.b/w` up to its first time, from there to its second, and after that (RFC 5280, section 4.1).
@@ -265,6 +275,30 @@ fn unfit_identities_are_said_and_count_as_failed(rt: HostRuntime) {
         "level=warn event=signing_failed entry=\"e1\" cause=unfit fault=other_times;"
     );
     assert!(rt; is_answered && numbers(&rt, &outlook) == [0, 0, 1, 0]);
+}
+
+#[test]
+fn unfit_tokens_are_said_and_count_as_failed(rt: HostRuntime) {
+    let (outlook, ours, mut theirs) = watched(&rt, &rt);
+    let token = JwtToken {
+        token: Octets::from_slice(rt.alloc(), b"a b").expect(&rt, "token"),
+        issued_at: LONG_AGO.second,
+        expires_at: FARTHER_OFF.second,
+    };
+    let tokens = Script::start(row_of(&rt, token), Row::empty(rt.alloc()));
+    let identities = Script::start(Row::empty(rt.alloc()), Row::empty(rt.alloc()));
+    let mut saying = signer_of(&rt, identities, tokens, one_more(&rt, &outlook));
+    let ask = ask(&rt);
+    let is_answered = saying.sign_jwt(&ask, &[]).is_ok();
+    drop(ask);
+    drop(saying);
+    let said = lines_of(&rt, &mut theirs);
+    drop(ours);
+    assert_eq!(rt;
+        said.as_str(),
+        "level=warn event=token_failed entry=\"e1\" cause=unfit fault=token_byte;"
+    );
+    assert!(rt; is_answered && numbers(&rt, &outlook) == [0, 0, 0, 1]);
 }
 
 /// A listener that refuses each caller for this reason, and tells nothing.
