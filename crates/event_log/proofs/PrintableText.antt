@@ -175,6 +175,8 @@ unfit_printed unfit.TooLong = refl
 unfit_printed unfit.NoLeaf = refl
 unfit_printed unfit.OtherId = refl
 unfit_printed unfit.OtherTimes = refl
+unfit_printed unfit.EmptyToken = refl
+unfit_printed unfit.TokenByte = refl
 
 link_printed : (cause : LinkCause) → are_printed (link_name cause) ≡ true
 unfolding link_name
