@@ -43,10 +43,6 @@ answers_split (x ∷ xs) (y ∷ ys) u v s one other done all is =
 
 -- ---- outcomes
 
-some_ask : (P : JwtAsk → Type 0) (o : Option JwtAsk) → IsAsk P o → is_some o ≡ true
-some_ask P None is = absurd is
-some_ask P (Some a) is = refl
-
 -- a look that found none, before one that found an outcome
 not_found : (P : JwtAsk → Type 0) {Q : Type 0} (ask : Option JwtAsk) (y : JwtOutcome) (u v : List (Option JwtOutcome)) → IsAsk P ask → still ask ++ u ≡ Some y ∷ v → Q
 not_found P None y u v there is = absurd there

@@ -3,6 +3,7 @@ use Rattle.std.specs.Prelude.{◌≡◌, ◌⊎◌, ℕ, ◌+◌, ◌==◌, ◌�
 use Rattle.std.specs.List.{AllByRecursion}
 use Rattle.std.proofs.Common.{arith, refl, sym, ◌∙◌, ap, subst, ⊎_elim}
 use Rattle.std.proofs.lemmas.Bool.Decides.{nat_tests}
+use Rattle.list_laws.proofs.Elements.{all_such, all_append}
 use Rattle.wl_worker.specs.Owners.{owned_by, tag, one_apart}
 use Rattle.wl_worker.specs.Numbering.{Numbered, none_apart}
 use Rattle.wl_worker.proofs.Owners.{owned_append, own_tag, other_tag, tally_append, tally_mid, own_once, apart, each_other}
@@ -27,14 +28,6 @@ not_next : (next k : ℕ) → next + 1 ≤ k → one_apart next k ≡ 0
 not_next next k above = grind (arith, nat_tests, above)
 
 -- ---- all links
-
-pub each_weaker : {A : Type 0} (P Q : A → Type 0) (xs : List A) → ((x : A) → P x → Q x) → AllByRecursion P xs → AllByRecursion Q xs
-each_weaker P Q [] weaker all = tt
-each_weaker P Q (x ∷ xs) weaker all = (weaker x all.0, each_weaker P Q xs weaker all.1)
-
-pub each_append : {A : Type 0} (P : A → Type 0) (xs ys : List A) → AllByRecursion P xs → AllByRecursion P ys → AllByRecursion P (xs ++ ys)
-each_append P [] ys all more = more
-each_append P (x ∷ xs) ys all more = (all.0, each_append P xs ys all.1 more)
 
 each_without : {A : Type 0} (P : A → Type 0) (front back : List A) (x : A) → AllByRecursion P (front ++ x ∷ back) → AllByRecursion P (front ++ back) × P x
 each_without P [] back x all = (all.1, all.0)
@@ -122,7 +115,7 @@ finishes {U} {F} {R} runs full late running fulls lates rounds next o f n is =
       fresh = λ k above. omega (arith, n.fresh k above, tally_append k fulls ((o, f) ∷ []));
       owners = λ k none. n.owners k (omega (arith, none, tally_append k fulls ((o, f) ∷ [])));
       each_running = n.each_running;
-      each_full = each_append (λ (g : ℕ × F). full g.0 g.1 (owned_by g.0 rounds)) fulls ((o, f) ∷ []) n.each_full (is, tt);
+      each_full = all_append (λ (g : ℕ × F). full g.0 g.1 (owned_by g.0 rounds)) fulls ((o, f) ∷ []) n.each_full (is, tt);
       each_late = n.each_late;
     }
 
@@ -136,7 +129,7 @@ breaks {U} {F} {R} runs full late running fulls lates rounds next o f n is =
       owners = λ k none. n.owners k (omega (arith, none, tally_append k lates ((o, f) ∷ [])));
       each_running = n.each_running;
       each_full = n.each_full;
-      each_late = each_append (λ (g : ℕ × F). late g.0 g.1 (owned_by g.0 rounds)) lates ((o, f) ∷ []) n.each_late (is, tt);
+      each_late = all_append (λ (g : ℕ × F). late g.0 g.1 (owned_by g.0 rounds)) lates ((o, f) ∷ []) n.each_late (is, tt);
     }
 
 -- what holds of each link may follow from something else
@@ -148,7 +141,7 @@ weaken {U} {F} {R} runs runs_then full full_then late late_then aside running fu
       once = n.once;
       fresh = n.fresh;
       owners = n.owners;
-      each_running = each_weaker (λ (u : ℕ × U). runs u.0 u.1 (owned_by u.0 rounds)) (λ (u : ℕ × U). runs_then u.0 u.1 (owned_by u.0 rounds)) running (λ (u : ℕ × U) runs_on. a u.0 u.1 (owned_by u.0 rounds) runs_on) n.each_running;
-      each_full = each_weaker (λ (f : ℕ × F). full f.0 f.1 (owned_by f.0 rounds)) (λ (f : ℕ × F). full_then f.0 f.1 (owned_by f.0 rounds)) fulls (λ (f : ℕ × F) is. b f.0 f.1 (owned_by f.0 rounds) is) n.each_full;
-      each_late = each_weaker (λ (f : ℕ × F). late f.0 f.1 (owned_by f.0 rounds)) (λ (f : ℕ × F). late_then f.0 f.1 (owned_by f.0 rounds)) lates (λ (f : ℕ × F) is. c f.0 f.1 (owned_by f.0 rounds) is) n.each_late;
+      each_running = all_such (λ (u : ℕ × U). runs u.0 u.1 (owned_by u.0 rounds)) (λ (u : ℕ × U). runs_then u.0 u.1 (owned_by u.0 rounds)) running (λ (u : ℕ × U) runs_on. a u.0 u.1 (owned_by u.0 rounds) runs_on) n.each_running;
+      each_full = all_such (λ (f : ℕ × F). full f.0 f.1 (owned_by f.0 rounds)) (λ (f : ℕ × F). full_then f.0 f.1 (owned_by f.0 rounds)) fulls (λ (f : ℕ × F) is. b f.0 f.1 (owned_by f.0 rounds) is) n.each_full;
+      each_late = all_such (λ (f : ℕ × F). late f.0 f.1 (owned_by f.0 rounds)) (λ (f : ℕ × F). late_then f.0 f.1 (owned_by f.0 rounds)) lates (λ (f : ℕ × F) is. c f.0 f.1 (owned_by f.0 rounds) is) n.each_late;
     }

@@ -24,7 +24,7 @@ use Rattle.wl_publish.specs.Lists.{IsLast}
 use Rattle.wl_publish.specs.Listings.{Listing, listing}
 use Rattle.wl_desk.specs.Desks.{grown, noted}
 use Rattle.wl_edge.specs.declared.signer.SignerCall.TheVariants.{X509}
-use Rattle.wl_worker.specs.Upkeep.{ShowsState, IsTaken, IsRefused, IsShown}
+use Rattle.wl_worker.specs.Upkeep.{ShowsState, IsTaken, IsShown}
 
 -- ---- a document
 
@@ -94,10 +94,6 @@ fault_is_due (Base64 p) due other faults = faults
 fault_is_due NoOwnBundle due other faults = faults
 fault_is_due (TooMany p n) due other faults = faults
 fault_is_due (TooLong p n) due other faults = faults
-
-pub refused_is_due : (document : List ℕ) (list : List Publication) (m n : Stored) (e : DocFault) → IsLast list n.published → n ≡ m → (e ≡ Memory → ⊥) → Faults e (document_state (Some m.published.domain) document) → IsRefused document e list
-refused_is_due document list m n e last same other faults =
-    (m.published, subst (λ (k : Stored). IsLast list k.published) same last, fault_is_due e (document_state (Some m.published.domain) document) other faults)
 
 -- ---- an identity
 

@@ -15,7 +15,7 @@ use Rattle.wl_session.specs.declared.asks.JwtAsk.{JwtAsk}
 use Rattle.wl_session.specs.declared.asks.JwtOutcome.{JwtOutcome}
 use Rattle.wl_session.specs.declared.asks.SessionFault.{SessionFault}
 use Rattle.wl_session.specs.declared.asks.SessionFault.TheVariants as faults
-use Rattle.wl_session.specs.Sessions.{SessionState, Running, Fallen, OutOfMemory, unnamed_in, asks_in, failure_in}
+use Rattle.wl_session.specs.Sessions.{SessionState, Running, Fallen, OutOfMemory, unnamed_in, failure_in}
 use Rattle.wl_session.specs.Steps.{turn_told}
 use Rattle.wl_worker.specs.Rounds.{Round, then_told, heard_told, name_told_at, answer_told, answers_told, shown_told, outcomes_told, heard_session, named_session, turned_session, round_told, HaveCalls, HaveAsks, any_outcome, IsRound, IsWhole, IsIn}
 use Rattle.wl_worker.specs.Outcomes.{Asker, IsOutcome}
@@ -31,11 +31,6 @@ failed_unnamed : (s : SessionState) (f : SessionFault) → failure_in s ≡ Some
 failed_unnamed (Running e t shown) f is = absurd (cc is)
 failed_unnamed (Fallen fault begun) f is = refl
 failed_unnamed OutOfMemory f is = refl
-
-failed_asks : (s : SessionState) (f : SessionFault) → failure_in s ≡ Some f → asks_in s ≡ None
-failed_asks (Running e t shown) f is = absurd (cc is)
-failed_asks (Fallen fault begun) f is = refl
-failed_asks OutOfMemory f is = refl
 
 -- names go on
 answer_goes : (u : Option ℕ) (a : Option (List (List ℕ))) (s : SessionState) → failure_in s ≡ None → failure_in (name_told_at u a s).after ≡ None

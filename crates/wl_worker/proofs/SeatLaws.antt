@@ -2,6 +2,7 @@
 use Rattle.std.specs.Prelude.{◌≡◌, ◌⊎◌, ℕ, ◌+◌, ◌≤◌, List, [], ◌∷◌, ◌++◌, length, Option, Some, None, IfSome}
 use mathlib.Core.List.{IsPrefix}
 use Rattle.std.proofs.Common.{arith, refl, sym, ◌∙◌, ap, subst, append_assoc, length-append, ⊎_elim}
+use Rattle.std.proofs.lemmas.List.{nil_from_length}
 use Rattle.wl_entry.specs.declared.asks.Ask.{Ask}
 use Rattle.wl_entry.specs.declared.signing.Signed.{Signed}
 use Rattle.wl_entry.specs.declared.tokens.JwtToken.{JwtToken}
@@ -235,10 +236,6 @@ module _ (vouched : Ask → List (List ℕ) → JwtToken → Type 0) (mid new : 
   fully_longer f past is = (own_longer f.origin past is.0, fully_at f.log f.failed_receives f.failed_sends past is.1)
 
 -- ---- what was finished
-
-pub no_items : {A : Type 0} (xs : List A) → length xs ≡ 0 → xs ≡ []
-no_items [] none = refl
-no_items (x ∷ xs) none = absurd (omega (arith, none))
 
 finished_full : (fulls lates : List (ℕ × FinishedLink)) (o : ℕ) (f : FinishedLink) → lates ≡ [] → items_of (fulls ++ (o, f) ∷ []) ++ items_of lates ≡ (items_of fulls ++ items_of lates) ++ f ∷ []
 finished_full fulls lates o f none =
@@ -486,7 +483,7 @@ beside_gains {next} P Q vouched old mid new broken before after added more later
 pub beside_finishes : {next : ℕ} (vouched : Ask → List (List ℕ) → JwtToken → Type 0) (old mid new : SeatWorld) (before after : List Under) (f : FinishedLink) →
     Beside (λ k n past. TookFully k n f past) vouched next old mid 0 before after → without_listener new ≡ without_listener mid → Finishes mid.listener new.listener f → Tending vouched next old new 0 (before ++ after)
 beside_finishes {next} vouched old mid new before after f beside same ends =
-    let none : beside.lates ≡ [] = no_items beside.lates beside.count in
+    let none : beside.lates ≡ [] = nil_from_length beside.lates beside.count in
     let gained = finished_on old.listener mid.listener new.listener (items_of beside.fulls ++ items_of beside.lates) (length before + length after) f beside.gathers.listener ends in
     let listed = finished_full beside.fulls beside.lates beside.owner f none in
     record {
@@ -546,5 +543,5 @@ tending_tends {next} vouched room end old new broken held few ended =
       each_full = held.numbered.each_full;
       each_late = held.numbered.each_late;
       few = omega (arith, held.count, few);
-      none = λ is. no_items held.lates (held.count ∙ ended is);
+      none = λ is. nil_from_length held.lates (held.count ∙ ended is);
     }

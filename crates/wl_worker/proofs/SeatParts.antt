@@ -1,7 +1,7 @@
 -- What the parts of a seat's serving come to, one after another.
-use Rattle.std.specs.Prelude.{◌≡◌, ◌⊎◌, ⊤, ℕ, ◌+◌, ◌≤◌, ◌^◌, List, [], ◌∷◌, ◌++◌, length, drop, map, Option, Some, None, IfSome, is_some, Err, IsErrOf}
+use Rattle.std.specs.Prelude.{◌≡◌, ◌⊎◌, ⊤, ℕ, ◌+◌, ◌≤◌, ◌^◌, List, [], ◌∷◌, ◌++◌, length, Option, Some, None, IfSome, is_some, Err, IsErrOf}
 use Rattle.std.proofs.Common.{cond, arith, refl, sym, ◌∙◌, ap, subst, append_assoc, length-append, inl, inr}
-use Rattle.std.proofs.lemmas.List.{append-nil, map-append}
+use Rattle.std.proofs.lemmas.List.{append-nil}
 use Rattle.std.proofs.lemmas.List.Sums.{sum_by-cons}
 use mathlib.Core.List.{IsPrefix}
 use Rattle.wl_entry.specs.declared.asks.Ask.{Ask}
@@ -115,11 +115,6 @@ stays_silent (Some x) (Some y) same is = absurd (cc is)
 pub open_link : (told : Option ListenerLog) (n : ℕ) → HasOpen told (n + 1) → HasOpenLink told
 open_link None n is = tt
 open_link (Some log) n is = omega (arith, is)
-
-pub open_first : (told : Option ListenerLog) (u : Under) (xs : List Under) → HasOpen told (length (u ∷ xs)) → HasOpenLink told
-open_first told u xs is =
-    let one : length (u ∷ xs) ≡ length xs + 1 = omega arith in
-    open_link told (length xs) (subst (λ (n : ℕ). HasOpen told n) one is)
 
 -- a link that was just given may be
 pub open_new : (old new : Option ListenerLog) (n : ℕ) → (old ≡ None → new ≡ None) → IfSome old (λ log. new ≡ Some (with_kind log kind.Link)) → HasOpen old n → HasOpenLink new

@@ -1,21 +1,17 @@
 -- Links of a seat are taken out of the slab in which they stand, and put into it.
-use Rattle.std.specs.Prelude.{◌≡◌, ℕ, ◌+◌, ◌≤◌, List, [], ◌∷◌, ◌++◌, Option, Some, None, length}
-use Rattle.std.proofs.Common.{arith, refl, sym, ◌∙◌, ap, subst, length-append}
-use Rattle.std.specs.Prelude.{◌==◌, Bool, true}
-use Rattle.std.proofs.lemmas.List.{append-nil}
+use Rattle.std.specs.Prelude.{◌≡◌, ℕ, ◌+◌, ◌==◌, Bool, true, List, [], ◌∷◌, ◌++◌, Option, Some, None, length}
+use Rattle.std.proofs.Common.{arith, sym, ◌∙◌, ap, subst, length-append}
+use Rattle.std.proofs.lemmas.List.{append-nil, nil_from_length}
 use Rattle.std.proofs.lemmas.Bool.Decides.{nat_tests}
 use Rattle.wl_entry.specs.declared.asks.Ask.{Ask}
 use Rattle.wl_entry.specs.declared.tokens.JwtToken.{JwtToken}
 use Rattle.slab.specs.Slab.{Slab, get, slab_len, Updates}
 use Rattle.wl_edge.specs.Listeners.{ListenerLog, HasOpenLink}
 use Rattle.wl_worker.specs.Slots.{links_of}
-use Rattle.wl_worker.specs.Seating.{Under, SeatView, HasOpen, Goes, RestsAt, KeepsTending, FinishesTending, TendsBy, TendsOn}
-use Rattle.wl_worker.specs.declared.seat.SeatEnd.TheVariants as seat
-use Rattle.wl_worker.specs.declared.step.Step.{Step}
+use Rattle.wl_worker.specs.Seating.{Under, SeatView, HasOpen, Goes, KeepsTending, FinishesTending}
 use Rattle.wl_worker.specs.declared.step.Step.TheVariants as step
 use Rattle.wl_worker.proofs.SlotLinks.{Between, came, went, count_links}
 use Rattle.wl_worker.proofs.SeatParts.{goes_moved, goes_still, open_link}
-use Rattle.wl_worker.proofs.SeatLaws.{no_items}
 use Rattle.wl_worker.proofs.LinkParts.{keeps_moved, keeps_still, finishes_moved, finishes_still}
 
 module _ {T : Type 0} (f : T → Under) where
@@ -84,4 +80,4 @@ module _ {T : Type 0} (f : T → Under) where
   pub none_counted : (links : Slab T) (b : Bool) → b ≡ (slab_len links == 0) → b ≡ true → links_of f links.slots ≡ []
   none_counted links b is empty =
       let none : slab_len links ≡ 0 = grind (arith, nat_tests, is, empty) in
-      no_items (links_of f links.slots) (count_links f links.slots ∙ none)
+      nil_from_length (links_of f links.slots) (count_links f links.slots ∙ none)

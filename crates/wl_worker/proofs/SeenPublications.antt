@@ -103,11 +103,11 @@ seen_longer seen list s pre has = seen_by (last_shown s) has
 
 -- ---- rounds, as more is seen
 
-prefix_self : {A : Type 0} (xs : List A) → IsPrefix xs xs
-prefix_self xs = ([], append-nil xs)
+pub prefix_same : (xs : List Publication) → IsPrefix xs xs
+prefix_same xs = ([], append-nil xs)
 
 pub read_prefix : (valid : Ask → Signed → Type 0) (shown : Option Publication) (v w : Passing) → ReadIn valid shown v w → IsPrefix v.seen w.seen
-read_prefix valid None v w read = subst (λ (k : Passing). IsPrefix v.seen k.seen) (sym read) (prefix_self v.seen)
+read_prefix valid None v w read = subst (λ (k : Passing). IsPrefix v.seen k.seen) (sym read) (prefix_same v.seen)
 read_prefix valid (Some p) v w read = read.seen
 
 pub read_known : (valid : Ask → Signed → Type 0) (shown : Option Publication) (v w : Passing) → ReadIn valid shown v w → IsKnown w.seen shown
@@ -153,6 +153,3 @@ rises_over valid (Some x) v w past p read known is rising =
 
 pub prefix_then : (xs ys zs : List Publication) → IsPrefix xs ys → IsPrefix ys zs → IsPrefix xs zs
 prefix_then xs ys zs one other = (one.0 ++ other.0, sym (append_assoc xs one.0 other.0) ∙ (ap (λ (ps : List Publication). ps ++ other.0) one.1 ∙ other.1))
-
-pub prefix_same : (xs : List Publication) → IsPrefix xs xs
-prefix_same xs = prefix_self xs

@@ -1,6 +1,6 @@
 -- Laws of what a signer was asked so far.
-use Rattle.std.specs.Prelude.{◌≡◌, ◌≤◌, ℕ, List, [], ◌∷◌, ◌++◌, Option, Some, None, Result, Ok, Err}
-use Rattle.std.proofs.Common.{sym, ◌∙◌, ap, subst, append_assoc}
+use Rattle.std.specs.Prelude.{◌≡◌, ◌≤◌, ℕ, List, [], ◌∷◌, Option, Some, None, Result, Ok, Err}
+use Rattle.std.proofs.Common.{sym, ap, subst}
 use Rattle.wl_entry.specs.declared.asks.Ask.{Ask}
 use Rattle.ask_mail.specs.Mail.{Signs}
 use Rattle.ask_mail.specs.declared.mail.Asked.{Asked as TokenAsk}
@@ -18,12 +18,6 @@ use Rattle.wl_worker.specs.Upkeep.{Asks, AskedOn}
 pub none_asked : (told : Option (List SignerCall)) → AskedOn told told
 none_asked None = tt
 none_asked (Some calls) = ([], ap (λ l. Some l) (sym (none_after calls)))
-
-pub asked_more : (old mid new : Option (List SignerCall)) → AskedOn old mid → AskedOn mid new → AskedOn old new
-asked_more None mid new first next = tt
-asked_more (Some calls) mid new first next =
-    let after : AskedOn (Some (calls ++ first.0)) new = subst (λ (m : Option (List SignerCall)). AskedOn m new) first.1 next in
-    (first.0 ++ after.0, after.1 ∙ ap (λ l. Some l) (append_assoc calls first.0 after.0))
 
 gained : (old new : Option (List SignerCall)) (call : SignerCall) → Gains old new call → AskedOn old new
 gained None new call gains = tt

@@ -1,6 +1,7 @@
 -- Laws of links that stand in a slab: a key that changes changes one place of their list.
-use Rattle.std.specs.Prelude.{◌⊎◌, ◌+◌, count_by, is_some}
+use Rattle.std.specs.Prelude.{◌+◌, count_by, is_some}
 use Rattle.std.proofs.Common.{◌≡◌, ◌≢◌, ℕ, zero, suc, ◌<◌, ◌≤◌, List, [], ◌∷◌, ◌++◌, length, get_or, Option, Some, None, refl, sym, ap, ◌∙◌, arith, append_assoc, cond, ⊎_elim}
+use Rattle.std.proofs.lemmas.Bool.{cases_lt}
 use Rattle.std.proofs.lemmas.List.{get_or_past}
 use Rattle.std.proofs.lemmas.List.Recursion.{is_count_by}
 use Rattle.slab.proofs.SlabLemmas.{vacant_after_removal}
@@ -73,8 +74,5 @@ NoneBelow {T} s key = (k : ℕ) → k < key → get s k ≡ None
 pub none_next : {T : Type 0} (old new : Slab T) (key : ℕ) → Updates old new key None → NoneBelow old key → NoneBelow new (key + 1)
 none_next old new key updates below = λ k less. vacant_after_removal old new key k updates (λ differs. below k (omega (arith, less, differs)))
 
-either : (k n : ℕ) → (k < n) ⊎ (n ≤ k)
-either k n = grind (arith)
-
 pub none_at_all : {T U : Type 0} (f : T → U) (s : Slab T) (number capacity : ℕ) → NoneBelow s number → length s.slots ≤ capacity → capacity ≤ number → links_of f s.slots ≡ []
-none_at_all f s number capacity below within past = none_left f s.slots (λ k. ⊎_elim (λ (less : k < capacity). below k (omega (arith, less, past))) (λ (above : capacity ≤ k). get_or_past s.slots k None (omega (arith, above, within))) (either k capacity))
+none_at_all f s number capacity below within past = none_left f s.slots (λ k. ⊎_elim (λ (less : k < capacity). below k (omega (arith, less, past))) (λ (above : capacity ≤ k). get_or_past s.slots k None (omega (arith, above, within))) (cases_lt k capacity))

@@ -19,6 +19,7 @@ mod keeper;
 mod laws;
 mod naming;
 mod outcomes;
+mod outside;
 mod places;
 mod queue;
 mod seat;

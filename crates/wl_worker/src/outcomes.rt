@@ -7,10 +7,9 @@ ghost use Rattle.wl_session.specs.Sessions.{asks_in};
 ghost use Rattle.wl_worker.specs.Outcomes.{asker};
 ghost use Rattle.wl_worker.specs.Stepping.{Gives, IsGiven, OutcomeTells, SignedTells};
 
+use crate::outside::Caller;
 use ask_mail::{NoAnswer, TokenAsks};
-use std::alloc::Global;
-use std::sync::{Mutex, Wait};
-use wl_desk::Desk;
+use std::sync::Wait;
 use wl_edge::Clock;
 use wl_entry::{JwtToken, Voucher};
 use wl_octets::{Memory, Octets};
@@ -19,18 +18,17 @@ use wl_session::{JwtAsk, JwtOutcome, Session};
 /// A kept token of the ask that is fresh at this time. Of what a lock guards only its type's facts are
 /// known, so whether the token is fresh is tested here once more.
 fn kept<V: Voucher, R: Wait>(
-    rt: &R,
-    alloc: Global,
-    desk: &Mutex<Desk<V>>,
+    caller: &Caller<V, R>,
     ask: &JwtAsk,
     now: u64,
 ) -> Result<Option<JwtToken>, Memory>
     ensures vouched { IfOk result (λ t. IfSome t (V.token ask.now.ask (sorted_texts ask.now.audience))) }
     ensures fresh { IfOk result (λ t. IfSome t (λ t. is_still_fresh now t ≡ true)) }
 {
-    match desk
-        .lock(rt)
-        .token(alloc, &ask.ask, ask.audience.as_slice(), now)?
+    match caller
+        .desk
+        .lock(caller.rt)
+        .token(caller.alloc, &ask.ask, ask.audience.as_slice(), now)?
     {
         Some(token) if token.is_fresh(now) => Ok(Some(token)),
         _ => Ok(None),
@@ -38,20 +36,16 @@ fn kept<V: Voucher, R: Wait>(
 }
 
 /// A token is offered to those that are kept. Where it cannot be kept it is not.
-fn offer<V: Voucher, R: Wait>(
-    rt: &R,
-    alloc: Global,
-    desk: &Mutex<Desk<V>>,
-    ask: &JwtAsk,
-    token: &JwtToken,
-    now: u64,
-)
+fn offer<V: Voucher, R: Wait>(caller: &Caller<V, R>, ask: &JwtAsk, token: &JwtToken, now: u64)
     requires { V.token ask.now.ask (sorted_texts ask.now.audience) token.now }
 {
-    let Ok(copy) = token.copy(alloc) else { return };
-    match desk
-        .lock(rt)
-        .keep_token(alloc, &ask.ask, ask.audience.as_slice(), copy, now)
+    let Ok(copy) = token.copy(caller.alloc) else {
+        return
+    };
+    match caller
+        .desk
+        .lock(caller.rt)
+        .keep_token(caller.alloc, &ask.ask, ask.audience.as_slice(), copy, now)
     {
         Ok(_) | Err(Memory) => {}
     }
@@ -59,20 +53,18 @@ fn offer<V: Voucher, R: Wait>(
 
 /// What came for the ask; none where it waits on. A fit token is offered to those that are kept.
 fn came<T: TokenAsks, R: Wait>(
-    rt: &R,
-    alloc: Global,
-    desk: &Mutex<Desk<T::V>>,
+    caller: &Caller<T::V, R>,
     ask: &JwtAsk,
-    connection: u64,
     socket: u32,
     asks: &mut T,
     now: u64,
 ) -> Result<Option<JwtOutcome>, Memory>
-    ensures tells { SignedTells (asker connection T.V.token) ask.now now (T.taken asks.old) (T.taken asks.new)
-        (T.faults asks.old) (T.faults asks.new) result }
-    ensures waits { result ≡ Ok None → T.holds asks.new connection }
+    ensures tells { SignedTells (asker caller.now.connection T.V.token) ask.now now (T.taken asks.old)
+        (T.taken asks.new) (T.faults asks.old) (T.faults asks.new) result }
+    ensures waits { result ≡ Ok None → T.holds asks.new caller.now.connection }
 {
-    let token = match asks.look(rt, connection, socket, &ask.ask, ask.audience.as_slice()) {
+    let audience = ask.audience.as_slice();
+    let token = match asks.look(caller.rt, caller.connection, socket, &ask.ask, audience) {
         Ok(token) => token,
         Err(NoAnswer::Waits) => return Ok(None),
         Err(NoAnswer::Failed) => return Ok(Some(JwtOutcome::Failed)),
@@ -81,7 +73,7 @@ fn came<T: TokenAsks, R: Wait>(
     match token.unfit(now) {
         Some(unfit) => Ok(Some(JwtOutcome::Unfit(unfit))),
         None => {
-            offer(rt, alloc, desk, ask, &token, now);
+            offer(caller, ask, &token, now);
             Ok(Some(JwtOutcome::Token(token)))
         }
     }
@@ -89,32 +81,26 @@ fn came<T: TokenAsks, R: Wait>(
 
 /// What becomes of an ask: a kept token, or else what came for it.
 fn outcome<T: TokenAsks, C: Clock, R: Wait>(
-    rt: &R,
-    alloc: Global,
-    desk: &Mutex<Desk<T::V>>,
+    caller: &Caller<T::V, R>,
     ask: &JwtAsk,
-    connection: u64,
     socket: u32,
     asks: &mut T,
     clock: &mut C,
 ) -> Result<Option<JwtOutcome>, Memory>
-    ensures tells { OutcomeTells (asker connection T.V.token) ask.now (T.taken asks.old) (T.taken asks.new)
-        (T.faults asks.old) (T.faults asks.new) (C.answers clock.old) (C.answers clock.new) result }
-    ensures waits { result ≡ Ok None → T.holds asks.new connection }
+    ensures tells { OutcomeTells (asker caller.now.connection T.V.token) ask.now (T.taken asks.old)
+        (T.taken asks.new) (T.faults asks.old) (T.faults asks.new) (C.answers clock.old) (C.answers clock.new) result }
+    ensures waits { result ≡ Ok None → T.holds asks.new caller.now.connection }
 {
     let now = clock.now();
-    match kept(rt, alloc, desk, ask, now)? {
+    match kept(caller, ask, now)? {
         Some(token) => Ok(Some(JwtOutcome::Token(token))),
-        None => came(rt, alloc, desk, ask, connection, socket, asks, now),
+        None => came(caller, ask, socket, asks, now),
     }
 }
 
 /// The first ask that waits gets its outcome, where it came. False where it waits on.
 fn answer_one<T: TokenAsks, C: Clock, R: Wait>(
-    rt: &R,
-    alloc: Global,
-    desk: &Mutex<Desk<T::V>>,
-    connection: u64,
+    caller: &Caller<T::V, R>,
     socket: u32,
     asks: &mut T,
     clock: &mut C,
@@ -122,14 +108,14 @@ fn answer_one<T: TokenAsks, C: Clock, R: Wait>(
     out: &mut Octets,
 ) -> Result<bool, Memory>
     requires { IsSome (asks_in session.old) }
-    ensures gives { Gives (asker connection T.V.token) session.old session.new out.old out.new (T.taken asks.old)
-        (T.taken asks.new) (T.faults asks.old) (T.faults asks.new)
+    ensures gives { Gives (asker caller.now.connection T.V.token) session.old session.new out.old out.new
+        (T.taken asks.old) (T.taken asks.new) (T.faults asks.old) (T.faults asks.new)
         (C.answers clock.old) (C.answers clock.new) result }
     ensures given { result ≡ Ok true → IsGiven session.old session.new out.old out.new }
-    ensures waits { result ≡ Ok false → T.holds asks.new connection }
+    ensures waits { result ≡ Ok false → T.holds asks.new caller.now.connection }
 {
     let outcome = match session.asks() {
-        Some(ask) => outcome(rt, alloc, desk, ask, connection, socket, asks, clock)?,
+        Some(ask) => outcome(caller, ask, socket, asks, clock)?,
         None => unreachable!(),
     };
     match outcome {
@@ -144,29 +130,24 @@ fn answer_one<T: TokenAsks, C: Clock, R: Wait>(
 /// Each ask does, the first one first, while an outcome has come. The first one that has none waits on, with those after
 /// it. Out of memory some may be left.
 pub fn answer_ready<T: TokenAsks, C: Clock, R: Wait>(
-    rt: &R,
-    alloc: Global,
-    desk: &Mutex<Desk<T::V>>,
-    connection: u64,
+    caller: &Caller<T::V, R>,
     socket: u32,
     asks: &mut T,
     clock: &mut C,
     session: &mut Session,
     out: &mut Octets,
 ) -> Result<(), Memory>
-    ensures gives { Gives (asker connection T.V.token) session.old session.new out.old out.new (T.taken asks.old)
-        (T.taken asks.new) (T.faults asks.old) (T.faults asks.new)
+    ensures gives { Gives (asker caller.now.connection T.V.token) session.old session.new out.old out.new
+        (T.taken asks.old) (T.taken asks.new) (T.faults asks.old) (T.faults asks.new)
         (C.answers clock.old) (C.answers clock.new) result }
-    ensures all { OnOk result ((asks_in session.new ≡ None) ⊎ T.holds asks.new connection) }
+    ensures all { OnOk result ((asks_in session.new ≡ None) ⊎ T.holds asks.new caller.now.connection) }
 {
     'waiting: while session.asks().is_some() {
-        if !answer_one(
-            rt, alloc, desk, connection, socket, asks, clock, session, out,
-        )? {
+        if !answer_one(caller, socket, asks, clock, session, out)? {
             return Ok(());
         }
     }
     // what may still come is of an ask that is gone
-    asks.forget(rt, connection);
+    asks.forget(caller.rt, caller.connection);
     Ok(())
 }

@@ -9,6 +9,7 @@ ghost use Rattle.wl_worker.specs.Served.{RoundTells, around, HasSeenLast};
 
 use crate::ended::{Ended, RoundEnd};
 use crate::flush::{Flushed, flush};
+use crate::outside::{Caller, Outside};
 use crate::stepping::hear_and_step;
 use ask_mail::TokenAsks;
 use std::alloc::Global;
@@ -220,12 +221,11 @@ impl Served {
             return end;
         }
         let mut out = self.take_output();
-        let lent = buffer.bytes.as_mut_slice();
+        let caller = Caller::new(rt, self.alloc, desk, connection);
+        let mut outside = Outside::new(pass, attestor, asks, clock, gate);
         let session = &mut self.session;
-        if let Err(end) = hear_and_step(
-            rt, self.alloc, desk, pass, link, attestor, connection, asks, clock, gate, session,
-            lent, &mut out,
-        ) {
+        let lent = buffer.bytes.as_mut_slice();
+        if let Err(end) = hear_and_step(&caller, &mut outside, link, session, lent, &mut out) {
             return RoundEnd::Ended(end);
         }
         self.written = out;

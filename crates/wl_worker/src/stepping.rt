@@ -12,13 +12,12 @@ use crate::ended::Ended;
 use crate::hearing::hear;
 use crate::naming::attest_all;
 use crate::outcomes::answer_ready;
+use crate::outside::{Caller, Outside};
 use ask_mail::TokenAsks;
-use std::alloc::Global;
-use std::sync::{Mutex, Wait};
-use wl_desk::Desk;
+use std::sync::Wait;
 use wl_edge::{Attestor, BEFORE_TURN, Clock, Gate, Link, Origin};
 use wl_octets::{Memory, Octets};
-use wl_publish::{Pass, PublishedSnapshot};
+use wl_publish::PublishedSnapshot;
 use wl_session::{Session, SessionFault};
 
 /// A turn on the publication that was read, by the index of its entries.
@@ -45,47 +44,45 @@ fn take_turn(
 /// and answers the asks that wait, while an outcome has come. Where the talk fails there is no turn. What is
 /// to be sent is put after `out`; out of memory that is of no use. Where a call was attested, `attested` says so.
 pub fn step<A: Attestor, T: TokenAsks, C: Clock, G: Gate, R: Wait>(
-    rt: &R,
-    alloc: Global,
-    desk: &Mutex<Desk<T::V>>,
-    pass: &mut Pass<T::V>,
+    caller: &Caller<T::V, R>,
+    outside: &mut Outside<A, T, C, G>,
     origin: &Origin,
-    attestor: &mut A,
-    connection: u64,
-    asks: &mut T,
-    clock: &mut C,
-    gate: &G,
     piece: &[u8],
     session: &mut Session,
     out: &mut Octets,
     attested: &mut bool,
 ) -> Result<(), Memory>
-    requires { HasSeenLast pass.old.seen session.old }
-    ensures tells { StepTells T.V.signed (asker connection T.V.token) origin.now piece.now session.old session.new out.old out.new
-        (around (A.calls attestor.old) (A.faults attestor.old) (T.taken asks.old) (T.faults asks.old)
-        (C.answers clock.old) pass.old)
-        (around (A.calls attestor.new) (A.faults attestor.new) (T.taken asks.new) (T.faults asks.new)
-        (C.answers clock.new) pass.new)
+    requires { HasSeenLast outside.old.pass.now.seen session.old }
+    ensures tells { StepTells T.V.signed (asker caller.now.connection T.V.token) origin.now piece.now
+        session.old session.new out.old out.new
+        (around (A.calls outside.old.attestor.now) (A.faults outside.old.attestor.now)
+        (T.taken outside.old.asks.now) (T.faults outside.old.asks.now)
+        (C.answers outside.old.clock.now) outside.old.pass.now)
+        (around (A.calls outside.new.attestor.now) (A.faults outside.new.attestor.now)
+        (T.taken outside.new.asks.now) (T.faults outside.new.asks.now)
+        (C.answers outside.new.clock.now) outside.new.pass.now)
         result }
-    ensures waits { OnOk result ((asks_in session.new ≡ None) ⊎ T.holds asks.new connection) }
+    ensures waits { OnOk result ((asks_in session.new ≡ None)
+        ⊎ T.holds outside.new.asks.now caller.now.connection) }
+    ensures lent { (outside.new.pass.ghost_name ≡ outside.old.pass.ghost_name)
+        × (outside.new.attestor.ghost_name ≡ outside.old.attestor.ghost_name)
+        × (outside.new.asks.ghost_name ≡ outside.old.asks.ghost_name)
+        × (outside.new.clock.ghost_name ≡ outside.old.clock.ghost_name) }
 {
     match session.feed(piece, out) {
         Ok(()) => {}
         Err(SessionFault::Protocol(_)) => return Ok(()),
         Err(SessionFault::Memory) => return Err(Memory),
     }
-    attest_all(origin, attestor, session, out, attested)?;
-    gate.pass(BEFORE_TURN);
-    let published_snapshot = pass.read()?;
+    attest_all(origin, outside.attestor, session, out, attested)?;
+    outside.gate.pass(BEFORE_TURN);
+    let published_snapshot = outside.pass.read()?;
     take_turn(session, &published_snapshot, out)?;
     answer_ready(
-        rt,
-        alloc,
-        desk,
-        connection,
+        caller,
         origin.socket,
-        asks,
-        clock,
+        outside.asks,
+        outside.clock,
         session,
         out,
     )?;
@@ -108,36 +105,36 @@ fn note_attested<L: Link>(link: &mut L, attested: bool)
 /// Hears the link once, and takes a step with what came. `Closed` and `ReadFault` are of the link; then
 /// nothing else is done. Where a call was attested, that is noted at the link.
 pub fn hear_and_step<L: Link, A: Attestor, T: TokenAsks, C: Clock, G: Gate, R: Wait>(
-    rt: &R,
-    alloc: Global,
-    desk: &Mutex<Desk<T::V>>,
-    pass: &mut Pass<T::V>,
+    caller: &Caller<T::V, R>,
+    outside: &mut Outside<A, T, C, G>,
     link: &mut L,
-    attestor: &mut A,
-    connection: u64,
-    asks: &mut T,
-    clock: &mut C,
-    gate: &G,
     session: &mut Session,
     buffer: &mut [u8],
     out: &mut Octets,
 ) -> Result<(), Ended>
-    requires seen { HasSeenLast pass.old.seen session.old }
+    requires seen { HasSeenLast outside.old.pass.now.seen session.old }
     requires room { 0 < length buffer.old }
-    ensures tells { HearTells T.V.signed (asker connection T.V.token) (L.origin link.old) session.old session.new
-        out.old out.new (L.told link.old) (L.told link.new)
-        (around (A.calls attestor.old) (A.faults attestor.old) (T.taken asks.old) (T.faults asks.old)
-        (C.answers clock.old) pass.old)
-        (around (A.calls attestor.new) (A.faults attestor.new) (T.taken asks.new) (T.faults asks.new)
-        (C.answers clock.new) pass.new)
+    ensures tells { HearTells T.V.signed (asker caller.now.connection T.V.token) (L.origin link.old)
+        session.old session.new out.old out.new (L.told link.old) (L.told link.new)
+        (around (A.calls outside.old.attestor.now) (A.faults outside.old.attestor.now)
+        (T.taken outside.old.asks.now) (T.faults outside.old.asks.now)
+        (C.answers outside.old.clock.now) outside.old.pass.now)
+        (around (A.calls outside.new.attestor.now) (A.faults outside.new.attestor.now)
+        (T.taken outside.new.asks.now) (T.faults outside.new.asks.now)
+        (C.answers outside.new.clock.now) outside.new.pass.now)
         result }
-    ensures waits { OnOk result ((asks_in session.new ≡ None) ⊎ T.holds asks.new connection) }
+    ensures waits { OnOk result ((asks_in session.new ≡ None)
+        ⊎ T.holds outside.new.asks.now caller.now.connection) }
     ensures failed { result ≡ Err Ended.ReadFault
         → Rose (L.failed_receives link.old) (L.failed_receives link.new) }
     ensures receives { L.failed_receives link.old ≤ L.failed_receives link.new }
     ensures sends { L.failed_sends link.new ≡ L.failed_sends link.old }
     ensures stalls { L.stalls link.new ≡ L.stalls link.old }
     ensures origin { L.origin link.new ≡ L.origin link.old }
+    ensures lent { (outside.new.pass.ghost_name ≡ outside.old.pass.ghost_name)
+        × (outside.new.attestor.ghost_name ≡ outside.old.attestor.ghost_name)
+        × (outside.new.asks.ghost_name ≡ outside.old.asks.ghost_name)
+        × (outside.new.clock.ghost_name ≡ outside.old.clock.ghost_name) }
 {
     let count = match hear(link, buffer) {
         Ok(count) => count,
@@ -146,16 +143,9 @@ pub fn hear_and_step<L: Link, A: Attestor, T: TokenAsks, C: Clock, G: Gate, R: W
     let piece = buffer.split_at(count).0;
     let mut attested = false;
     match step(
-        rt,
-        alloc,
-        desk,
-        pass,
+        caller,
+        outside,
         link.origin(),
-        attestor,
-        connection,
-        asks,
-        clock,
-        gate,
         piece,
         session,
         out,

@@ -1,4 +1,4 @@
-use Rattle.wl_worker.specs.Outcomes.{asker}
+use Rattle.wl_worker.specs.Outcomes.{asker, Asker, IsOutcome}
 use Rattle.std.proofs.Common.{◌≡◌, ℕ, Bool, true, false, inr, List, [], ◌∷◌, Option, Some, None, Ok, Err, sym, subst}
 use Rattle.std.proofs.lemmas.Result.{err_from_is_err_and}
 use Rattle.wl_octets.specs.declared.memory.Memory.{Memory}
@@ -8,7 +8,6 @@ use Rattle.wl_session.specs.declared.asks.JwtOutcome.{JwtOutcome}
 use Rattle.wl_session.specs.declared.asks.SessionFault.{SessionFault}
 use Rattle.wl_session.specs.Sessions.{SessionState, asks_in, GivesOutcome}
 use Rattle.wl_worker.specs.Rounds.{IsAsk, HaveAsks, outcomes_told}
-use Rattle.wl_worker.specs.Outcomes.{Asker, IsOutcome}
 use Rattle.wl_worker.specs.Stepping.{OutcomeTells, Gives}
 use Rattle.wl_worker.proofs.Growth.{rose_later}
 use Rattle.wl_worker.proofs.SeenPublications.{keeps_self}
@@ -87,16 +86,16 @@ given_last vouched ask s new o p x y k n t u w f m told is gives =
 pub returns-in_err-outcome-in-Some-clause-gives : goal.returns-in_err-outcome-in-Some-clause-gives
 returns-in_err-outcome-in-Some-clause-gives g c =
     let p = err_from_is_err_and c.from_residual.result c.from_residual.ensures.1 in
-    rw p.1 (ungiven (asker c.args.connection g.T.V.Voucher.token) c.in-Some.ask.now c.args.session.now c.args.out.now _ _ _ _ _ _ c.in_err-outcome-in-Some.field-0.0 p.0 c.in_err-outcome-in-Some.ensures.tells)
+    rw p.1 (ungiven (asker c.args.caller.now.connection g.T.V.Voucher.token) c.in-Some.ask.now c.args.session.now c.args.out.now _ _ _ _ _ _ c.in_err-outcome-in-Some.field-0.0 p.0 c.in_err-outcome-in-Some.ensures.tells)
 
 pub returns-in-Ok-clause-gives : goal.returns-in-Ok-clause-gives
 returns-in-Ok-clause-gives g c =
-    given (asker c.args.connection g.T.V.Voucher.token) c.in-Some.ask.now _ _ _ _ _ _ _ _ _ _ c.in-Some-outcome.outcome (rw c.in-Some-outcome.is at c.in_ok-outcome-in-Some.ensures.tells) (sym c.in-Some.ensures) c.in-Ok.ensures
+    given (asker c.args.caller.now.connection g.T.V.Voucher.token) c.in-Some.ask.now _ _ _ _ _ _ _ _ _ _ c.in-Some-outcome.outcome (rw c.in-Some-outcome.is at c.in_ok-outcome-in-Some.ensures.tells) (sym c.in-Some.ensures) c.in-Ok.ensures
 
 pub returns-in-Err-clause-gives : goal.returns-in-Err-clause-gives
 returns-in-Err-clause-gives g c =
-    given_last (asker c.args.connection g.T.V.Voucher.token) c.in-Some.ask.now _ _ _ _ _ _ _ _ _ _ c.in-Some-outcome.outcome c.in-Err.field-0 (record {}) (rw c.in-Some-outcome.is at c.in_ok-outcome-in-Some.ensures.tells) (sym c.in-Some.ensures) c.in-Err.ensures
+    given_last (asker c.args.caller.now.connection g.T.V.Voucher.token) c.in-Some.ask.now _ _ _ _ _ _ _ _ _ _ c.in-Some-outcome.outcome c.in-Err.field-0 (record {}) (rw c.in-Some-outcome.is at c.in_ok-outcome-in-Some.ensures.tells) (sym c.in-Some.ensures) c.in-Err.ensures
 
 pub returns-in-None-outcome-clause-gives : goal.returns-in-None-outcome-clause-gives
 returns-in-None-outcome-clause-gives g c =
-    waiting (asker c.args.connection g.T.V.Voucher.token) c.in-Some.ask.now _ _ _ _ _ _ _ _ (rw c.in-None-outcome.is at c.in_ok-outcome-in-Some.ensures.tells)
+    waiting (asker c.args.caller.now.connection g.T.V.Voucher.token) c.in-Some.ask.now _ _ _ _ _ _ _ _ (rw c.in-None-outcome.is at c.in_ok-outcome-in-Some.ensures.tells)

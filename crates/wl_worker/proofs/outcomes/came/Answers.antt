@@ -1,5 +1,4 @@
-use Rattle.wl_worker.specs.Outcomes.{asker}
-use Rattle.wl_worker.specs.Outcomes.{Asker, GainsAll}
+use Rattle.wl_worker.specs.Outcomes.{asker, Asker, GainsAll}
 use Rattle.std.proofs.Common.{◌≡◌, ℕ, subst, inl, List, [], ◌∷◌, Option, Some, None, Ok, Err, refl, sym}
 use Rattle.std.specs.Prelude.{Result}
 use Rattle.wl_selector.specs.Selectors.{sorted_texts}
@@ -43,15 +42,15 @@ fit_token vouched ask time x y k n t told is fit =
 
 pub returns-in-Err-Failed-clause-tells : goal.returns-in-Err-Failed-clause-tells
 returns-in-Err-Failed-clause-tells g c =
-    no_token (asker c.args.connection g.T.V.Voucher.token) c.args.ask.now c.args.now _ _ _ _ (rw c.as_slice.ensures at (rw c.in-Err-Failed.field-0-is at c.in-Err-Failed.ensures.told))
+    no_token (asker c.args.caller.now.connection g.T.V.Voucher.token) c.args.ask.now c.args.now _ _ _ _ (rw c.as_slice-audience.ensures at (rw c.in-Err-Failed.field-0-is at c.in-Err-Failed.ensures.told))
 
 pub returns-in-Some-clause-tells : goal.returns-in-Some-clause-tells
-returns-in-Some-clause-tells g c = unfit_token (asker c.args.connection g.T.V.Voucher.token) c.args.ask.now c.args.now _ _ _ _ c.in-Ok.token c.in-Some.unfit (rw c.as_slice.ensures at c.in-Ok.ensures.told) (sym c.in-Some.ensures)
+returns-in-Some-clause-tells g c = unfit_token (asker c.args.caller.now.connection g.T.V.Voucher.token) c.args.ask.now c.args.now _ _ _ _ c.in-Ok.token c.in-Some.unfit (rw c.as_slice-audience.ensures at c.in-Ok.ensures.told) (sym c.in-Some.ensures)
 
 pub returns-in-None-clause-tells : goal.returns-in-None-clause-tells
 returns-in-None-clause-tells g c =
-    fit_token (asker c.args.connection g.T.V.Voucher.token) c.args.ask.now c.args.now _ _ _ _ c.in-Ok.token (rw c.as_slice.ensures at c.in-Ok.ensures.told) (rw c.as_slice.ensures at c.in-Ok.ensures.vouched) (sym c.in-None.ensures)
+    fit_token (asker c.args.caller.now.connection g.T.V.Voucher.token) c.args.ask.now c.args.now _ _ _ _ c.in-Ok.token (rw c.as_slice-audience.ensures at c.in-Ok.ensures.told) (rw c.as_slice-audience.ensures at c.in-Ok.ensures.vouched) (sym c.in-None.ensures)
 
 pub returns-in-Err-Waits-clause-tells : goal.returns-in-Err-Waits-clause-tells
 returns-in-Err-Waits-clause-tells g c =
-    none_yet (asker c.args.connection g.T.V.Voucher.token) c.args.ask.now c.args.now _ _ _ _ (rw c.as_slice.ensures at (rw c.in-Err-Waits.field-0-is at c.in-Err-Waits.ensures.told))
+    none_yet (asker c.args.caller.now.connection g.T.V.Voucher.token) c.args.ask.now c.args.now _ _ _ _ (rw c.as_slice-audience.ensures at (rw c.in-Err-Waits.field-0-is at c.in-Err-Waits.ensures.told))

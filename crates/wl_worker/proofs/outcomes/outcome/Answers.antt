@@ -1,5 +1,4 @@
-use Rattle.wl_worker.specs.Outcomes.{asker}
-use Rattle.wl_worker.specs.Outcomes.{Asker}
+use Rattle.wl_worker.specs.Outcomes.{asker, Asker}
 use Rattle.std.proofs.Common.{◌≡◌, ℕ, true, inl, inr, List, [], ◌∷◌, Option, Some, Ok, Err, refl, arith}
 use Rattle.std.specs.Prelude.{Result}
 use Rattle.std.proofs.lemmas.Result.{err_from_is_err_and}
@@ -33,12 +32,12 @@ signed_had vouched ask time x y k n t u r ticks told =
 pub returns-in_err-token-clause-tells : goal.returns-in_err-token-clause-tells
 returns-in_err-token-clause-tells g c =
     let p = err_from_is_err_and c.from_residual.result c.from_residual.ensures.1 in
-    rw p.1 (none_had (asker c.args.connection g.T.V.Voucher.token) c.args.ask.now c.now-now.result _ _ _ _ p.0 c.now-now.ensures)
+    rw p.1 (none_had (asker c.args.caller.now.connection g.T.V.Voucher.token) c.args.ask.now c.now-now.result _ _ _ _ p.0 c.now-now.ensures)
 
 pub returns-in-Some-clause-tells : goal.returns-in-Some-clause-tells
 returns-in-Some-clause-tells g c =
     let had = c.in_ok-token.ensures in
-    kept_had (asker c.args.connection g.T.V.Voucher.token) c.args.ask.now c.now-now.result _ _ _ _ c.in-Some.token c.now-now.ensures (rw c.in-Some.is at had.vouched) (rw c.in-Some.is at had.fresh)
+    kept_had (asker c.args.caller.now.connection g.T.V.Voucher.token) c.args.ask.now c.now-now.result _ _ _ _ c.in-Some.token c.now-now.ensures (rw c.in-Some.is at had.vouched) (rw c.in-Some.is at had.fresh)
 
 pub returns-in-None-clause-tells : goal.returns-in-None-clause-tells
-returns-in-None-clause-tells g c = signed_had (asker c.args.connection g.T.V.Voucher.token) c.args.ask.now c.now-now.result _ _ _ _ _ _ _ c.now-now.ensures c.came.ensures.tells
+returns-in-None-clause-tells g c = signed_had (asker c.args.caller.now.connection g.T.V.Voucher.token) c.args.ask.now c.now-now.result _ _ _ _ _ _ _ c.now-now.ensures c.came.ensures.tells
