@@ -1,3 +1,2 @@
 mod Leaves
 mod Top
-mod Rows

@@ -34,6 +34,10 @@ abbrev pub Reads : Shape → (List Text → List Row → Type 0) → List Text �
 Reads s R ws None = Faulty (level_fault s [] nothing_held ws false [])
 Reads s R ws (Some taken) = (level_fault s [] nothing_held ws false [] ≡ []) × R taken (rows_after s.rules [] ws)
 
+-- these operands are what is found
+abbrev pub Finds : (Text → List Row → List Text) → Text → List Text → List Row → Type 0
+Finds operands_in name ops rows = operands_in name rows ≡ ops
+
 pub no_flag : (a : Rule) → IsAsking a → (t : Bool) → AsksIfAny (if t then Some a else None)
 no_flag a is true = is
 no_flag a is false = tt

@@ -1,12 +1,12 @@
 -- What a walk makes of the words after a command: options are refused, and the first `--` is dropped.
-use Rattle.std.proofs.Common.{◌≡◌, ◌∙◌, ℕ, Bool, true, false, refl, sym, ap, ap₂, subst, arith, List, [], ◌∷◌, fold, Option, Some, None, option_map, true≢false}
-use Rattle.std.specs.Prelude.{◌||◌, ◌&&◌, slice_get, if◌then◌else◌, ⊤}
+use Rattle.std.proofs.Common.{◌≡◌, ◌∙◌, ℕ, Bool, true, false, refl, sym, ap, ap₂, subst, arith, List, [], ◌∷◌, fold, map, Option, Some, None, option_map, true≢false, Global}
+use Rattle.std.specs.Prelude.{String, string_bytes, ◌||◌, ◌&&◌, slice_get, if◌then◌else◌, ⊤}
 use Rattle.std.specs.Option.{option_map_or}
 use Rattle.std.specs.Str.{bytes_eq, chars, IsUtf8}
 use Rattle.std.proofs.Math.Utf8.{encodes}
 use Rattle.std.proofs.lemmas.Bool.{eqb-true}
 use Rattle.std.proofs.Math.Dec.{eqb}
-use Rattle.std.proofs.lemmas.Str.{IsUtf8-drop, IsCharBoundary-after_ascii, encodes-chars}
+use Rattle.std.proofs.lemmas.Str.{IsUtf8-string_bytes, IsUtf8-drop, IsCharBoundary-after_ascii, encodes-chars}
 use Rattle.clap.specs.Lexer.{long_of, short_of, name_and_value}
 use Rattle.clap.specs.Kinds.{Kinds, or_else}
 use Rattle.clap.specs.Walk.{Held, Row, Rule, Step, Text, Waiting, Walk, arg_by_index, arg_by_long, arg_by_short, is_multiple, idle, option, positional, value, after_step, word_met, plain_word, walked, to_positional, positional_held, next_position, subcommand_met, takes_values, settled, is_pending, takes_several, pushed, reacted}
@@ -201,6 +201,10 @@ trails_so (Some a) = refl
 abbrev pub AllTexts : List Text → Type 0
 AllTexts [] = ⊤
 AllTexts (w ∷ ws) = IsUtf8 w × AllTexts ws
+
+pub all_texts : (words : List (String Global)) → AllTexts (map string_bytes words)
+all_texts [] = tt
+all_texts (w ∷ ws) = (IsUtf8-string_bytes w, all_texts ws)
 
 -- the walk over these words
 abbrev pub walked_all : Shape → Walk → List Text → Walk

@@ -1,81 +1,55 @@
 -- What the words come to.
-use Rattle.std.proofs.Common.{◌≡◌, ◌∙◌, Bool, true, false, refl, sym, ap, ap₂, subst, codes, List, [], ◌∷◌, ◌++◌, fold, Option, Some, None, option_map}
-use Rattle.std.specs.Prelude.{option_and_then, is_some, if◌then◌else◌}
+use Rattle.std.proofs.Common.{◌≡◌, Bool, true, false, refl, sym, subst, codes, List, [], ◌∷◌, Option, Some, None}
+use Rattle.std.specs.Prelude.{option_and_then}
 use Rattle.std.specs.Str.{bytes_eq, IsUtf8}
-use Rattle.std.proofs.lemmas.List.{append_assoc, append-nil}
-use Rattle.std.proofs.lemmas.Bool.Decides.{Decides-like, same_from_decides}
 use Rattle.std.proofs.lemmas.Slice.Eq.{bytes_eq-Decides}
-use Rattle.clap.specs.Kinds.{Kinds, or_else}
-use Rattle.clap.specs.Walk.{Held, Names, Row, Rule, Step, Text, Walk, finished, has_long, has_short, idle, nothing_held, rows_after, settled, subcommand_met, value, walk, walk_from, walked, word_met}
-use Rattle.clap.specs.Simple.{Shape, built, entered, filled, help_rule, names_of, subcommand_of, version_rule, with_index}
-use Rattle.clap.specs.Faults.{check_fault, defaults_fault, entered_fault, fault_of, level_fault, other_fault, settle_fault, step_fault, turn_fault, walk_fault, word_fault}
-use Rattle.clap_words.specs.Operands.{is_option, operands}
-use Rattle.control_words.specs.Requests.{fitting, at_most_one_of, one_of, request_of, some_of}
+use Rattle.clap.specs.Walk.{Text, idle, nothing_held, subcommand_met, walked}
+use Rattle.clap.specs.Simple.{App, built, is_simple, names_of}
+use Rattle.clap.specs.Faults.{built_fault, defaults_fault, is_simple_and_free, walk_fault}
+use Rattle.clap_words.specs.Operands.{operands}
+use Rattle.clap_words.proofs.Past.{AllTexts, Faulty, dashes}
+use Rattle.clap_words.proofs.Top.{HasFlagsAlone, Leads, Parses, flipped, parses_at, two_flags, unnamed}
+use Rattle.control_words.specs.Requests.{fitting, at_most_one_of, one_of, some_of, request_of}
 use Rattle.control_words.specs.Commands.{wlctl, fetch, watch, health, health_watch}
 use Rattle.control_words.specs.Found.{operands_in}
-use Rattle.clap_words.proofs.Past.{AllTexts, AsksIfAny, Faulty, HasAskingFlags, IsAsking, dashes, first_faulty, not_long, not_short, option_faulty, then_faulty}
-use Rattle.clap_words.proofs.Levels.{Reads, no_flag}
-use Rattle.control_words.proofs.Leaves.{Finds, reads_fetch, reads_watch, reads_health, reads_health_watch, sub}
+use Rattle.control_words.proofs.Leaves.{reads_fetch, reads_watch, reads_health, reads_health_watch, sub}
 
-abbrev top : Shape
-top = (built wlctl).top
+abbrev pub app : App
+app = built wlctl
 
-abbrev names : Names
-names = names_of (built wlctl)
+pub is_free : is_simple_and_free wlctl ≡ true
+is_free = refl
 
--- the faults of all, by those of the first level's walk and by where it ended
-abbrev top_of : Kinds → Walk → Kinds
-top_of fault w = or_else fault (or_else (entered_fault (built wlctl) w.stopped) (or_else (settle_fault top.rules top.args_override_self w.held)
-    (or_else (defaults_fault (settled top.rules w.held).rows top.rules) (check_fault top (finished top.rules w.held) (is_some (entered (built wlctl) w.stopped))))))
-
-is_top : (words : List Text) → fault_of wlctl words ≡ top_of (walk_fault top names (walk_from nothing_held) words) (walk top.rules names nothing_held words)
-is_top words = refl
+pub is_plain : is_simple wlctl ≡ true
+is_plain = refl
 
 -- ---- after a command's name
 
-abbrev stopped_at : Text → List Text → Walk
-stopped_at name done = record { held = nothing_held; waiting = idle; position = 1; is_trailing = false; stopped = Some (name, done) }
-
-more_words : (name : Text) (ws done : List Text) → (walk_fault top names (stopped_at name done) ws ≡ []) × (fold (walked top.rules names) (stopped_at name done) ws ≡ stopped_at name (done ++ ws))
-unfolding walk_fault walked
-more_words name [] done = (refl, ap (stopped_at name) (sym (append-nil done)))
-more_words name (w ∷ ws) done =
-    let rest = more_words name ws (done ++ w ∷ []) in
-    (rest.0, rest.1 ∙ ap (stopped_at name) (append_assoc done (w ∷ []) ws))
-
--- the name leads to this subcommand
-pub record Leads (name : Text) (s : Shape) : Type 0 where
-  pub turn : turn_fault top names (walk_from nothing_held) name ≡ []
-  pub stops : walked top.rules names (walk_from nothing_held) name ≡ stopped_at name []
-  pub faults : (ws : List Text) → top_of [] (stopped_at name ws) ≡ or_else (level_fault s [] nothing_held ws false []) []
-  pub finds : (ws : List Text) → entered (built wlctl) (Some (name, ws)) ≡ Some (name, rows_after s.rules [] ws)
-
-pub leads_fault : (name : Text) (s : Shape) → Leads name s → (ws : List Text) → fault_of wlctl (name ∷ ws) ≡ or_else (level_fault s [] nothing_held ws false []) []
-unfolding walk_fault
-leads_fault name s l ws =
-    ap₂ top_of (ap₂ or_else l.turn (ap (λ w. walk_fault top names w ws) l.stops ∙ (more_words name ws []).0)) (ap (λ w. fold (walked top.rules names) w ws) l.stops ∙ (more_words name ws []).1)
-    ∙ l.faults ws
-
-pub leads_rows : (name : Text) (s : Shape) → Leads name s → (ws : List Text) → subcommand_of wlctl (name ∷ ws) ≡ Some (name, rows_after s.rules [] ws)
-leads_rows name s l ws = ap (λ (w : Walk). entered (built wlctl) w.stopped) (ap (λ w. fold (walked top.rules names) w ws) l.stops ∙ (more_words name ws []).1) ∙ l.finds ws
-
-pub leads_fetch : Leads (codes "fetch") (sub fetch)
+leads_fetch : Leads app (codes "fetch") (sub fetch)
 unfolding walked defaults_fault
 leads_fetch = record { turn = refl; stops = refl; faults = λ ws. refl; finds = λ ws. refl }
 
-pub leads_watch : Leads (codes "watch") (sub watch)
+leads_watch : Leads app (codes "watch") (sub watch)
 unfolding walked defaults_fault
 leads_watch = record { turn = refl; stops = refl; faults = λ ws. refl; finds = λ ws. refl }
 
-pub leads_health : Leads (codes "health") (sub health)
+leads_health : Leads app (codes "health") (sub health)
 unfolding walked defaults_fault
 leads_health = record { turn = refl; stops = refl; faults = λ ws. refl; finds = λ ws. refl }
 
-pub leads_health_watch : Leads (codes "health-watch") (sub health_watch)
+leads_health_watch : Leads app (codes "health-watch") (sub health_watch)
 unfolding walked defaults_fault
 leads_health_watch = record { turn = refl; stops = refl; faults = λ ws. refl; finds = λ ws. refl }
 
 -- ---- a first word that isn't a command's name
+
+alone : HasFlagsAlone app
+unfolding walk_fault walked defaults_fault
+alone = record { flags = two_flags; operand = tt; past_dashes = go }
+  where
+    go : (ws : List Text) → Faulty (built_fault app nothing_held (dashes ∷ ws))
+    go [] = tt
+    go (w ∷ ws) = tt
 
 record IsOther (w : Text) : Type 0 where
   fetch : bytes_eq (codes "fetch") w ≡ false
@@ -83,77 +57,13 @@ record IsOther (w : Text) : Type 0 where
   health : bytes_eq (codes "health") w ≡ false
   health_watch : bytes_eq (codes "health-watch") w ≡ false
 
-no_name : (w : Text) → IsOther w → subcommand_met names idle w ≡ None
+no_name : (w : Text) → IsOther w → subcommand_met (names_of app) idle w ≡ None
 no_name w o = rw (o.fetch, o.watch, o.health, o.health_watch) refl
-
-one_asks : (a : Rule) (found : Option Rule) → IsAsking a → AsksIfAny found → (t : Bool) → AsksIfAny (if t then Some a else found)
-one_asks a found is rest true = is
-one_asks a found is rest false = rest
-
-abbrev help_flag : Rule
-help_flag = with_index 1 (filled help_rule)
-
-abbrev version_flag : Rule
-version_flag = with_index 1 (filled version_rule)
-
-asks_help : IsAsking help_flag
-asks_help = record { flag = refl; asks = λ again rows. tt }
-
-asks_version : IsAsking version_flag
-asks_version = record { flag = refl; asks = λ again rows. tt }
-
-top_flags : HasAskingFlags top.rules
-top_flags = record {
-  long = λ name. one_asks help_flag (if has_long version_flag name then Some version_flag else None) asks_help (no_flag version_flag asks_version (has_long version_flag name)) (has_long help_flag name);
-  short = λ x. one_asks help_flag (if has_short version_flag x then Some version_flag else None) asks_help (no_flag version_flag asks_version (has_short version_flag x)) (has_short help_flag x);
-  trails = λ i. refl;
-}
-
-module _ (w : Text) (o : IsOther w) where
-  stray_met : is_option w ≡ false → bytes_eq w dashes ≡ false → word_met top.rules names false idle 1 w nothing_held ≡ (nothing_held, value)
-  stray_met is other = rw (no_name w o, other, not_long w is, not_short w is) refl
-
-  other_turn : IsUtf8 w → (t : Bool) → is_option w ≡ t → bytes_eq w dashes ≡ false → Faulty (turn_fault top names (walk_from nothing_held) w)
-  other_turn u true is other =
-      first_faulty (word_fault top names false idle w nothing_held) (step_fault top 1 (word_met top.rules names false idle 1 w nothing_held).0 (word_met top.rules names false idle 1 w nothing_held).1)
-      (subst (λ met. Faulty (other_fault top met w nothing_held)) (sym (no_name w o)) (option_faulty top top_flags w u nothing_held refl is other))
-  other_turn u false is other =
-      then_faulty (word_fault top names false idle w nothing_held) (step_fault top 1 (word_met top.rules names false idle 1 w nothing_held).0 (word_met top.rules names false idle 1 w nothing_held).1)
-      (subst (λ (m : Held × Step). Faulty (step_fault top 1 m.0 m.1)) (sym (stray_met is other)) tt)
-
-  dashes_first : (ws : List Text) → bytes_eq w dashes ≡ true → Faulty (fault_of wlctl (w ∷ ws))
-  unfolding walk_fault walked defaults_fault
-  dashes_first ws e = subst (λ v. Faulty (fault_of wlctl (v ∷ ws))) (sym ((bytes_eq-Decides w dashes).0 e)) (go ws)
-    where
-      go : (ws : List Text) → Faulty (fault_of wlctl (dashes ∷ ws))
-      go [] = tt
-      go (x ∷ xs) = tt
-
-  other_first : (ws : List Text) → IsUtf8 w → (t : Bool) → bytes_eq w dashes ≡ t → Faulty (fault_of wlctl (w ∷ ws))
-  unfolding walk_fault
-  other_first ws u true e = dashes_first ws e
-  other_first ws u false e = first_faulty (walk_fault top names (walk_from nothing_held) (w ∷ ws)) _
-      (first_faulty (turn_fault top names (walk_from nothing_held) w) _ (other_turn u (is_option w) refl e))
 
 -- ---- all words
 
--- The words are refused where they aren't a request; else what is found is the request.
-abbrev pub Parses : List Text → Option (Text × List Text) → Type 0
-Parses words None = Faulty (fault_of wlctl words)
-Parses words (Some p) = (fault_of wlctl words ≡ []) × ((rows : List Row) × (subcommand_of wlctl words ≡ Some (p.0, rows)) × (operands_in p.0 rows ≡ p.1))
-
-parses_at : (name : Text) (s : Shape) → Leads name s → (ws : List Text) (taken : Option (List Text)) → Reads s (Finds name) ws taken → Parses (name ∷ ws) (option_map (λ ops. (name, ops)) taken)
-parses_at name s l ws None r = subst Faulty (sym (leads_fault name s l ws)) (first_faulty (level_fault s [] nothing_held ws false []) [] r)
-parses_at name s l ws (Some ops) r = (leads_fault name s l ws ∙ ap (λ k. or_else k []) r.0, (rows_after s.rules [] ws, leads_rows name s l ws, r.1))
-
 abbrev Wanted : Text → List Text → Type 0
-Wanted w ws = Parses (w ∷ ws) (request_of (w ∷ ws))
-
-flipped : (name w : Text) → bytes_eq w name ≡ false → bytes_eq name w ≡ false
-flipped name w e = same_from_decides (bytes_eq name w) (bytes_eq w name) (bytes_eq-Decides name w) (Decides-like (bytes_eq w name) sym sym (bytes_eq-Decides w name)) ∙ e
-
-unnamed : (w : Text) (ws : List Text) → IsUtf8 w → IsOther w → (o : Option (List Text)) → option_and_then (fitting w) o ≡ None → Parses (w ∷ ws) (option_map (λ ops. (w, ops)) (option_and_then (fitting w) o))
-unnamed w ws u o found none = rw none (other_first w o ws u (bytes_eq w dashes) refl)
+Wanted w ws = Parses app operands_in (w ∷ ws) (request_of (w ∷ ws))
 
 nothing_fits : (w : Text) → bytes_eq w (codes "fetch") ≡ false → bytes_eq w (codes "watch") ≡ false → bytes_eq w (codes "health") ≡ false → bytes_eq w (codes "health-watch") ≡ false
     → (o : Option (List Text)) → option_and_then (fitting w) o ≡ None
@@ -165,15 +75,15 @@ module _ (w : Text) (ws : List Text) (u : IsUtf8 w) (us : AllTexts ws) where
   at_name name e h = subst (λ v. Wanted v ws) (sym ((bytes_eq-Decides w name).0 e)) h
 
   by_name : (f a h v : Bool) → bytes_eq w (codes "fetch") ≡ f → bytes_eq w (codes "watch") ≡ a → bytes_eq w (codes "health") ≡ h → bytes_eq w (codes "health-watch") ≡ v → Wanted w ws
-  by_name true a h v ef ea eh ev = at_name (codes "fetch") ef (parses_at (codes "fetch") (sub fetch) leads_fetch ws (option_and_then some_of (operands ws)) (reads_fetch ws us))
-  by_name false true h v ef ea eh ev = at_name (codes "watch") ea (parses_at (codes "watch") (sub watch) leads_watch ws (option_and_then at_most_one_of (operands ws)) (reads_watch ws us))
-  by_name false false true v ef ea eh ev = at_name (codes "health") eh (parses_at (codes "health") (sub health) leads_health ws (option_and_then at_most_one_of (operands ws)) (reads_health ws us))
-  by_name false false false true ef ea eh ev = at_name (codes "health-watch") ev (parses_at (codes "health-watch") (sub health_watch) leads_health_watch ws (option_and_then one_of (operands ws)) (reads_health_watch ws us))
+  by_name true a h v ef ea eh ev = at_name (codes "fetch") ef (parses_at app operands_in (codes "fetch") (sub fetch) leads_fetch ws (option_and_then some_of (operands ws)) (reads_fetch ws us))
+  by_name false true h v ef ea eh ev = at_name (codes "watch") ea (parses_at app operands_in (codes "watch") (sub watch) leads_watch ws (option_and_then at_most_one_of (operands ws)) (reads_watch ws us))
+  by_name false false true v ef ea eh ev = at_name (codes "health") eh (parses_at app operands_in (codes "health") (sub health) leads_health ws (option_and_then at_most_one_of (operands ws)) (reads_health ws us))
+  by_name false false false true ef ea eh ev = at_name (codes "health-watch") ev (parses_at app operands_in (codes "health-watch") (sub health_watch) leads_health_watch ws (option_and_then one_of (operands ws)) (reads_health_watch ws us))
   by_name false false false false ef ea eh ev =
       let o : IsOther w = record { fetch = flipped _ w ef; watch = flipped _ w ea; health = flipped _ w eh; health_watch = flipped _ w ev } in
-      unnamed w ws u o (operands ws) (nothing_fits w ef ea eh ev (operands ws))
+      unnamed app operands_in alone w ws u (no_name w o) (option_and_then (fitting w) (operands ws)) (nothing_fits w ef ea eh ev (operands ws))
 
-pub parses : (words : List Text) → AllTexts words → Parses words (request_of words)
+pub parses : (words : List Text) → AllTexts words → Parses app operands_in words (request_of words)
 unfolding walk_fault walked defaults_fault
 parses [] us = tt
 parses (w ∷ ws) us = by_name w ws us.0 us.1 _ _ _ _ refl refl refl refl

@@ -188,7 +188,7 @@ low_of h u e l = rw e at l
 pub is_low : (q : State) (u : OpenBlock) → q.open_block ≡ Some u → Sound q → u.stream < 2 ^ 31
 is_low q u e s = low_of q.open_block u e s.low
 
-at_cond : (P : State → Type 0) (b : Bool) (x y : State) → P x → P y → P (cond b x y)
+pub at_cond : (P : State → Type 0) (b : Bool) (x y : State) → P x → P y → P (cond b x y)
 at_cond P true x y h k = h
 at_cond P false x y h k = k
 

@@ -29,7 +29,7 @@ use Rattle.wl_session.specs.declared.served.ServedCall.{ServedCall}
 use Rattle.wl_session.specs.Kinds.{was_seen}
 use Rattle.wl_session.specs.Answering.{Turned, goes_on, has_ended, with_head, with_refusal, with_message, with_last_message, stream_answer, health_of, token_answer, check_answer, call_answer, stage_turn, call_turn, calls_turn}
 use Rattle.wl_session.specs.Tokens.{change_first, is_unnamed, name_call, name_stage, name_on, name_first, is_asking, item_for, token_message, next_ask, give_call, give_stage, give_on, give_first}
-use Rattle.wl_responses.proofs.Asides.{first_here, first_later, first_none}
+use Rattle.wl_session.proofs.Attestations.{first_here, first_later, first_of_none}
 
 -- it holds on through each thing that is given to a connection
 pub record Lasts (Q : Phase → Type 0) : Type 0 where
@@ -104,7 +104,7 @@ module _ (Q : Phase → Type 0) (lasts : Lasts Q) where
   -- ---- the first of a kind
 
   l_first : (test : ServedCall → Bool) (change : ServedCall → Phase → Turned) → ((c : ServedCall) (p : Phase) → Q p → Q (change c p).phase) → (cs : List ServedCall) (p : Phase) → Q p → Q (change_first test change cs p).phase
-  l_first test change go [] p h = rw (first_none test change p) h
+  l_first test change go [] p h = rw (first_of_none test change p) h
   l_first test change go (c ∷ cs) p h =
       elim (cases_Bool (test c)) [
         | inl here ↦ rw (first_here test change c cs p here) (go c p h)

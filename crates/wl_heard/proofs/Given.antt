@@ -11,7 +11,7 @@ use Rattle.h2_conn.specs.Streams.{is_live, is_remote_closed, with_local_closed}
 use Rattle.h2_conn.specs.Peer.{with_control_frame, without_live_stream}
 use Rattle.h2_conn.specs.Sound.{Sound, SoundPhase}
 use Rattle.h2_conn.specs.Conns.{takes, with_head_on, with_trailers_on, with_message_on, without_waiting_on, after_reset, on_open, offers, withdraws, answer_ends, answers_end, ends_reset_count, after_pull, flush_of}
-use Rattle.h2_conn.proofs.Sounds.{there_is, s_headed_on, s_finished_on, s_offered_on, s_withdrawn_on, s_reset_by}
+use Rattle.h2_conn.proofs.Sounds.{there_is, s_headed_on, s_finished_on, s_offered_on, s_withdrawn_on, s_reset_by, at_cond}
 use Rattle.grpc_wire.specs.Messages.{framed}
 use Rattle.grpc_wire.specs.Answers.{response_fields, trailer_fields, refused_fields}
 use Rattle.grpc_wire.specs.declared.refusal.Refusal.{Refusal}
@@ -177,10 +177,6 @@ last_only headed m g p sound h =
 closed_only : (P : Stream → Type 0) (n : ℕ) (q : State) → OnlyOf P q.outbox.streams → OnlyOf P (without_live_stream n q).outbox.streams
 unfolding without_live_stream without_stream
 closed_only P n q h = only_filter P (λ s. not (is_number n s)) q.outbox.streams h
-
-at_cond : (P : State → Type 0) (b : Bool) (x y : State) → P x → P y → P (cond b x y)
-at_cond P true x y h k = h
-at_cond P false x y h k = k
 
 pub reset_only : (P : Stream → Type 0) (n code : ℕ) (p : Phase) → OnlyOn P p → OnlyOn P (on_open (after_reset n code) p)
 unfolding after_reset with_control

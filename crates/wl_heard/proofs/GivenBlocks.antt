@@ -1,5 +1,5 @@
 -- The last block of each stream is that of an ending that its call was given.
-use Rattle.std.proofs.Common.{◌≡◌, inl, inr, ℕ, ◌==◌, ℤ, Bool, true, false, not, List, [], ◌∷◌, find, Option, Some, None, refl, sym, ap, subst, ◌∙◌, eq-eqb, eqb-true}
+use Rattle.std.proofs.Common.{◌≡◌, inl, inr, ℕ, ◌==◌, Bool, true, false, not, List, [], ◌∷◌, find, Option, Some, None, refl, sym, ap, subst, ◌∙◌, eq-eqb, eqb-true}
 use Rattle.std.specs.List.{AllByRecursion}
 use Rattle.std.proofs.lemmas.Bool.{cases_Bool}
 use Rattle.wl_octets.specs.declared.header.Header.{Header}
@@ -16,7 +16,6 @@ use Rattle.h2_conn.specs.Conns.{told_list, result_of, frame_result, after_frame_
 use Rattle.h2_conn.specs.Kinds.{Fits}
 use Rattle.h2_conn.specs.Peer.{Outcome, goes, fails, peer}
 use Rattle.h2_conn.specs.Sound.{SoundPhase}
-use Rattle.h2_conn.proofs.Carries.{frame_carries}
 use Rattle.grpc_wire.specs.Answers.{response_fields, trailer_fields, refused_fields}
 use Rattle.grpc_wire.specs.declared.refusal.Refusal.{Refusal}
 use Rattle.grpc_conn.specs.declared.event.CallEvent.{CallEvent}
@@ -32,13 +31,15 @@ use Rattle.wl_session.specs.Answering.{Turned}
 use Rattle.wl_session.specs.Tokens.{change_first, is_unnamed, name_on, name_first, stream_of, first_unnamed, is_asking, give_on, give_first}
 use Rattle.wl_session.specs.Talks.{Talking, after_event, after_body, after_happening, after_happenings, after_frame, written, frame_said, break_said}
 use Rattle.wl_session.specs.Sessions.{turn_said, name_said, given_said}
+use Rattle.wl_session.proofs.Attestations.{first_here, first_later, first_of_none}
 use Rattle.wl_responses.specs.Steps.{Step, FrameCame, BytesBroke, CallAttested, TurnTaken, OutcomeCame, step_said, talk_after, AllFit, unwritten, frames_of}
 use Rattle.wl_responses.specs.Replies.{stage_on}
 use Rattle.wl_responses.specs.Statuses.{On, OnPhase, Ending, GoesOn, IsRefused, IsAnswered, HasEnding, stream_told, event_told, ending_at, is_headed, ending_named, ending_given}
 use Rattle.wl_responses.proofs.OutboxStreams.{differ, phase_weaker, head_on, trailers_on, message_on, withdrawn_on, reset_on}
-use Rattle.wl_responses.proofs.Asides.{NoneOn, Aside, over, on, refusal_apart, calls_aside, name_aside, give_aside, first_here, first_later, first_none}
-use Rattle.wl_responses.proofs.Endings.{turns_give, names_give, tokens_give}
+use Rattle.wl_responses.proofs.Asides.{NoneOn, Aside, over, on, refusal_apart, calls_aside, name_aside, give_aside}
+use Rattle.wl_responses.proofs.Endings.{turns_give, names_give, tokens_give, call_is, found_has}
 use Rattle.wl_responses.proofs.Verdicts.{verdicts_give}
+use Rattle.wl_responses.proofs.Peers.{IsFree, frame_any}
 use Rattle.wl_heard.specs.Statuses.{IsGivenAt, by_verdict, by_attestor, by_view, by_token, Closes, ClosesCall}
 use Rattle.wl_heard.proofs.ConnectionFacts.{Lasts, l_refusal, l_turns, l_names, l_gives}
 use Rattle.wl_heard.proofs.Tidy.{Tidy}
@@ -115,26 +116,14 @@ aside_leaves : (k n : ℕ) (P : flow.Stream → Type 0) (p : Phase) (r : Turned)
 aside_leaves k n P p _ other (over q stands apart) h = apart n other P h
 aside_leaves k n P p _ other (on stage q stands apart) h = apart n other P h
 
-call_is : (a b : ServedCall) → Some a ≡ Some b → a ≡ b
-call_is a b e = cc e
-
 -- where the first such call is not on this stream
 first_leaves : (test : ServedCall → Bool) (change : ServedCall → Phase → Turned) (n : ℕ) (P : flow.Stream → Type 0) → ((c : ServedCall) (p : Phase) → Aside c.stream p (change c p)) → (cs : List ServedCall) (p : Phase)
     → ((c : ServedCall) → find test cs ≡ Some c → c.stream ≡ n → ⊥) → OnPhase n P p → OnPhase n P (change_first test change cs p).phase
-first_leaves test change n P aside [] p none h = rw (first_none test change p) h
+first_leaves test change n P aside [] p none h = rw (first_of_none test change p) h
 first_leaves test change n P aside (c ∷ cs) p none h =
     elim (cases_Bool (test c)) [
       | inl here ↦ rw (first_here test change c cs p here) (aside_leaves c.stream n P p (change c p) (none c (rw here refl)) (aside c p) h)
       | inr later ↦ rw (first_later test change c cs p later) (first_leaves test change n P aside cs p (λ d is. none d (rw later is)) h)
-    ]
-
--- the first call of a kind has that kind
-found_has : (test : ServedCall → Bool) (cs : List ServedCall) (c : ServedCall) → find test cs ≡ Some c → test c ≡ true
-found_has test [] c is = absurd (cc is)
-found_has test (d ∷ cs) c is =
-    elim (cases_Bool (test d)) [
-      | inl here ↦ subst (λ (e : ServedCall). test e ≡ true) (call_is d c (rw here at is)) here
-      | inr later ↦ found_has test cs c (rw later at is)
     ]
 
 no_call : {P : Type 0} (c : ServedCall) → None ≡ Some c → P
@@ -197,19 +186,12 @@ token_last o n before fit clear h = go (find is_asking (talk_after before).serve
 
 -- ---- a frame
 
--- what is said of a stream does not hang on its credit
-abbrev IsFree : (flow.Stream → Type 0) → Type 0
-IsFree P = (s : flow.Stream) (c : ℤ) → P s → P (record s { credit = c })
-
 phase_after : (n : ℕ) (P : flow.Stream → Type 0) → IsFree P → ((k : ℕ) → P (new_stream k)) → (f : Frame) (p : Phase) → SoundPhase p → OnPhase n P p → OnPhase n P (frame_result p f).after
 unfolding frame_result
 phase_after n P free fresh f (Open q) sound h = go (peer q f) refl
   where
     go : (o : Outcome) → peer q f ≡ o → OnPhase n P (result_of q o).after
-    go (goes new told) due =
-        let c = q.outbox.flow.connection_window in
-        let i = q.outbox.flow.initial_window_size in
-        (rw due at (frame_carries (λ s. s.number ≡ n → P s) (λ told s. s.number ≡ n → P s) c i q f (λ t s k e. free s _ (k e)) (λ k headers ended e. fresh k) sound (h, refl, refl))).0
+    go (goes new told) due = frame_any n P free fresh f told q new sound due h
     go (fails control fault) due = tt
 phase_after n P free fresh f (Failed fault left totals) sound h = tt
 phase_after n P free fresh f (OutOfMemory totals) sound h = tt

@@ -21,7 +21,7 @@ use Rattle.wl_responses.specs.Moves.{steps_of, bytes_of_steps}
 use Rattle.wl_responses.proofs.MoveSteps.{sessions_take_steps, steps_fit}
 use Rattle.wl_heard.specs.Written.{frame_of, IsControlBody, greeting_frames, control_frames, due_frames, step_frames, frames_written}
 use Rattle.wl_heard.specs.Statuses.{Closes, HeaderList, decoder_after, list_of, lists_on, IsWholeBlock, IsDue, HasHeaders, HeadersAreRead, SessionHeadersAreRead}
-use Rattle.wl_heard.proofs.Blocks.{head_size, last_size, refusal_size}
+use Rattle.wl_session.proofs.Sizes.{small_head, small_trailers, small_refusal}
 use Rattle.wl_heard.proofs.Lists.{IsGood, Decoded, block_decoded}
 use Rattle.wl_heard.proofs.FramesInBytes.{talks_are_read, control_is_read}
 use Rattle.wl_heard.proofs.HeaderBlocks.{IsBlockOf, SentFits}
@@ -116,8 +116,8 @@ frames_fit (step ∷ before) fit =
 
 closes_size : (headed : Bool) (e : Ending) (fields : List Header) → Closes headed e fields → list_size fields ≤ MAX_LIST_SIZE
 closes_size headed GoesOn fields h = absurd h
-closes_size headed (IsRefused r) fields h = subst (λ (hs : List Header). list_size hs ≤ MAX_LIST_SIZE) (sym h) (refusal_size r (not headed))
-closes_size headed (IsAnswered m) fields h = subst (λ (hs : List Header). list_size hs ≤ MAX_LIST_SIZE) (sym h) last_size
+closes_size headed (IsRefused r) fields h = subst (λ (hs : List Header). list_size hs ≤ MAX_LIST_SIZE) (sym h) (small_refusal r (not headed))
+closes_size headed (IsAnswered m) fields h = subst (λ (hs : List Header). list_size hs ≤ MAX_LIST_SIZE) (sym h) small_trailers
 
 is_decoded : (d : Standing) (u : TableSizeUpdate) (list : List Header) → IsGood d → list_size list ≤ MAX_LIST_SIZE → Decoded list (decode_block d (size_update_bytes u ++ block_bytes list))
 is_decoded d u list good fits = block_decoded {P = λ hs. Unit {0}} d u (block_bytes list) good (record { list = list; bytes = refl; fits = fits; right = tt })
@@ -132,7 +132,7 @@ pub block_read : (n : ℕ) (steps : List Step) (ended : Bool) (block : List ℕ)
 block_read n steps false block d good h = record {
   list = response_fields;
   due = refl;
-  decoded = subst (λ (b : List ℕ). Decoded response_fields (decode_block d b)) (sym h.1) (is_decoded d h.0 response_fields good head_size);
+  decoded = subst (λ (b : List ℕ). Decoded response_fields (decode_block d b)) (sym h.1) (is_decoded d h.0 response_fields good small_head);
 }
 block_read n steps true block d good h =
     let fields = h.2.0 in

@@ -30,7 +30,7 @@ use Rattle.wl_session.specs.Talks.{Talking, fresh_talk, after_frame, written, fr
 use Rattle.wl_session.specs.Sessions.{with_turned, turn_said, name_said, given_said}
 use Rattle.wl_responses.specs.Steps.{Step, FrameCame, BytesBroke, CallAttested, TurnTaken, OutcomeCame, step_said, talk_after, FitsStep, AllFit, unwritten, frames_due, frames_of, control_due}
 use Rattle.wl_responses.specs.Moves.{Move, bytes_after, steps_of, replies_in}
-use Rattle.wl_responses.proofs.Asides.{first_none}
+use Rattle.wl_session.proofs.Attestations.{first_of_none}
 use Rattle.wl_responses.proofs.MoveSteps.{steps_fit}
 use Rattle.wl_client.specs.declared.fault.ClientFault.{ClientFault}
 use Rattle.wl_client.specs.declared.fault.ClientFault.TheVariants as faults
@@ -58,7 +58,7 @@ use Rattle.wl_heard.proofs.Marks.{Mark, Bare, Headed, Closing, Alone, At, Kept, 
 use Rattle.wl_heard.proofs.Turns.{Only, next_mark, IsSilent, pull_heard, over_parts}
 use Rattle.wl_heard.proofs.Given.{OnlyOf, OnlyOn, pulled_only, FirstOn, first_lasts, CameHere, came_lasts, flush_last}
 use Rattle.wl_heard.proofs.OneCall.{StageAt, Owned, Before, turns_owned, names_owned, gives_owned}
-use Rattle.wl_heard.proofs.PeerFrames.{CallsAt, IsNone, Unborn, Told, after_told, break_told}
+use Rattle.wl_heard.proofs.PeerFrames.{CallsAt, IsNone, none_any, Unborn, Told, after_told, break_told}
 
 -- ---- turns, names and tokens
 
@@ -105,11 +105,11 @@ no_turns x p cs none = rw none refl
 
 no_names : (sel : Option (List (List ℕ))) (p : Phase) (cs : List ServedCall) → cs ≡ [] → name_first sel cs p ≡ has_ended p
 unfolding name_first
-no_names sel p cs none = rw none (first_none is_unnamed (name_on sel) p)
+no_names sel p cs none = rw none (first_of_none is_unnamed (name_on sel) p)
 
 no_gives : (o : JwtOutcome) (p : Phase) (cs : List ServedCall) → cs ≡ [] → give_first o cs p ≡ has_ended p
 unfolding give_first
-no_gives o p cs none = rw none (first_none is_asking (give_on o) p)
+no_gives o p cs none = rw none (first_of_none is_asking (give_on o) p)
 
 reached_told : (g : Stage) (step : Step) (t : Talking) → FitsStep step → ComesOfOneCall step → Told g t → Told g (reached step t)
 reached_told g (FrameCame f) t fits own h = after_told g f t fits.0 own h
@@ -371,11 +371,6 @@ queue_heard u (Open q) l is f control = go (subst Neat is f.neat).clean
   where
     read : (b : List ℕ) → Holds IsMild b → AllByRecursion IsMild (reader.frames_of b).frames
     read b k = subst (λ (r : reader.Reading). AllByRecursion IsMild r.frames) (sym (found_all k.frames b k.found)) k.all
-
-    none_any : (P : Stream → Type 0) (ss : List Stream) → OnlyOf IsNone ss → OnlyOf P ss
-    none_any P [] n = tt
-    none_any P (s ∷ []) n = absurd n.1
-    none_any P (s ∷ r ∷ ss) n = absurd n
 
     go : CleanState q → Stays (Quiet (left_by u (Open q)) (Open q)) l (frames_heard (reader.frames_of q.outbox.control).frames l).after
     go (inl mild) = milds_stay _ _ l f.ready.block (read q.outbox.control mild)

@@ -16,7 +16,7 @@ use Rattle.grpc_wire.specs.Answers.{response_fields, trailer_fields, refused_fie
 use Rattle.grpc_wire.specs.declared.refusal.Refusal.{Refusal}
 use Rattle.grpc_wire.specs.declared.refusal.Refusal.TheVariants.{BadMethod, BadContent, UnknownPath, Compressed, Insecure, Flag, LongRequest, Count, Undecodable, NoAudience, BadId, NoIdentity, LongResponse, Unsigned, Unattested, UnknownService}
 use Rattle.wl_client.specs.Statuses.{http_fault, http_fault_of, grpc_code}
-use Rattle.wl_heard.proofs.Blocks.{head_size, last_size, refusal_size}
+use Rattle.wl_session.proofs.Sizes.{small_head, small_trailers, small_refusal}
 
 -- ---- lists
 
@@ -116,13 +116,13 @@ block_decoded (Good table) u block good b = rw b.bytes (good_block table u b.lis
 block_decoded (Broken fault) u block good b = absurd good
 
 pub head_block : BlockOf IsHead (block_bytes response_fields)
-head_block = record { list = response_fields; bytes = refl; fits = head_size; right = head_says }
+head_block = record { list = response_fields; bytes = refl; fits = small_head; right = head_says }
 
 pub last_block : BlockOf IsEnd (block_bytes (trailer_fields 0 [] false))
-last_block = record { list = trailer_fields 0 [] false; bytes = refl; fits = last_size; right = last_says }
+last_block = record { list = trailer_fields 0 [] false; bytes = refl; fits = small_trailers; right = last_says }
 
 pub late_block : (r : Refusal) → IsLate r → BlockOf IsEnd (block_bytes (refused_fields r false))
-late_block r late = record { list = refused_fields r false; bytes = refl; fits = refusal_size r false; right = late }
+late_block r late = record { list = refused_fields r false; bytes = refl; fits = small_refusal r false; right = late }
 
 pub whole_block : (r : Refusal) → BlockOf IsWhole (block_bytes (refused_fields r true))
-whole_block r = record { list = refused_fields r true; bytes = refl; fits = refusal_size r true; right = whole_says r }
+whole_block r = record { list = refused_fields r true; bytes = refl; fits = small_refusal r true; right = whole_says r }

@@ -27,6 +27,7 @@ use Rattle.grpc_conn.specs.Verdicts.{verdict}
 use Rattle.grpc_conn.specs.Calls.{standing_of_head, standing_at, event_at, calls_after, with_call}
 use Rattle.grpc_wire.specs.Answers.{response_fields, trailer_fields, refused_fields}
 use Rattle.wl_session.specs.Talks.{Talking, after_event, after_body, after_happening, after_happenings, after_frame}
+use Rattle.wl_session.proofs.PeerAnswers.{live_below}
 use Rattle.wl_client.specs.Openings.{call_stream}
 use Rattle.wl_responses.specs.Steps.{Step, FrameCame, BytesBroke, CallAttested, TurnTaken, OutcomeCame, FitsStep, unwritten}
 use Rattle.wl_heard.specs.Calls.{ComesOfOneCall, IsOfOneCall}
@@ -34,7 +35,6 @@ use Rattle.wl_heard.proofs.Found.{Holds, holds_both, holds_spelled}
 use Rattle.wl_heard.proofs.Opens.{IsFirst, frame_opens}
 use Rattle.wl_heard.proofs.Given.{OnlyOf, only_filter, sound_lasts, FirstOn, first_lasts}
 use Rattle.wl_heard.proofs.ConnectionFacts.{Lasts, l_refusal, l_turns, l_names, l_gives}
-use Rattle.wl_heard.proofs.Tidy.{live_below}
 use Rattle.wl_heard.proofs.PeerFrames.{IsNone, Kind, head, other, kind_of, only_of, old_streams}
 use Rattle.wl_heard.proofs.Clean.{IsMild, IsAny, Tame, CleanState, none_left, frame_clean}
 
@@ -72,10 +72,6 @@ none_update : (n : ℕ) (f : Stream → Stream) (ss : List Stream) → OnlyOf Is
 none_update n f [] h = tt
 none_update n f (s ∷ []) h = absurd h.1
 none_update n f (s ∷ t ∷ ss) h = absurd h
-
-at_cond : (P : State → Type 0) (b : Bool) (x y : State) → P x → P y → P (cond b x y)
-at_cond P true x y h k = h
-at_cond P false x y h k = k
 
 n_update : (n : ℕ) (f : Stream → Stream) (b : Bool) (q : State) → CleanState q → CleanState (cond b (record q { outbox = record q.outbox { streams = update_stream n f q.outbox.streams } }) q)
 n_update n f false q h = h

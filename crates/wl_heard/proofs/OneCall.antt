@@ -27,7 +27,7 @@ use Rattle.wl_session.specs.declared.served.ServedCall.{ServedCall}
 use Rattle.wl_session.specs.Kinds.{was_seen}
 use Rattle.wl_session.specs.Answering.{Turned, goes_on, has_ended, with_refusal, with_message, with_last_message, stream_answer, health_of, token_answer, check_answer, call_answer, stage_turn, call_turn, turn_before, calls_turn}
 use Rattle.wl_session.specs.Tokens.{change_first, is_unnamed, name_call, name_stage, name_first, is_asking, item_for, next_ask, give_call, give_stage, give_first}
-use Rattle.wl_responses.proofs.Asides.{first_here, first_later, first_none}
+use Rattle.wl_session.proofs.Attestations.{first_here, first_later, first_of_none}
 use Rattle.wl_client.specs.declared.listener.Stage as client
 use Rattle.wl_client.specs.Openings.{call_stream}
 use Rattle.wl_heard.proofs.Lists.{late_identity, late_length, late_service}
@@ -177,11 +177,11 @@ turns_owned x (c ∷ []) g p h = last_owned g (stage_turn x c.stream c.stage p) 
 turns_owned x (c ∷ d ∷ cs) g p h = absurd h.kept
 
 first_owned : (test : ServedCall → Bool) (serve : ℕ → Stage → Phase → Turned) (cs : List ServedCall) (g : client.Stage) (p : Phase) → Serves g serve → Before g cs p → Owned g (change_first test (λ c q. serve c.stream c.stage q) cs p)
-first_owned test serve [] g p go h = rw (first_none test (λ c q. serve c.stream c.stage q) p) h
+first_owned test serve [] g p go h = rw (first_of_none test (λ c q. serve c.stream c.stage q) p) h
 first_owned test serve (c ∷ []) g p go h =
     elim (cases_Bool (test c)) [
       | inl here ↦ rw (first_here test (λ d q. serve d.stream d.stage q) c [] p here) (last_owned g (serve c.stream c.stage p) (on_call g serve go h.mark c p h.kept h.sound h.phase))
-      | inr later ↦ rw (first_later test (λ d q. serve d.stream d.stage q) c [] p later, first_none test (λ d q. serve d.stream d.stage q) p) h
+      | inr later ↦ rw (first_later test (λ d q. serve d.stream d.stage q) c [] p later, first_of_none test (λ d q. serve d.stream d.stage q) p) h
     ]
 first_owned test serve (c ∷ d ∷ cs) g p go h = absurd h.kept
 

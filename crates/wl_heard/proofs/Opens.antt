@@ -24,6 +24,7 @@ use Rattle.h2_conn.specs.Streams.{is_live, is_remote_closed, is_local_closed, wi
 use Rattle.h2_conn.specs.Peer.{Outcome, goes, fails, fault, nothing, with_control_frame, without_live_stream, stream_error, request_ends, with_window_update, with_window, is_idle, has_come, is_settings, is_continuation, interrupts, is_none, is_misplaced, is_empty_data, is_rapid, is_frame_size, after_table_size, set_one, after_setting, set_all, set_frame, reset_frame, data_on, with_data_count, BlockFragment, first_fragment, grows, decoding, with_new_stream, with_decoder, closed_stream_row, ended_stream_row, after_trailers, when, or_else, peer}
 use Rattle.h2_conn.specs.Kinds.{guard_rows, headers_rows, header_list_rows, block_rows, kind_rows, data_rows, reset_rows, settings_rows, ping_rows, window_rows, head_rows}
 use Rattle.h2_conn.proofs.Choice.{peer_is}
+use Rattle.h2_conn.proofs.Sounds.{at_cond}
 use Rattle.wl_client.specs.Openings.{call_stream}
 use Rattle.wl_heard.specs.Calls.{IsCallBody, IsOfOneCall}
 
@@ -35,10 +36,6 @@ Opens (goes q told) = IsFirst q
 Opens (fails control f) = Unit {0}
 
 -- ---- steps that several rows take
-
-at_cond : (P : State → Type 0) (b : Bool) (x y : State) → P x → P y → P (cond b x y)
-at_cond P true x y h k = h
-at_cond P false x y h k = k
 
 o_closed : (n : ℕ) (q : State) → IsFirst q → IsFirst (without_live_stream n q)
 unfolding without_live_stream

@@ -27,6 +27,8 @@ use Rattle.grpc_conn.specs.Verdicts.{verdict}
 use Rattle.grpc_conn.specs.Calls.{standing_of_head, event_of, standing_after, with_call, without}
 use Rattle.wl_session.specs.declared.served.ServedCall.{ServedCall}
 use Rattle.wl_session.specs.Talks.{Talking, others, after_event, after_body, after_happening, after_happenings, after_frame}
+use Rattle.wl_session.proofs.PeerAnswers.{live_below}
+use Rattle.wl_responses.proofs.Peers.{IsFree}
 use Rattle.wl_client.specs.declared.listener.Stage.{Stage}
 use Rattle.wl_client.specs.declared.listener.Stage.TheVariants.{Opening}
 use Rattle.wl_client.specs.Openings.{call_stream}
@@ -36,7 +38,6 @@ use Rattle.wl_heard.proofs.Opens.{IsFirst, frame_opens}
 use Rattle.wl_heard.proofs.Given.{OnlyOf, OnlyOn, sound_lasts, refusal_only, reset_only, FirstOn, first_lasts, CameHere, came_lasts}
 use Rattle.wl_heard.proofs.ConnectionFacts.{l_refusal}
 use Rattle.wl_heard.proofs.OneCall.{KeptAt}
-use Rattle.wl_heard.proofs.Tidy.{live_below}
 
 -- ---- what is known of a talk
 
@@ -92,10 +93,6 @@ only_in P last (s ∷ t ∷ ss) low rises below h = absurd (omega (arith, low, r
 
 pub only_of : (P : Stream → Type 0) (q : State) → Sound q → IsFirst q → AllByRecursion (Each P) q.outbox.streams → OnlyOf P q.outbox.streams
 only_of P q sound first h = only_in P q.last_stream_id q.outbox.streams first sound.rises sound.below h
-
--- what is said hangs neither on the credit nor on what a frame told
-abbrev IsFree : (Stream → Type 0) → Type 0
-IsFree P = (s : Stream) (c : ℤ) → P s → P (record s { credit = c })
 
 abbrev After : (Stream → Type 0) → Option Happening → Stream → Type 0
 After P told s = OpensNot call_stream told → Each P s
@@ -239,6 +236,12 @@ kind_of old new (Some (happening.Gone k)) sn first names = other _ tt (λ j head
 fails_told : (g : Stage) (t : Talking) (p : Phase) → SoundPhase p → FirstOn p → ((P : Stream → Type 0) → OnlyOn P p) → CameHere p → Told g t → Told g (record t { phase = p })
 fails_told g t p sound first only came h = record { mark = h.mark; sound = sound; first = first; phase = only (At h.mark g); calls = h.calls; age = inl came }
 
+-- where there is no stream, anything holds of each
+pub none_any : (P : Stream → Type 0) (ss : List Stream) → OnlyOf IsNone ss → OnlyOf P ss
+none_any P [] n = tt
+none_any P (s ∷ []) n = absurd n.1
+none_any P (s ∷ r ∷ ss) n = absurd n
+
 going_told : (g : Stage) (f : Frame) (old new : State) (told : Option Happening) (t : Talking) → Kind old new told → t.phase ≡ Open old → Sound old → Sound new → IsFirst new → peer old f ≡ goes new told → old.last_stream_id ≤ new.last_stream_id → Told g t
     → Told g (after_happenings (told_list told) (record t { phase = Open new }))
 unfolding after_happening
@@ -251,11 +254,6 @@ going_told g f old new _ t (head headers ended low high) is so sn first due grow
         let bare : OnlyOf (At Bare Opening) new.outbox.streams =
         new_streams (At Bare Opening) (at_free Bare Opening) fresh_bare f (Some (happening.Head call_stream headers ended)) old new so sn first due (none_any (At Bare Opening) old.outbox.streams none) in
         head_told g headers ended t.greeted (Open new) t.calls t.served u.calls u.served sn first (subst (λ (x : Stage). OnlyOf (At Bare x) new.outbox.streams) (sym u.stage) bare) high
-      where
-        none_any : (P : Stream → Type 0) (ss : List Stream) → OnlyOf IsNone ss → OnlyOf P ss
-        none_any P [] n = tt
-        none_any P (s ∷ []) n = absurd n.1
-        none_any P (s ∷ r ∷ ss) n = absurd n
 going_told g f old new told t (other _ not_now none) is so sn first due grows h =
     told_told g told (record t { phase = Open new }) not_now none
     (record {

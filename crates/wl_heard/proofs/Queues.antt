@@ -30,6 +30,7 @@ use Rattle.h2_conn.specs.Kinds.{FitsBody, Fits, guard_rows, headers_rows, header
 use Rattle.h2_conn.specs.Sound.{IsLow, Sound}
 use Rattle.h2_conn.specs.Conns.{goaway}
 use Rattle.h2_conn.proofs.Choice.{peer_is}
+use Rattle.h2_conn.proofs.Sounds.{at_cond}
 use Rattle.wl_heard.specs.Written.{IsControl}
 use Rattle.wl_heard.proofs.Found.{Holds, holds_both, holds_spelled, holds_ping}
 
@@ -57,10 +58,6 @@ q_pong : (word : ℕ) (q : State) → Queued q → Queued (with_control_frame 0 
 q_pong word q h = q_put 0 (Ping true word) q (holds_ping 0 word true tt (omega arith)) h
 
 -- ---- steps that several rows take
-
-at_cond : (P : State → Type 0) (b : Bool) (x y : State) → P x → P y → P (cond b x y)
-at_cond P true x y h k = h
-at_cond P false x y h k = k
 
 pub q_closed : (n : ℕ) (q : State) → Queued q → Queued (without_live_stream n q)
 unfolding without_live_stream without_stream

@@ -1,5 +1,5 @@
 -- What holds of each connection of a talk: its queue are control frames, and the blocks of its streams are short.
-use Rattle.std.proofs.Common.{◌≡◌, inl, inr, ℕ, ◌+◌, ◌<◌, ◌≤◌, ◌^◌, ◌==◌, eqb-true, not, Bool, true, false, cond, List, [], ◌∷◌, length, map, Some, None, refl, arith}
+use Rattle.std.proofs.Common.{◌≡◌, inl, inr, ℕ, ◌+◌, ◌<◌, ◌^◌, ◌==◌, not, Bool, true, false, cond, List, [], ◌∷◌, length, map, Some, None, refl, arith}
 use Rattle.std.specs.List.{AllByRecursion}
 use Rattle.std.proofs.lemmas.Bool.{cases_Bool}
 use Rattle.list_laws.proofs.Elements.{all_filter}
@@ -11,16 +11,16 @@ use Rattle.h2_flow.specs.Outboxes.{is_number, update_stream, with_offer, with_he
 use Rattle.h2_conn.specs.declared.phase.Phase.{Phase}
 use Rattle.h2_conn.specs.declared.phase.Phase.TheVariants.{Open, Failed, OutOfMemory}
 use Rattle.h2_conn.specs.declared.state.State.{State}
-use Rattle.h2_conn.specs.declared.streams.Stream as live
 use Rattle.h2_conn.specs.Faults.{cause_of}
 use Rattle.h2_conn.specs.Kinds.{Fits}
 use Rattle.h2_conn.specs.Streams.{is_live, is_remote_closed, with_local_closed}
 use Rattle.h2_conn.specs.Peer.{Outcome, goes, fails, with_control_frame, without_live_stream, peer}
-use Rattle.h2_conn.specs.Sound.{number_of, Sound, SoundAfter}
+use Rattle.h2_conn.specs.Sound.{Sound, SoundAfter}
 use Rattle.h2_conn.specs.Conns.{new_state, result_of, frame_result, after_frame_fault, takes, with_head_on, with_trailers_on, with_message_on, without_waiting_on, after_reset, on_open, answer_ends, answers_end, ends_reset_count, after_pull, flush_of}
 use Rattle.h2_conn.proofs.Carries.{CarriesAfter, frame_carries}
-use Rattle.h2_conn.proofs.Sounds.{peer_sound, s_closed, s_headed_on, s_finished_on, s_offered_on, s_withdrawn_on, s_reset_by}
+use Rattle.h2_conn.proofs.Sounds.{peer_sound, s_closed, s_headed_on, s_finished_on, s_offered_on, s_withdrawn_on, s_reset_by, at_cond}
 use Rattle.h2_conn.proofs.WindowSums.{sound_pull}
+use Rattle.wl_session.proofs.PeerAnswers.{live_below}
 use Rattle.wl_heard.specs.Written.{IsControl}
 use Rattle.wl_heard.proofs.Found.{Holds, holds_none, IsShortSent}
 use Rattle.wl_heard.proofs.Rounds.{HasShortBlocks, IsSmall, pull_sent, pull_streams}
@@ -45,17 +45,6 @@ fresh_tidy = record {
 }
 
 -- ---- a stream that is live
-
-pub live_below : (n last : ℕ) (ns : List ℕ) (ss : List live.Stream) → ns ≡ map number_of ss → AllByRecursion (λ m. m < last + 1) ns → is_live n ss ≡ true → n ≤ last
-live_below n last ns [] same below is = absurd (cc is)
-live_below n last [] (s ∷ ss) same below is = absurd (cc same)
-live_below n last (m ∷ ns) (s ∷ ss) same below is =
-    let first : m ≡ s.number = cc in
-    let rest : ns ≡ map number_of ss = cc in
-    elim (cases_Bool (s.number == n)) [
-      | inl here ↦ omega (arith, below.0, first, eqb-true s.number n here)
-      | inr there ↦ live_below n last ns ss rest below.1 (rw there at is)
-    ]
 
 -- ---- a frame
 
@@ -92,10 +81,6 @@ changed n f go (s ∷ ss) h =
 record Gives (q new : State) : Type 0 where
   queued : Queued q → Queued new
   blocks : AllByRecursion HasShortBlocks q.outbox.streams → AllByRecursion HasShortBlocks new.outbox.streams
-
-at_cond : (P : State → Type 0) (b : Bool) (x y : State) → P x → P y → P (cond b x y)
-at_cond P true x y h k = h
-at_cond P false x y h k = k
 
 taken : (b : Bool) (q new : State) → Gives q new → Gives q (cond b new q)
 taken b q new g = at_cond (Gives q) b new q g (record { queued = λ h. h; blocks = λ h. h })

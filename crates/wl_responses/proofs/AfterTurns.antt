@@ -20,12 +20,11 @@ use Rattle.wl_core.specs.declared.events.TheConstants.{CONNS}
 use Rattle.wl_core.specs.declared.events.Event.{Event}
 use Rattle.wl_core.specs.declared.events.Event.TheVariants as events
 use Rattle.wl_core.specs.declared.seats.Seat.{Seat}
-use Rattle.jwt_cache.specs.declared.rings.CachedToken.{CachedToken}
 use Rattle.wl_core.specs.Seats.{joined_seat, named_seat, told_seat, feed_seat, turn_seat, with_session}
 use Rattle.wl_core.specs.Tokens.{KeptTokens, tokens_of, kept_token, outcome_of}
 use Rattle.wl_core.specs.Moments.{Beginning, Moment, moment, publication, seat, answer_ask, token_seat}
 use Rattle.wl_responses.specs.Steps.{Step, FrameCame, BytesBroke, CallAttested, TurnTaken, OutcomeCame, talk_after, FitsStep, AllFit}
-use Rattle.wl_responses.specs.Moves.{Move, session_after, steps_of, HasTalk}
+use Rattle.wl_responses.specs.Moves.{session_after, steps_of, HasTalk}
 use Rattle.wl_responses.specs.Statuses.{HasTurnEnding, HasTokenEnding, GivesStatus, AllGiveStatuses}
 use Rattle.wl_responses.specs.Completeness.{OnTalk, IsWritten, IsKeptBack, BehindTurns, BehindTokens, EachIsAnswered, AllIsWritten, EachIsHeldBack, StepsOfRunsGiveStatuses, WaitsForAsks, AsksAreAwaited, StillWaits, AsksStay, TakesOutcome, OutcomesAreTaken, TurnsOfRunsGiveStatuses, TokensOfRunsGiveStatuses}
 use Rattle.wl_responses.proofs.MoveSteps.{sessions_take_steps, steps_fit}
@@ -75,7 +74,7 @@ feed_complete law piece caller (Running e t shown) h = fed_complete law piece ca
 feed_complete law piece caller (Fallen fault begun) h = tt
 feed_complete law piece caller OutOfMemory h = tt
 
-turn_complete : (law : KeepComplete) (x : Publication) (s : SessionState) → IsCompleteIn s → IsCompleteIn (turn_told x s).after × AllAnswered x (turn_told x s).after
+pub turn_complete : (law : KeepComplete) (x : Publication) (s : SessionState) → IsCompleteIn s → IsCompleteIn (turn_told x s).after × AllAnswered x (turn_told x s).after
 unfolding turn_told
 turn_complete law x (Running e t shown) h = law.turned x (Running e t shown) (Running e (turn_said x t).after (Some x)) (Ok tt) [] (turn_said x t).bytes (refl, refl) h
 turn_complete law x (Fallen fault begun) h = (tt, tt)
@@ -84,7 +83,7 @@ turn_complete law x OutOfMemory h = (tt, tt)
 some_ask : (o : Option JwtAsk) (a : JwtAsk) → o ≡ Some a → IsSome o
 some_ask o a is = subst (λ (p : Option JwtAsk). IsSome p) (sym is) refl
 
-outcome_complete : (law : KeepComplete) (o : JwtOutcome) (a : JwtAsk) (s : SessionState) → asks_in s ≡ Some a → IsCompleteIn s → IsCompleteIn (outcome_told o s).after
+pub outcome_complete : (law : KeepComplete) (o : JwtOutcome) (a : JwtAsk) (s : SessionState) → asks_in s ≡ Some a → IsCompleteIn s → IsCompleteIn (outcome_told o s).after
 unfolding outcome_told
 outcome_complete law o a (Running e t shown) is h = law.given o (Running e t shown) (Running e (given_said o t).after shown) (Ok tt) [] (given_said o t).bytes (some_ask (first_ask t.served) a is) (refl, refl) h
 outcome_complete law o a (Fallen fault begun) is h = tt
@@ -156,7 +155,7 @@ behind_turns P go d past conn old now within was is = subst (λ (s : SessionStat
 pub each_is_answered : KeepComplete → EachIsAnswered
 each_is_answered law = behind_turns (λ x old now. AllAnswered x now) (λ d past conn s within is. (turn_complete law (publication d past) s.session (subst IsCompleteAt is (run_complete law d past conn within))).1)
 
-session_written : (x : Publication) (s : SessionState) → OnTalk IsWritten (turn_told x s).after
+pub session_written : (x : Publication) (s : SessionState) → OnTalk IsWritten (turn_told x s).after
 unfolding turn_told
 session_written x (Running e t shown) = (turn_settled x t).1
 session_written x (Fallen fault begun) = tt
@@ -165,7 +164,7 @@ session_written x OutOfMemory = tt
 pub all_is_written : AllIsWritten
 all_is_written = behind_turns (λ x old now. OnTalk IsWritten now) (λ d past conn s within is. session_written (publication d past) s.session)
 
-session_holds : (x : Publication) (s : SessionState) → OnTalk IsKeptBack (turn_told x s).after
+pub session_holds : (x : Publication) (s : SessionState) → OnTalk IsKeptBack (turn_told x s).after
 unfolding turn_told
 session_holds x (Running e t shown) = quiet_holds (turn_said x t).after.phase (ap (λ (f : FlushResult). f.bytes) (turn_settled x t).1)
 session_holds x (Fallen fault begun) = tt
@@ -174,27 +173,27 @@ session_holds x OutOfMemory = tt
 pub each_is_held_back : EachIsHeldBack
 each_is_held_back = behind_turns (λ x old now. OnTalk IsKeptBack now) (λ d past conn s within is. session_holds (publication d past) s.session)
 
--- what holds of the talk after steps holds in a session with these
-in_session : (P : Talking → Type 0) → ((steps : List Step) → AllFit steps → P (talk_after steps)) → (moves : List Move) (s : SessionState) → HasTalk s (steps_of moves) → OnTalk P s
-in_session P go moves (Running e t shown) is = subst P (sym is) (go (steps_of moves) (steps_fit moves))
-in_session P go moves (Fallen fault begun) is = tt
-in_session P go moves OutOfMemory is = tt
+-- what holds of the talk after fit steps holds in a session with this talk
+pub in_talk : (P : Talking → Type 0) → ((steps : List Step) → AllFit steps → P (talk_after steps)) → (steps : List Step) → AllFit steps → (s : SessionState) → HasTalk s steps → OnTalk P s
+in_talk P go steps fit (Running e t shown) is = subst P (sym is) (go steps fit)
+in_talk P go steps fit (Fallen fault begun) is = tt
+in_talk P go steps fit OutOfMemory is = tt
 
 -- in each session of a run
 in_run : (P : Talking → Type 0) → ((steps : List Step) → AllFit steps → P (talk_after steps)) → (d : Beginning) (past : List Event) (conn : ℕ) (s : Seat) → conn < CONNS → seat d past conn ≡ Some s → OnTalk P s.session
 in_run P go d past conn s within is =
     let has = sessions_have_moves d past conn s within is in
-    subst (OnTalk P) (sym has.session) (in_session P go has.moves (session_after has.moves) (sessions_take_steps has.moves).talk)
+    subst (OnTalk P) (sym has.session) (in_talk P go (steps_of has.moves) (steps_fit has.moves) (session_after has.moves) (sessions_take_steps has.moves).talk)
 
 -- how far a call is from a turn
-abbrev Awaits : Publication → Talking → Type 0
+abbrev pub Awaits : Publication → Talking → Type 0
 Awaits x t = (e : End) (shown : Option Publication) → WaitsForAsks x (Running e t shown) (turn_told x (Running e t shown)).after
 
-waits : (x : Publication) (steps : List Step) → AllFit steps → Awaits x (talk_after steps)
+pub waits : (x : Publication) (steps : List Step) → AllFit steps → Awaits x (talk_after steps)
 unfolding turn_told
 waits x steps fit e shown n audience id sel seen headed is = turn_awaits x steps fit n audience id sel seen headed is
 
-awaits_in : (x : Publication) (s : SessionState) → OnTalk (Awaits x) s → WaitsForAsks x s (turn_told x s).after
+pub awaits_in : (x : Publication) (s : SessionState) → OnTalk (Awaits x) s → WaitsForAsks x s (turn_told x s).after
 awaits_in x (Running e t shown) h = h e shown
 awaits_in x (Fallen fault begun) h = λ n audience id sel seen headed is. absurd (cc is)
 awaits_in x OutOfMemory h = λ n audience id sel seen headed is. absurd (cc is)
@@ -202,7 +201,7 @@ awaits_in x OutOfMemory h = λ n audience id sel seen headed is. absurd (cc is)
 pub asks_are_awaited : AsksAreAwaited
 asks_are_awaited = behind_turns WaitsForAsks (λ d past conn s within is. awaits_in (publication d past) s.session (in_run (Awaits (publication d past)) (waits (publication d past)) d past conn s within is))
 
-still_waits : (x : Publication) (s : SessionState) → StillWaits s (turn_told x s).after
+pub still_waits : (x : Publication) (s : SessionState) → StillWaits s (turn_told x s).after
 unfolding turn_told
 still_waits x (Running e t shown) = turn_stays x t
 still_waits x (Fallen fault begun) = λ n first rest got is. absurd (cc is)
@@ -231,14 +230,14 @@ behind_tokens P go d past conn time given a old now within was asks is =
     let o = outcome_of (kept_token (tokens_of (moment d past).stored (moment d past).history) a time) given time in
     subst (λ (s : SessionState). P o old.session s) (given_on d past conn time given a old now within was asks is) (go o d past conn old within was)
 
-abbrev Takes : JwtOutcome → Talking → Type 0
+abbrev pub Takes : JwtOutcome → Talking → Type 0
 Takes o t = (e : End) (shown : Option Publication) → TakesOutcome o (Running e t shown) (outcome_told o (Running e t shown)).after
 
-takes : (o : JwtOutcome) (steps : List Step) → AllFit steps → Takes o (talk_after steps)
+pub takes : (o : JwtOutcome) (steps : List Step) → AllFit steps → Takes o (talk_after steps)
 unfolding outcome_told
 takes o steps fit e shown n first rest got call = outcome_awaits o steps fit n first rest got call
 
-takes_in : (o : JwtOutcome) (s : SessionState) → OnTalk (Takes o) s → TakesOutcome o s (outcome_told o s).after
+pub takes_in : (o : JwtOutcome) (s : SessionState) → OnTalk (Takes o) s → TakesOutcome o s (outcome_told o s).after
 takes_in o (Running e t shown) h = h e shown
 takes_in o (Fallen fault begun) h = tt
 takes_in o OutOfMemory h = tt
@@ -258,7 +257,7 @@ step_gives (CallAttested caller) before fits fit = names_give caller before fit
 step_gives (TurnTaken x) before fits fit = turns_give x before fit
 step_gives (OutcomeCame o) before fits fit = tokens_give o before fit
 
-all_give : (steps : List Step) → AllFit steps → AllGiveStatuses steps
+pub all_give : (steps : List Step) → AllFit steps → AllGiveStatuses steps
 all_give [] fit = tt
 all_give (step ∷ before) fit = (step_gives step before fit.1 fit.0, all_give before fit.0)
 

@@ -1,6 +1,6 @@
 -- What is done for a call on one stream leaves the streams of all other numbers.
-use Rattle.std.proofs.Common.{◌≡◌, inl, inr, ℕ, ◌==◌, length, Bool, true, false, not, nat_lt, if◌then◌else◌, List, [], ◌∷◌, ◌++◌, Option, Some, None, refl, sym, ◌∙◌, take, drop}
-use Rattle.std.specs.List.{AllByRecursion, position_or_len}
+use Rattle.std.proofs.Common.{◌≡◌, inl, inr, ℕ, ◌==◌, length, Bool, true, false, not, nat_lt, if◌then◌else◌, List, [], ◌∷◌, ◌++◌, Option, Some, None, refl, sym, ◌∙◌}
+use Rattle.std.specs.List.{AllByRecursion}
 use Rattle.std.proofs.lemmas.Bool.{cases_Bool}
 use Rattle.hpack.specs.Writing.{block_bytes}
 use Rattle.h2_flow.specs.declared.stream.Stream as flow
@@ -30,9 +30,9 @@ use Rattle.wl_session.specs.declared.served.Stage.TheVariants.{Unnamed, Ready, A
 use Rattle.wl_session.specs.declared.served.ServedCall.{ServedCall}
 use Rattle.wl_session.specs.Kinds.{was_seen}
 use Rattle.wl_session.specs.Answering.{Turned, goes_on, has_ended, with_head, with_refusal, with_message, with_last_message, stream_answer, health_of, token_answer, call_answer, stage_turn, call_turn, turn_before, calls_turn}
-use Rattle.wl_session.specs.Tokens.{change_in, change_first, is_unnamed, name_call, name_stage, name_on, name_first, is_asking, item_for, token_message, next_ask, give_call, give_stage, give_on, give_first}
-use Rattle.wl_session.proofs.ReadyCalls.{place_here, place_later}
-use Rattle.wl_responses.proofs.OpenedStreams.{Stands, stands_itself, stands_both, withdrawal_stands, refusal_stands, answer_stands, last_answer_stands}
+use Rattle.wl_session.specs.Tokens.{change_first, is_unnamed, name_call, name_stage, name_on, name_first, is_asking, item_for, token_message, next_ask, give_call, give_stage, give_on, give_first}
+use Rattle.wl_session.proofs.Attestations.{first_here, first_later, first_of_none}
+use Rattle.wl_session.proofs.Streams.{Stands, stands_itself, stands_both, withdrawal_stands, refusal_stands, answer_stands, last_answer_stands}
 use Rattle.wl_responses.specs.Statuses.{OnPhase}
 use Rattle.wl_responses.proofs.OutboxStreams.{head_other, trailers_other, message_other, withdrawn_other}
 
@@ -184,24 +184,8 @@ calls_aside x (c ∷ cs) p = before_aside c.stream c cs p (call_turn x c p) (cal
 
 -- ---- the first of a kind
 
-in_cons : (change : ServedCall → Phase → Turned) (c : ServedCall) (front rest : List ServedCall) (p : Phase) → change_in change (c ∷ front) rest p ≡ record { phase = (change_in change front rest p).phase; kept = c ∷ (change_in change front rest p).kept }
-in_cons change c front [] p = refl
-in_cons change c front (d ∷ rest) p = refl
-
-pub first_here : (test : ServedCall → Bool) (change : ServedCall → Phase → Turned) (c : ServedCall) (cs : List ServedCall) (p : Phase) → test c ≡ true → change_first test change (c ∷ cs) p ≡ turn_before (change c p) (λ q. record { phase = q; kept = cs })
-unfolding change_first
-first_here test change c cs p is = rw (place_here test c cs is) refl
-
-pub first_later : (test : ServedCall → Bool) (change : ServedCall → Phase → Turned) (c : ServedCall) (cs : List ServedCall) (p : Phase) → test c ≡ false → change_first test change (c ∷ cs) p ≡ turn_before (goes_on c.stream c.stage p) (λ q. change_first test change cs q)
-unfolding change_first
-first_later test change c cs p is = rw (place_later test c cs is) (in_cons change c (take (position_or_len test cs) cs) (drop (position_or_len test cs) cs) p)
-
-pub first_none : (test : ServedCall → Bool) (change : ServedCall → Phase → Turned) (p : Phase) → change_first test change [] p ≡ has_ended p
-unfolding change_first
-first_none test change p = refl
-
 pub first_aside : (test : ServedCall → Bool) (change : ServedCall → Phase → Turned) → ((c : ServedCall) (p : Phase) → Aside c.stream p (change c p)) → (cs : List ServedCall) (p : Phase) → AllAside cs p (change_first test change cs p)
-first_aside test change go [] p = rw (first_none test change p) (still_aside [] p)
+first_aside test change go [] p = rw (first_of_none test change p) (still_aside [] p)
 first_aside test change go (c ∷ cs) p =
     elim (cases_Bool (test c)) [
       | inl here ↦

@@ -34,10 +34,10 @@ use Rattle.wl_session.specs.Answering.{Turned, goes_on, has_ended, stream_answer
 use Rattle.wl_session.specs.Tokens.{change_first, is_unnamed, name_call, name_stage, name_on, name_first, stream_of, first_unnamed, is_asking, item_for, next_ask, give_call, give_stage, give_on, give_first}
 use Rattle.wl_session.specs.Talks.{Talking, with_served, after_event, after_body, after_happening, after_happenings, after_frame, written, frame_said, break_said}
 use Rattle.wl_session.specs.Sessions.{turn_said, name_said, given_said}
+use Rattle.wl_session.proofs.Attestations.{first_here, first_later, first_of_none}
 use Rattle.wl_responses.specs.Steps.{Step, FrameCame, BytesBroke, CallAttested, TurnTaken, OutcomeCame, step_said, talk_after}
 use Rattle.wl_responses.specs.Replies.{stage_on}
 use Rattle.wl_responses.specs.Responses.{IsReadyAs, WasAttested, StreamsHaveSelectors}
-use Rattle.wl_responses.proofs.Asides.{first_here, first_later, first_none}
 use Rattle.wl_responses.proofs.ResponseTurns.{all_have}
 
 -- ---- what is said of the selectors of calls
@@ -153,7 +153,7 @@ turn_named Q x (c ∷ cs) p h = before_named Q (stage_turn x c.stream c.stage p)
 
 first_named : (Q : Rule) (test : ServedCall → Bool) (change : ServedCall → Phase → Turned) (cs : List ServedCall) (p : Phase) → ((c : ServedCall) (q : Phase) → stream_of (find test cs) ≡ Some c.stream → NamedAs Q c.stream c.stage → AllNamed Q (change c q).kept)
     → AllNamed Q cs → AllNamed Q (change_first test change cs p).kept
-first_named Q test change [] p go h = rw (first_none test change p) tt
+first_named Q test change [] p go h = rw (first_of_none test change p) tt
 first_named Q test change (c ∷ cs) p go h =
     elim (cases_Bool (test c)) [
       | inl here ↦ rw (first_here test change c cs p here) (before_named Q (change c p) (λ q. record { phase = q; kept = cs }) (go c p (rw here refl) h.0) h.1)

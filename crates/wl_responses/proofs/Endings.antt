@@ -44,8 +44,9 @@ use Rattle.wl_responses.specs.Steps.{talk_after}
 use Rattle.wl_responses.specs.Replies.{stage_on}
 use Rattle.wl_responses.specs.Statuses.{On, OnPhase, IsUnfinished, Ending, GoesOn, IsRefused, IsAnswered, HasEnding, unrefused, refused_or, ending_on, ending_at, is_headed, ending_named, ending_after, ending_given, NoStatusBefore, TurnsGiveStatuses, DeniedWhereNothingIsSeen, UnknownWhereAsked, NamesGiveStatuses, TokensGiveStatuses}
 use Rattle.wl_responses.proofs.OutboxStreams.{differ, withdrawn_on, message_here, withdrawn_here, trailers_here}
-use Rattle.wl_responses.proofs.OpenedStreams.{withdrawal_stands, first_stands, answer_stands}
-use Rattle.wl_responses.proofs.Asides.{NoneOn, Aside, over, on, turn_aside, calls_aside, name_aside, give_aside, first_here, first_later}
+use Rattle.wl_session.proofs.Streams.{withdrawal_stands, first_stands, answer_stands}
+use Rattle.wl_session.proofs.Attestations.{first_here, first_later}
+use Rattle.wl_responses.proofs.Asides.{NoneOn, Aside, over, on, turn_aside, calls_aside, name_aside, give_aside}
 use Rattle.wl_responses.proofs.WaitingAnswers.{OneOn, head_here, answer_unfinished}
 use Rattle.wl_responses.proofs.OngoingCalls.{IsKept, StageGoes, CallGoes, AllGo, all_go}
 use Rattle.wl_responses.proofs.StreamReplies.{steps_go}
@@ -234,7 +235,7 @@ stood n p cs sound there (inl none) = absurd (there none)
 stood n p cs sound there (inr u) = record { sound = sound; unfinished = u }
 
 -- the first call of a kind has that kind
-found_has : (test : ServedCall → Bool) (cs : List ServedCall) (c : ServedCall) → find test cs ≡ Some c → test c ≡ true
+pub found_has : (test : ServedCall → Bool) (cs : List ServedCall) (c : ServedCall) → find test cs ≡ Some c → test c ≡ true
 found_has test [] c is = absurd (cc is)
 found_has test (d ∷ cs) c is =
     elim (cases_Bool (test d)) [

@@ -1,15 +1,12 @@
 -- What a frame of the peer leaves of one stream and of its call.
-use Rattle.std.proofs.Common.{◌≡◌, ◌⊎◌, inl, inr, ℕ, ◌==◌, Bool, true, false, nat_lt, if◌then◌else◌, List, [], ◌∷◌, filter, Option, Some, None, refl, ne_eqb}
-use Rattle.std.specs.List.{AllByRecursion}
-use Rattle.std.proofs.lemmas.Bool.{cases_Bool}
+use Rattle.std.proofs.Common.{◌≡◌, ◌⊎◌, inl, inr, ℕ, Bool, true, false, nat_lt, if◌then◌else◌, List, [], ◌∷◌, filter, Option, None}
 use Rattle.list_laws.proofs.Elements.{all_filter}
 use Rattle.h2_conn.specs.declared.phase.Phase.{Phase}
 use Rattle.h2_conn.specs.Conns.{on_open, after_reset}
 use Rattle.grpc_conn.specs.declared.event.CallEvent.{CallEvent}
 use Rattle.grpc_conn.specs.declared.event.CallEvent.TheVariants as events
 use Rattle.grpc_conn.specs.declared.standing.Call.{Call}
-use Rattle.grpc_conn.specs.declared.standing.Standing.{Standing}
-use Rattle.grpc_conn.specs.Calls.{standing_at, calls_after, with_call, without}
+use Rattle.grpc_conn.specs.Calls.{standing_at, without}
 use Rattle.wl_session.specs.declared.served.Stage.TheVariants.{Unnamed}
 use Rattle.wl_session.specs.declared.served.ServedCall.{ServedCall}
 use Rattle.wl_session.specs.Kinds.{kind_of}
@@ -17,7 +14,8 @@ use Rattle.wl_session.specs.Answering.{with_refusal}
 use Rattle.wl_session.specs.Talks.{Talking, with_served, after_event}
 use Rattle.wl_session.specs.Completing.{CameOn}
 use Rattle.wl_responses.specs.Replies.{AnsweringTurn, Replies, no_replies}
-use Rattle.wl_responses.proofs.OpenedStreams.{Stands, stands_itself, reset_stands, refusal_stands}
+use Rattle.wl_session.proofs.Streams.{Stands, stands_itself, reset_stands, refusal_stands}
+use Rattle.wl_session.proofs.PeerAnswers.{none_without, gone_without, served_all}
 use Rattle.wl_responses.specs.Statuses.{OnPhase, IsUnfinished}
 use Rattle.wl_responses.proofs.OutboxStreams.{reset_on}
 use Rattle.wl_responses.proofs.StreamFlushes.{Matches}
@@ -39,68 +37,7 @@ pub record Speaks (n : ℕ) (turn : Option AnsweringTurn) (r : Replies) (t : Tal
   pub decided : (standing_at n t.calls ≡ None) ⊎ Undecided n turn t
   pub age : CameOn n t.phase ⊎ Unborn n turn r t
 
--- ---- calls that wait for their verdict
-
-pub none_without : (n k : ℕ) (calls : List Call) → standing_at n calls ≡ None → standing_at n (without k calls) ≡ None
-none_without n k [] h = refl
-none_without n k (c ∷ calls) h =
-    elim (cases_Bool (c.stream == n)) [
-      | inl here ↦ absurd (wrong (rw here at h))
-      | inr there ↦
-          let rest = none_without n k calls (rw there at h) in
-          elim (cases_Bool (c.stream == k)) [
-            | inl gone ↦ rw gone rest
-            | inr stays ↦ rw stays (rw there rest)
-          ]
-    ]
-  where
-    wrong : Some c.standing ≡ None → ⊥
-    wrong e = absurd (cc e)
-
-pub gone_without : (n : ℕ) (calls : List Call) → standing_at n (without n calls) ≡ None
-gone_without n [] = refl
-gone_without n (c ∷ calls) =
-    elim (cases_Bool (c.stream == n)) [
-      | inl here ↦ rw here (gone_without n calls)
-      | inr there ↦ rw there (rw there (gone_without n calls))
-    ]
-
-pub none_with : (n k : ℕ) (s : Standing) (calls : List Call) → (k ≡ n → ⊥) → standing_at n calls ≡ None → standing_at n (with_call k s calls) ≡ None
-none_with n k s [] other h = rw (ne_eqb k n (λ e. absurd (other e))) refl
-none_with n k s (c ∷ calls) other h =
-    elim (cases_Bool (c.stream == n)) [
-      | inl here ↦ absurd (wrong (rw here at h))
-      | inr there ↦ rw there (none_with n k s calls other (rw there at h))
-    ]
-  where
-    wrong : Some c.standing ≡ None → ⊥
-    wrong e = absurd (cc e)
-
-pub none_after : (n k : ℕ) (bytes : List ℕ) (ended : Bool) (calls : List Call) → standing_at n calls ≡ None → standing_at n (calls_after k bytes ended calls) ≡ None
-none_after n k bytes ended [] h = refl
-none_after n k bytes ended (c ∷ calls) h =
-    elim (cases_Bool (c.stream == n)) [
-      | inl here ↦ absurd (wrong (rw here at h))
-      | inr there ↦
-          let rest = none_after n k bytes ended calls (rw there at h) in
-          elim (cases_Bool (c.stream == k)) [
-            | inl here ↦ rw here (rw there (rw there at h))
-            | inr other ↦ rw other (rw there rest)
-          ]
-    ]
-  where
-    wrong : Some c.standing ≡ None → ⊥
-    wrong e = absurd (cc e)
-
 -- ---- lists of ready calls
-
-pub served_all : (P : ServedCall → Type 0) (c : ServedCall) (cs : List ServedCall) → P c → AllByRecursion P cs → AllByRecursion P (with_served c cs)
-served_all P c [] p h = (p, tt)
-served_all P c (d ∷ ds) p h = go (nat_lt c.stream d.stream) (served_all P c ds p h.1)
-  where
-    go : (b : Bool) → AllByRecursion P (with_served c ds) → AllByRecursion P (if b then c ∷ d ∷ ds else d ∷ with_served c ds)
-    go true rest = (p, h)
-    go false rest = (h.0, rest)
 
 -- one more, on a stream that has none
 served_one : (n : ℕ) (c : ServedCall) (cs : List ServedCall) → NoneOn n cs → OneOn n (with_served c cs)

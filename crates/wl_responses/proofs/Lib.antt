@@ -2,12 +2,11 @@ pub mod Bytes
 mod Sizes
 pub mod OutboxStreams
 mod StreamFlushes
-mod OpenedStreams
 pub mod Asides
 mod WaitingAnswers
 mod TurnsOnStreams
 mod Frames
-mod Peers
+pub mod Peers
 mod StreamReplies
 mod OngoingCalls
 pub mod Endings
@@ -19,6 +18,6 @@ mod MessageCuts
 pub mod MoveSteps
 pub mod WindowWaits
 pub mod TokenAsks
-mod Runs
+pub mod Runs
 mod SessionMoves
 pub mod AfterTurns

@@ -21,9 +21,9 @@ use Rattle.wl_responses.proofs.MessageCuts.{responses_cut}
 use Rattle.wl_responses.proofs.CallSelectors.{begun_attested}
 
 -- these steps take a talk to what is said, and write its bytes
-record Leads (before after : List Step) (said : Said) : Type 0 where
-  talk : said.after ≡ talk_after after
-  bytes : bytes_of_steps after ≡ bytes_of_steps before ++ said.bytes
+pub record Leads (before after : List Step) (said : Said) : Type 0 where
+  pub talk : said.after ≡ talk_after after
+  pub bytes : bytes_of_steps after ≡ bytes_of_steps before ++ said.bytes
 
 leads_both : (before mid after : List Step) (first : Said) (go_on : Talking → Said) → Leads before mid first → Leads mid after (go_on (talk_after mid)) → Leads before after (then_ first go_on)
 leads_both before mid after first go_on h k = record {
@@ -48,7 +48,7 @@ ending_leads (Opening left) before mid said h = h
 ending_leads (Rest rest) before mid said h = h
 ending_leads (Fault why) before mid said h = leads_both before mid (BytesBroke why ∷ mid) said (break_said why) h (leads_step (BytesBroke why) mid)
 
-reading_leads : (r : Reading) (before : List Step) → Leads before (onto_ending r.ending (onto_frames r.frames before)) (feed_said r (talk_after before))
+pub reading_leads : (r : Reading) (before : List Step) → Leads before (onto_ending r.ending (onto_frames r.frames before)) (feed_said r (talk_after before))
 unfolding feed_said
 reading_leads r before = ending_leads r.ending before (onto_frames r.frames before) (frames_said r.frames (talk_after before)) (frames_lead r.frames before)
 
@@ -61,9 +61,9 @@ names_lead (suc n) caller before =
 -- ---- a move
 
 -- these steps take a session to what it is to do
-record Takes (before after : List Step) (told : Told) : Type 0 where
-  talk : HasTalk told.after after
-  bytes : bytes_of_steps after ≡ bytes_of_steps before ++ told.bytes
+pub record Takes (before after : List Step) (told : Told) : Type 0 where
+  pub talk : HasTalk told.after after
+  pub bytes : bytes_of_steps after ≡ bytes_of_steps before ++ told.bytes
 
 fed_takes : (fault : Option ConnFault) (e : End) (shown : Option Publication) (caller : Option (List (List ℕ))) (said : Said) (before mid : List Step) → Leads before mid said
     → Takes before (onto_fed fault (unnamed_count said.after) caller mid) (fed_by fault e shown caller said)
@@ -121,11 +121,11 @@ sessions_take_steps (move ∷ before) =
 
 -- ---- frames that fit
 
-frames_all_fit : (fs : List Frame) (before : List Step) → AllByRecursion Fits fs → AllFit before → AllFit (onto_frames fs before)
+pub frames_all_fit : (fs : List Frame) (before : List Step) → AllByRecursion Fits fs → AllFit before → AllFit (onto_frames fs before)
 frames_all_fit [] before fits h = h
 frames_all_fit (f ∷ fs) before fits h = frames_all_fit fs (FrameCame f ∷ before) fits.1 (h, fits.0)
 
-ending_fits : (e : End) (before : List Step) → AllFit before → AllFit (onto_ending e before)
+pub ending_fits : (e : End) (before : List Step) → AllFit before → AllFit (onto_ending e before)
 ending_fits (Opening left) before h = h
 ending_fits (Rest rest) before h = h
 ending_fits (Fault why) before h = (h, tt)
@@ -191,28 +191,28 @@ fewer_fall _ _ (none ms) h = tt
 fewer_fall _ _ (both n ns ms f) h = (fewer_above n ns ms f h.0, fewer_fall ns ms f h.1)
 fewer_fall _ _ (left n ns ms f) h = fewer_fall ns ms f h.1
 
-frames_read : (fs : List Frame) (before : List Step) → numbers_read (onto_frames fs before) ≡ numbers_read before
-frames_read [] before = refl
-frames_read (f ∷ fs) before = frames_read fs (FrameCame f ∷ before)
+pub frames_numbers : (fs : List Frame) (before : List Step) → numbers_read (onto_frames fs before) ≡ numbers_read before
+frames_numbers [] before = refl
+frames_numbers (f ∷ fs) before = frames_numbers fs (FrameCame f ∷ before)
 
-ending_read : (e : End) (before : List Step) → numbers_read (onto_ending e before) ≡ numbers_read before
-ending_read (Opening more) before = refl
-ending_read (Rest rest) before = refl
-ending_read (Fault why) before = refl
+pub ending_numbers : (e : End) (before : List Step) → numbers_read (onto_ending e before) ≡ numbers_read before
+ending_numbers (Opening more) before = refl
+ending_numbers (Rest rest) before = refl
+ending_numbers (Fault why) before = refl
 
-names_read : (count : ℕ) (caller : Option (List (List ℕ))) (before : List Step) → numbers_read (onto_names count caller before) ≡ numbers_read before
-names_read zero caller before = refl
-names_read (suc n) caller before = names_read n caller (CallAttested caller ∷ before)
+names_numbers : (count : ℕ) (caller : Option (List (List ℕ))) (before : List Step) → numbers_read (onto_names count caller before) ≡ numbers_read before
+names_numbers zero caller before = refl
+names_numbers (suc n) caller before = names_numbers n caller (CallAttested caller ∷ before)
 
-fed_read : (fault : Option ConnFault) (count : ℕ) (caller : Option (List (List ℕ))) (before : List Step) → numbers_read (onto_fed fault count caller before) ≡ numbers_read before
-fed_read None count caller before = names_read count caller before
-fed_read (Some fault) count caller before = refl
+fed_numbers : (fault : Option ConnFault) (count : ℕ) (caller : Option (List (List ℕ))) (before : List Step) → numbers_read (onto_fed fault count caller before) ≡ numbers_read before
+fed_numbers None count caller before = names_numbers count caller before
+fed_numbers (Some fault) count caller before = refl
 
 move_read : (move : Move) (s : SessionState) (before : List Step) (ms : List ℕ) → Fewer (numbers_read before) ms → Fewer (numbers_read (onto_move move s before)) (number_turned move ms)
 move_read (Fed piece caller) (Running e t shown) before ms f =
     let r = reading_from e piece in
     let mid = onto_ending r.ending (onto_frames r.frames before) in
-    subst (λ (ns : List ℕ). Fewer ns ms) (sym (fed_read (feed_said r t).fault (unnamed_count (feed_said r t).after) caller mid ∙ (ending_read r.ending (onto_frames r.frames before) ∙ frames_read r.frames before))) f
+    subst (λ (ns : List ℕ). Fewer ns ms) (sym (fed_numbers (feed_said r t).fault (unnamed_count (feed_said r t).after) caller mid ∙ (ending_numbers r.ending (onto_frames r.frames before) ∙ frames_numbers r.frames before))) f
 move_read (TurnedOn x) (Running e t shown) before ms f = both x.number (numbers_read before) ms f
 move_read (GivenTo o) (Running e t shown) before ms f = f
 move_read (Fed piece caller) (Fallen fault begun) before ms f = f

@@ -35,10 +35,10 @@ use Rattle.wl_session.specs.Refusing.{stream_refusal}
 use Rattle.wl_session.specs.Tokens.{change_first, is_unnamed, name_call, name_stage, name_on, name_first, is_asking, item_for, next_ask, give_call, give_stage, give_on, give_first}
 use Rattle.wl_session.specs.Talks.{Talking, after_event, after_body, after_happening, after_happenings, after_frame, written, frame_said, break_said}
 use Rattle.wl_session.specs.Sessions.{turn_said, name_said, given_said}
+use Rattle.wl_session.proofs.Attestations.{first_here, first_later, first_of_none}
+use Rattle.wl_session.proofs.PeerAnswers.{served_all}
 use Rattle.wl_responses.specs.Steps.{Step, FrameCame, BytesBroke, CallAttested, TurnTaken, OutcomeCame, step_said, talk_after}
 use Rattle.wl_responses.specs.Statuses.{GoesOn, refused_or, ending_on}
-use Rattle.wl_responses.proofs.Asides.{first_here, first_later, first_none}
-use Rattle.wl_responses.proofs.Frames.{served_all}
 
 -- on the view that answered it last, if one did
 abbrev pub IsKept : CallKind → Option ViewModel → Type 0
@@ -123,7 +123,7 @@ turn_goes x (c ∷ cs) p h = before_goes (stage_turn x c.stream c.stage p) (call
 -- ---- the first of a kind
 
 first_goes : (test : ServedCall → Bool) (change : ServedCall → Phase → Turned) (cs : List ServedCall) (p : Phase) → ((c : ServedCall) (q : Phase) → CallGoes c → AllGo (change c q).kept) → AllGo cs → AllGo (change_first test change cs p).kept
-first_goes test change [] p go h = rw (first_none test change p) tt
+first_goes test change [] p go h = rw (first_of_none test change p) tt
 first_goes test change (c ∷ cs) p go h =
     elim (cases_Bool (test c)) [
       | inl here ↦ rw (first_here test change c cs p here) (before_goes (change c p) (λ q. record { phase = q; kept = cs }) (go c p h.0) h.1)

@@ -20,7 +20,7 @@ use Rattle.h2_conn.specs.Streams.{is_live, is_remote_closed, with_local_closed}
 use Rattle.h2_conn.specs.Peer.{with_control_frame, without_live_stream}
 use Rattle.h2_conn.specs.Conns.{takes, with_head_on, with_trailers_on, with_message_on, without_waiting_on, after_reset, on_open, answer_ends, answers_end}
 use Rattle.h2_conn.specs.Sound.{Sound, SoundPhase}
-use Rattle.h2_conn.proofs.Sounds.{there_is}
+use Rattle.h2_conn.proofs.Sounds.{there_is, at_cond}
 use Rattle.wl_responses.specs.Statuses.{On, OnPhase, IsUnfinished}
 
 -- ---- the streams of a number
@@ -98,10 +98,6 @@ changed_any n k f P number go (s ∷ ss) h =
     ]
 
 -- ---- what is given to a connection
-
-at_cond : (P : State → Type 0) (b : Bool) (x y : State) → P x → P y → P (cond b x y)
-at_cond P true x y h k = h
-at_cond P false x y h k = k
 
 abbrev pub OnState : ℕ → (Stream → Type 0) → State → Type 0
 OnState n P q = On n P q.outbox.streams

@@ -1,5 +1,5 @@
 -- What a frame of the peer, or bytes that are none, leave of one stream and of its call.
-use Rattle.std.proofs.Common.{◌≡◌, ◌⊎◌, inl, inr, ℕ, ◌≤◌, ◌<◌, ◌+◌, ◌^◌, ◌==◌, ℤ, map, Bool, true, not, List, [], ◌∷◌, Option, Some, None, refl, sym, subst, arith, eqb-true, eq-eqb}
+use Rattle.std.proofs.Common.{◌≡◌, ◌⊎◌, inl, inr, ℕ, ◌≤◌, ◌<◌, ◌^◌, ◌==◌, ℤ, Bool, true, not, List, [], ◌∷◌, Option, Some, None, refl, sym, subst, arith, eqb-true, eq-eqb}
 use Rattle.std.specs.List.{AllByRecursion}
 use Rattle.std.proofs.lemmas.Bool.{cases_Bool, ltb-true}
 use Rattle.list_laws.proofs.Elements.{all_filter}
@@ -15,12 +15,11 @@ use Rattle.h2_conn.specs.declared.phase.Phase.{Phase}
 use Rattle.h2_conn.specs.declared.phase.Totals.{Totals}
 use Rattle.h2_conn.specs.declared.phase.Phase.TheVariants.{Open, Failed, OutOfMemory}
 use Rattle.h2_conn.specs.declared.state.State.{State}
-use Rattle.h2_conn.specs.declared.streams.Stream as live
 use Rattle.h2_conn.specs.Streams.{is_live}
 use Rattle.h2_conn.specs.Naming.{NamesTold}
 use Rattle.h2_conn.specs.Peer.{Outcome, goes, fails, peer}
 use Rattle.h2_conn.specs.Conns.{told_list, result_of, frame_result, after_frame_fault}
-use Rattle.h2_conn.specs.Sound.{number_of, Sound, SoundPhase}
+use Rattle.h2_conn.specs.Sound.{Sound, SoundPhase}
 use Rattle.h2_conn.specs.Holding.{OpensNot}
 use Rattle.h2_conn.specs.Telling.{TellsStreams}
 use Rattle.h2_conn.proofs.Carries.{frame_carries}
@@ -33,12 +32,13 @@ use Rattle.wl_session.specs.declared.served.ServedCall.{ServedCall}
 use Rattle.wl_session.specs.Talks.{Talking, others, after_event, after_body, after_happening, after_happenings, after_frame}
 use Rattle.wl_session.specs.Completing.{CameOn}
 use Rattle.wl_responses.specs.Replies.{AnsweringTurn, Replies}
-use Rattle.wl_responses.proofs.OpenedStreams.{stands_itself}
+use Rattle.wl_session.proofs.Streams.{stands_itself}
+use Rattle.wl_session.proofs.PeerAnswers.{none_without, none_with, none_after, opens_not, live_below}
 use Rattle.wl_responses.specs.Statuses.{On, OnPhase, IsUnfinished}
 use Rattle.wl_responses.proofs.StreamFlushes.{Matches}
 use Rattle.wl_responses.proofs.Asides.{NoneOn}
 use Rattle.wl_responses.proofs.WaitingAnswers.{StageFits, Serves}
-use Rattle.wl_responses.proofs.Frames.{Unborn, Undecided, Speaks, none_with, none_without, none_after, one_filter, none_filter, moved, event_other, event_own}
+use Rattle.wl_responses.proofs.Frames.{Unborn, Undecided, Speaks, one_filter, none_filter, moved, event_other, event_own}
 
 -- ---- a happening
 
@@ -125,7 +125,7 @@ happening_speaks n (happening.Head k headers ended) turn r t new h =
       | inr there ↦
           let other : k ≡ n → ⊥ = λ e. absurd (cc (eq-eqb k n e, there)) in
           event_other n k (verdict headers [] ended) turn r (record t { calls = with_call k (standing_of_head headers ended) t.calls }) other
-          (moved n turn r t t.phase (with_call k (standing_of_head headers ended) t.calls) (stands_itself t.phase) (λ P s. s) (none_with n k (standing_of_head headers ended) t.calls other) h)
+          (moved n turn r t t.phase (with_call k (standing_of_head headers ended) t.calls) (stands_itself t.phase) (λ P s. s) (none_with n k (standing_of_head headers ended) t.calls (λ e. other (sym e))) h)
     ]
 happening_speaks n (happening.Body k bytes ended) turn r t new h = body_speaks n k bytes ended turn r t h
 happening_speaks n (happening.End k) turn r t new h = body_speaks n k [] true turn r t h
@@ -142,10 +142,10 @@ told_speaks n (Some g) turn r t new h = happening_speaks n g turn r t new h
 -- ---- the streams after a frame
 
 -- what is said hangs neither on the credit nor on which stream it is
-abbrev IsFree : (Stream → Type 0) → Type 0
+abbrev pub IsFree : (Stream → Type 0) → Type 0
 IsFree P = (s : Stream) (c : ℤ) → P s → P (record s { credit = c })
 
-frame_any : (n : ℕ) (P : Stream → Type 0) → IsFree P → ((k : ℕ) → P (new_stream k)) → (f : Frame) (told : Option Happening) (old new : State) → Sound old → peer old f ≡ goes new told → On n P old.outbox.streams → On n P new.outbox.streams
+pub frame_any : (n : ℕ) (P : Stream → Type 0) → IsFree P → ((k : ℕ) → P (new_stream k)) → (f : Frame) (told : Option Happening) (old new : State) → Sound old → peer old f ≡ goes new told → On n P old.outbox.streams → On n P new.outbox.streams
 frame_any n P free fresh f told old new sound due h =
     let c = old.outbox.flow.connection_window in
     let i = old.outbox.flow.initial_window_size in
@@ -168,24 +168,6 @@ frame_old n P free f told old new sound due other h =
     all_after n P told other new.outbox.streams (rw due at (frame_carries (λ s. s.number ≡ n → P s) (After n P) c i old f (λ t s k o e. free s _ (k e)) (opened n P) sound (h, refl, refl))).0
 
 -- ---- a frame
-
-opens_not : (n : ℕ) (old new : State) (told : Option Happening) → n ≤ old.last_stream_id → NamesTold old told new → OpensNot n told
-opens_not n old new None came names = tt
-opens_not n old new (Some (happening.Head k headers ended)) came names = λ e. absurd (omega (arith, came, ltb-true old.last_stream_id k names.0, e))
-opens_not n old new (Some (happening.Body k bytes ended)) came names = tt
-opens_not n old new (Some (happening.End k)) came names = tt
-opens_not n old new (Some (happening.Gone k)) came names = tt
-
-live_below : (n last : ℕ) (ns : List ℕ) (ss : List live.Stream) → ns ≡ map number_of ss → AllByRecursion (λ m. m < last + 1) ns → is_live n ss ≡ true → n ≤ last
-live_below n last ns [] same below live = absurd (cc live)
-live_below n last [] (s ∷ ss) same below live = absurd (cc same)
-live_below n last (m ∷ ns) (s ∷ ss) same below live =
-    let first : m ≡ s.number = cc in
-    let rest : ns ≡ map number_of ss = cc in
-    elim (cases_Bool (s.number == n)) [
-      | inl here ↦ omega (arith, below.0, first, eqb-true s.number n here)
-      | inr there ↦ live_below n last ns ss rest below.1 (rw there at live)
-    ]
 
 none_higher : (n : ℕ) (P : Stream → Type 0) (ss : List Stream) → IsAbove n ss → On n P ss
 none_higher n P [] above = tt

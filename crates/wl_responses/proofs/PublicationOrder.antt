@@ -15,7 +15,7 @@ record Ordered (most : ℕ) (turn : Option AnsweringTurn) (begun : List Response
   below : NoneAbove (number_of_turn turn) (numbers_of begun)
   falls : NeverFall (numbers_of begun)
 
-all_above : (m n : ℕ) (ns : List ℕ) → m ≤ n → NoneAbove m ns → NoneAbove n ns
+pub all_above : (m n : ℕ) (ns : List ℕ) → m ≤ n → NoneAbove m ns → NoneAbove n ns
 all_above m n [] le h = tt
 all_above m n (k ∷ ns) le h = let first : k ≤ m = h.0 in (omega (arith, le, first), all_above m n ns le h.1)
 

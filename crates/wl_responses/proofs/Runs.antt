@@ -30,6 +30,7 @@ use Rattle.wl_responses.specs.Replies.{AnsweringTurn, Response}
 use Rattle.wl_responses.specs.Responses.{NoneAbove, NeverFall, WasTaken, IfTurn, AllTurns}
 use Rattle.wl_responses.specs.Moves.{Move, Fed, TurnedOn, GivenTo, move_told, session_after, bytes_after, onto_frames, onto_ending, onto_names, onto_fed, onto_move, steps_of, number_turned, numbers_turned}
 use Rattle.wl_responses.specs.Runs.{WasPublished}
+use Rattle.wl_responses.proofs.PublicationOrder.{all_above}
 
 -- ---- one connection
 
@@ -45,7 +46,7 @@ seat_step (events.Turn k) conn m o = if k == conn then told_seat (turn_seat m.st
 seat_step (events.Token k now given) conn m o = if k == conn then told_seat (token_seat (tokens_of m.stored m.history) now given) o else o
 seat_step (events.Close k) conn m o = if k == conn then None else o
 
-same_conn : (k conn : ℕ) → (k == conn) ≡ true → k ≡ conn
+pub same_conn : (k conn : ℕ) → (k == conn) ≡ true → k ≡ conn
 same_conn k conn is = grind (arith, nat_tests, is)
 
 other_conn : (k conn : ℕ) → (k == conn) ≡ false → conn ≢ k
@@ -70,7 +71,7 @@ seat_after (events.Turn k) conn m within = set_go m.seats k conn (told_seat (tur
 seat_after (events.Token k now given) conn m within = set_go m.seats k conn (told_seat (token_seat (tokens_of m.stored m.history) now given)) (k == conn) refl within
 seat_after (events.Close k) conn m within = set_go m.seats k conn (λ o. None) (k == conn) refl within
 
-room : (d : Beginning) (past : List Event) → length (moment d past).seats ≡ CONNS
+pub room : (d : Beginning) (past : List Event) → length (moment d past).seats ≡ CONNS
 room d [] = let none : Option Seat = None in length-replicate CONNS none
 room d (e ∷ past) = room_after e (moment d past) ∙ room d past
 
@@ -141,11 +142,11 @@ read_weaker P Q go (Fed piece caller ∷ moves) h = (tt, read_weaker P Q go move
 read_weaker P Q go (TurnedOn x ∷ moves) h = (go x h.0, read_weaker P Q go moves h.1)
 read_weaker P Q go (GivenTo o ∷ moves) h = (tt, read_weaker P Q go moves h.1)
 
-frames_read : (P : Publication → Type 0) (fs : List Frame) (before : List Step) → Reads P before → Reads P (onto_frames fs before)
+pub frames_read : (P : Publication → Type 0) (fs : List Frame) (before : List Step) → Reads P before → Reads P (onto_frames fs before)
 frames_read P [] before h = h
 frames_read P (f ∷ fs) before h = frames_read P fs (FrameCame f ∷ before) (tt, h)
 
-ending_reads : (P : Publication → Type 0) (e : End) (before : List Step) → Reads P before → Reads P (onto_ending e before)
+pub ending_reads : (P : Publication → Type 0) (e : End) (before : List Step) → Reads P before → Reads P (onto_ending e before)
 ending_reads P (Opening left) before h = h
 ending_reads P (Rest rest) before h = h
 ending_reads P (Fault why) before h = (tt, h)
@@ -193,10 +194,6 @@ turns_read P n steps (r ∷ begun) h is = (go r.turn is.0, turns_read P n steps 
     go (Some turn) taken = taken_reads P n turn steps h taken
 
 -- ---- a session and its moves
-
-all_above : (m n : ℕ) (ns : List ℕ) → m ≤ n → NoneAbove m ns → NoneAbove n ns
-all_above m n [] le h = tt
-all_above m n (k ∷ ns) le h = let first : k ≤ m = h.0 in (omega (arith, le, first), all_above m n ns le h.1)
 
 -- these moves led to this session, which has this trace; its turns read such publications, none above this number
 pub record Led (P : Publication → Type 0) (most : ℕ) (s : SessionState) (items : List Item) (moves : List Move) : Type 0 where

@@ -19,7 +19,7 @@ use Rattle.wl_session.specs.Completing.{CameOn}
 use Rattle.wl_responses.specs.Steps.{Step, FrameCame, BytesBroke, CallAttested, TurnTaken, OutcomeCame, step_said, talk_after, FitsStep, AllFit, frames_due}
 use Rattle.wl_responses.specs.Replies.{AnsweringTurn, Replies, no_replies, replies_with, waiting_on, stage_on, answering, turn_after, turn_on, replies_after, replies_on}
 use Rattle.wl_responses.specs.Responses.{StreamsHaveAnswers}
-use Rattle.wl_responses.proofs.OpenedStreams.{flush_stands}
+use Rattle.wl_session.proofs.Streams.{flush_stands}
 use Rattle.wl_responses.specs.Statuses.{OnPhase, IsUnfinished}
 use Rattle.wl_responses.proofs.OutboxStreams.{IfFound, found}
 use Rattle.wl_responses.proofs.StreamFlushes.{IfWaits, Matches, Written, nothing_written, quiet_is, flush_goes, flush_unfinished}

@@ -21,11 +21,12 @@ use Rattle.wl_session.specs.Answering.{Turned, has_ended, token_answer, call_ans
 use Rattle.wl_session.specs.Tokens.{change_first, is_asking, item_for, next_ask, give_call, give_on, give_first}
 use Rattle.wl_session.specs.Talks.{Talking, written}
 use Rattle.wl_session.specs.Sessions.{turn_said, given_said}
+use Rattle.wl_session.proofs.Attestations.{first_here, first_later}
 use Rattle.wl_responses.specs.Steps.{Step, talk_after, AllFit}
 use Rattle.wl_responses.specs.Replies.{AnsweringTurn, stage_on}
 use Rattle.wl_responses.specs.Completeness.{waits_for, waits_after}
 use Rattle.wl_responses.proofs.OutboxStreams.{differ}
-use Rattle.wl_responses.proofs.Asides.{NoneOn, Aside, over, on, turn_aside, calls_aside, first_here, first_later}
+use Rattle.wl_responses.proofs.Asides.{NoneOn, Aside, over, on, turn_aside, calls_aside}
 use Rattle.wl_responses.proofs.WaitingAnswers.{OneOn, SeenFits, StageFits}
 use Rattle.wl_responses.proofs.Endings.{call_is, some_is, found_is}
 use Rattle.wl_responses.proofs.StreamReplies.{steps_go}

@@ -22,13 +22,14 @@ use Rattle.wl_session.specs.declared.served.Stage.TheVariants.{Unnamed, Ready, A
 use Rattle.wl_session.specs.declared.served.ServedCall.{ServedCall}
 use Rattle.wl_session.specs.Answering.{Turned, goes_on, has_ended, with_refusal, with_last_message, call_turn, turn_before, calls_turn}
 use Rattle.wl_session.specs.Tokens.{change_first, is_unnamed, name_on, is_asking, item_for, token_message, next_ask, give_call, give_on}
+use Rattle.wl_session.proofs.Attestations.{first_here, first_later, first_of_none}
 use Rattle.wl_responses.specs.Replies.{AnsweringTurn, Replies, stage_on, answering, one_token_more, with_outcome, asks_first}
 use Rattle.wl_responses.specs.Responses.{token_items, IsMessageOn, IsMessageOf}
 use Rattle.wl_responses.specs.Statuses.{OnPhase, IsUnfinished}
 use Rattle.wl_responses.proofs.OutboxStreams.{differ}
 use Rattle.wl_responses.proofs.Sizes.{not_above}
 use Rattle.wl_responses.proofs.StreamFlushes.{Matches}
-use Rattle.wl_responses.proofs.Asides.{NoneOn, Aside, over as apart_over, on as apart_on, AllAside, still_aside, turn_aside, calls_aside, name_aside, give_aside, first_here, first_later, first_none, first_aside}
+use Rattle.wl_responses.proofs.Asides.{NoneOn, Aside, over as apart_over, on as apart_on, AllAside, still_aside, turn_aside, calls_aside, name_aside, give_aside, first_aside}
 use Rattle.wl_responses.proofs.WaitingAnswers.{wanted_by, AsksOf, StageFits, Serves, none_one, none_fits, not_waiting, Own, over, on, Holds, refused, ends_well, stays, turn_own, name_stage_own, items_more}
 
 -- ---- tokens
@@ -191,7 +192,7 @@ serves_later n turn new r c cs p go_on h own rest =
 
 pub name_serves : (sel : Option (List (List ℕ))) (n : ℕ) (turn : Option AnsweringTurn) (r : Replies) (cs : List ServedCall) (p : Phase) → Serves n turn r cs p
     → Serves n turn r (change_first is_unnamed (name_on sel) cs p).kept (change_first is_unnamed (name_on sel) cs p).phase
-name_serves sel n turn r [] p h = rw (first_none is_unnamed (name_on sel) p) h
+name_serves sel n turn r [] p h = rw (first_of_none is_unnamed (name_on sel) p) h
 name_serves sel n turn r (c ∷ cs) p h =
     elim (cases_Bool (is_unnamed c)) [
       | inl unnamed ↦ rw (first_here is_unnamed (name_on sel) c cs p unnamed) (here (cases_Bool (c.stream == n)))
@@ -239,7 +240,7 @@ given_later n o c cs turn later = ap (λ (d : Bool). if d then with_outcome o tu
 
 pub give_serves : (o : JwtOutcome) (n : ℕ) (turn : Option AnsweringTurn) (r : Replies) (cs : List ServedCall) (p : Phase) → Serves n turn r cs p
     → Serves n (given_to n o cs turn) r (change_first is_asking (give_on o) cs p).kept (change_first is_asking (give_on o) cs p).phase
-give_serves o n turn r [] p h = rw (first_none is_asking (give_on o) p) h
+give_serves o n turn r [] p h = rw (first_of_none is_asking (give_on o) p) h
 give_serves o n turn r (c ∷ cs) p h =
     elim (cases_Bool (is_asking c)) [
       | inl asks ↦ rw (first_here is_asking (give_on o) c cs p asks) (here asks (cases_Bool (c.stream == n)))

@@ -32,7 +32,7 @@ use Rattle.wl_session.specs.Answering.{Turned, goes_on, has_ended, with_head, wi
 use Rattle.wl_session.specs.Tokens.{name_call, name_stage}
 use Rattle.wl_responses.specs.Replies.{AnsweringTurn, Replies, answering}
 use Rattle.wl_responses.specs.Responses.{token_item, token_items, IsMessageOn, IsMessageOf}
-use Rattle.wl_responses.proofs.OpenedStreams.{withdrawal_stands, refusal_stands, answer_stands, last_answer_stands, first_stands}
+use Rattle.wl_session.proofs.Streams.{withdrawal_stands, refusal_stands, answer_stands, last_answer_stands, first_stands}
 use Rattle.wl_responses.specs.Statuses.{OnPhase, IsUnfinished}
 use Rattle.wl_responses.proofs.OutboxStreams.{phase_weaker, head_on, trailers_on, message_on, withdrawn_on, message_here, withdrawn_here}
 use Rattle.wl_responses.proofs.StreamFlushes.{IfWaits, Matches, offered, silenced}

@@ -17,7 +17,7 @@ use Rattle.wl_secrets.specs.Sides.{Attested, joined_as, named_as, attested_after
 use Rattle.wl_secrets.specs.Foreign.{IsAsFit, Fits}
 use Rattle.wl_secrets.proofs.HiddenStores.{hidden, shade, entries_alike, claim_alike, signed_alike, install_alike, ticket_alike}
 use Rattle.wl_secrets.proofs.ViewModels.{shown_after, shown_failed, domain_after, AreAlike, published_alike}
-use Rattle.wl_secrets.proofs.Seats.{same_conn}
+use Rattle.wl_responses.proofs.Runs.{same_conn}
 use Rattle.wl_secrets.proofs.Known.{side_before}
 
 -- ---- the store

@@ -20,6 +20,7 @@ use Rattle.wl_core.specs.Tokens.{tokens_of}
 use Rattle.wl_core.specs.Moments.{Beginning, Moment, moment, moment_after, reading_of, history_read, history_after_document, token_seat, ask_of_seat, history_answered, store, seat}
 use Rattle.wl_core.specs.Traces.{ask_items, gain, joined_trace, trace_after, trace}
 use Rattle.wl_core.proofs.SessionTraces.{equal_bytes}
+use Rattle.wl_responses.proofs.Runs.{seat_step, seat_next}
 use Rattle.wl_secrets.specs.Runs.{Step, with_pair, first_run, second_run, is_at}
 use Rattle.wl_secrets.specs.Sides.{Attested, joined_as, named_as, attested_after, attested, Side, ClosedNow, Closed}
 use Rattle.wl_secrets.specs.Foreign.{FitsStep, Fits, ForeignUnseen, ForeignUntold, OthersUnseen}
@@ -27,7 +28,7 @@ use Rattle.wl_secrets.proofs.HiddenStores.{entries_alike}
 use Rattle.wl_secrets.proofs.ViewModels.{AreAlike, view_same}
 use Rattle.wl_secrets.proofs.Unshown.{ShowsAlike}
 use Rattle.wl_secrets.proofs.Keeps.{KeepAlike, is_ours, kept_same, lost_alike, AskIs, answered_alike, answered_foreign}
-use Rattle.wl_secrets.proofs.Seats.{seat_step, seat_next, vacant, bare, ask_alike, Near, step_alike, trace_alike, turn_near, turn_items_near, FoundAlike, token_near, token_items_near}
+use Rattle.wl_secrets.proofs.Seats.{vacant, bare, ask_alike, Near, step_alike, trace_alike, turn_near, turn_items_near, FoundAlike, token_near, token_items_near}
 use Rattle.wl_secrets.proofs.Known.{Known, CoveredBy, bounds, on_side, side_before, covers_now, sided, ask_sided}
 use Rattle.wl_secrets.proofs.Alike.{reading_same, alike, skip, attested_past, side_same}
 

@@ -5,7 +5,6 @@ use Rattle.std.proofs.lemmas.List.{get_or-replicate}
 use Rattle.wl_entry.specs.Entitled.{is_entitled}
 use Rattle.wl_entry.specs.declared.entries.Entry.{Entry}
 use Rattle.wl_entry.specs.declared.tokens.JwtToken.{JwtToken}
-use Rattle.jwt_cache.specs.declared.rings.CachedToken.{CachedToken}
 use Rattle.wl_snapshot.specs.Snapshots.{Publication}
 use Rattle.wl_session.specs.declared.asks.JwtAsk.{JwtAsk}
 use Rattle.wl_session.specs.Sessions.{asks_in}
@@ -20,7 +19,7 @@ use Rattle.wl_core.specs.Moments.{Beginning, Moment, moment, answer_ask, token_s
 use Rattle.wl_secrets.specs.Sides.{Attested, joined_as, named_as, attested_after, attested, Covers, IsOnSide, Side}
 use Rattle.wl_secrets.proofs.Calls.{Bounds, CallerOn, SessionOn, CoversOn, feed_on, turn_on, outcome_on, AskOn, ask_on, session_looser}
 use Rattle.wl_secrets.proofs.Keeps.{AskIs}
-use Rattle.wl_secrets.proofs.Seats.{seat_step, seat_next}
+use Rattle.wl_responses.proofs.Runs.{seat_step, seat_next}
 
 -- ---- as what a session was attested
 

@@ -1,9 +1,7 @@
--- What an event makes of the session on one connection, and sessions that are the same except for what they were shown.
-use Rattle.std.proofs.Common.{◌≡◌, ◌≢◌, ℕ, ◌==◌, ◌<◌, ◌≤◌, Bool, true, false, if◌then◌else◌, List, [], ◌∷◌, ◌++◌, length, Option, Some, None, slice_set, refl, sym, ap, subst, ◌∙◌, arith}
-use Rattle.std.proofs.lemmas.List.{length-replicate, get_or-set_same, get_or-set_other, get_or_past}
-use Rattle.std.proofs.lemmas.Bool.Decides.{nat_tests}
+-- Sessions that are the same except for what they were shown.
+use Rattle.std.proofs.Common.{◌≡◌, ℕ, ◌==◌, ◌≤◌, Bool, true, false, if◌then◌else◌, List, [], ◌∷◌, ◌++◌, Option, Some, None, refl, sym, ap, subst, ◌∙◌}
+use Rattle.std.proofs.lemmas.List.{get_or_past}
 use Rattle.wl_entry.specs.declared.tokens.JwtToken.{JwtToken}
-use Rattle.jwt_cache.specs.declared.rings.CachedToken.{CachedToken}
 use Rattle.wl_snapshot.specs.Snapshots.{Publication}
 use Rattle.wl_session.specs.declared.asks.JwtAsk.{JwtAsk}
 use Rattle.wl_session.specs.Sessions.{SessionState, asks_in}
@@ -15,58 +13,13 @@ use Rattle.wl_core.specs.declared.events.Event.TheVariants as events
 use Rattle.wl_core.specs.declared.seats.Seat.{Seat}
 use Rattle.wl_core.specs.Seats.{seat_at, with_session, joined_seat, named_seat, told_seat, feed_seat, turn_seat}
 use Rattle.wl_core.specs.Tokens.{KeptTokens, tokens_of, kept_token, outcome_of}
-use Rattle.wl_core.specs.Moments.{Beginning, Moment, moment, moment_after, answer_ask, token_seat, ask_of_seat, seat}
+use Rattle.wl_core.specs.Moments.{Beginning, Moment, moment, answer_ask, token_seat, ask_of_seat, seat}
 use Rattle.wl_core.specs.Traces.{ask_items, gain, joined_trace, trace_after}
-use Rattle.wl_core.proofs.Readiness.{room_after}
+use Rattle.wl_responses.proofs.Runs.{seat_step, room}
 use Rattle.wl_secrets.proofs.Calls.{Bounds, SessionOn}
 use Rattle.wl_secrets.proofs.Unshown.{unshown, feed_unshown, fed_items_unshown, turn_unshown, turn_items_unshown, outcome_unshown, asks_unshown, unshown_twice, ShowsAlike, turn_same, turn_items_same}
 
--- ---- one connection
-
-abbrev pub seat_step : Event → ℕ → Moment → Option Seat → Option Seat
-seat_step (events.Sync document) conn m o = o
-seat_step (events.Claim now) conn m o = o
-seat_step (events.Signed ticket signed now) conn m o = o
-seat_step (events.Failed ticket) conn m o = o
-seat_step (events.Join k selectors) conn m o = if k == conn then joined_seat selectors o else o
-seat_step (events.Name k caller) conn m o = if k == conn then named_seat caller o else o
-seat_step (events.Feed k piece) conn m o = if k == conn then told_seat (feed_seat piece) o else o
-seat_step (events.Turn k) conn m o = if k == conn then told_seat (turn_seat m.stored.published) o else o
-seat_step (events.Token k now given) conn m o = if k == conn then told_seat (token_seat (tokens_of m.stored m.history) now given) o else o
-seat_step (events.Close k) conn m o = if k == conn then None else o
-
-pub same_conn : (k conn : ℕ) → (k == conn) ≡ true → k ≡ conn
-same_conn k conn is = grind (arith, nat_tests, is)
-
-other_conn : (k conn : ℕ) → (k == conn) ≡ false → conn ≢ k
-other_conn k conn is = grind (arith, nat_tests, is)
-
-set_go : (seats : List (Option Seat)) (k conn : ℕ) (f : Option Seat → Option Seat) (b : Bool) → (k == conn) ≡ b → conn < length seats
-    → seat_at (slice_set seats k (f (seat_at seats k))) conn ≡ (if b then f (seat_at seats conn) else seat_at seats conn)
-set_go seats k conn f true is within =
-    ap (λ (n : ℕ). seat_at (slice_set seats n (f (seat_at seats n))) conn) (same_conn k conn is) ∙ get_or-set_same seats conn (f (seat_at seats conn)) None within
-set_go seats k conn f false is within = get_or-set_other seats k conn (f (seat_at seats k)) None (other_conn k conn is)
-
-pub seat_after : (e : Event) (conn : ℕ) (m : Moment) → conn < length m.seats → seat_at (moment_after e m).seats conn ≡ seat_step e conn m (seat_at m.seats conn)
-unfolding moment_after
-seat_after (events.Sync document) conn m within = refl
-seat_after (events.Claim now) conn m within = refl
-seat_after (events.Signed ticket signed now) conn m within = refl
-seat_after (events.Failed ticket) conn m within = refl
-seat_after (events.Join k selectors) conn m within = set_go m.seats k conn (joined_seat selectors) (k == conn) refl within
-seat_after (events.Name k caller) conn m within = set_go m.seats k conn (named_seat caller) (k == conn) refl within
-seat_after (events.Feed k piece) conn m within = set_go m.seats k conn (told_seat (feed_seat piece)) (k == conn) refl within
-seat_after (events.Turn k) conn m within = set_go m.seats k conn (told_seat (turn_seat m.stored.published)) (k == conn) refl within
-seat_after (events.Token k now given) conn m within = set_go m.seats k conn (told_seat (token_seat (tokens_of m.stored m.history) now given)) (k == conn) refl within
-seat_after (events.Close k) conn m within = set_go m.seats k conn (λ o. None) (k == conn) refl within
-
-pub room : (d : Beginning) (past : List Event) → length (moment d past).seats ≡ CONNS
-room d [] = let none : Option Seat = None in length-replicate CONNS none
-room d (e ∷ past) = room_after e (moment d past) ∙ room d past
-
-pub seat_next : (d : Beginning) (e : Event) (past : List Event) (conn : ℕ) → conn < CONNS → seat d (e ∷ past) conn ≡ seat_step e conn (moment d past) (seat d past conn)
-seat_next d e past conn within = seat_after e conn (moment d past) (subst (λ (n : ℕ). conn < n) (sym (room d past)) within)
-
+-- beyond the last connection there is no session
 pub vacant : (d : Beginning) (past : List Event) (conn : ℕ) → CONNS ≤ conn → seat d past conn ≡ None
 vacant d past conn beyond = get_or_past (moment d past).seats conn None (subst (λ (n : ℕ). n ≤ conn) (sym (room d past)) beyond)
 

@@ -6,12 +6,11 @@ use Rattle.h2_conn.specs.declared.fault.ConnFault.{ConnFault}
 use Rattle.wl_snapshot.specs.Snapshots.{Publication}
 use Rattle.wl_session.specs.declared.asks.JwtAsk.{JwtAsk}
 use Rattle.wl_session.specs.declared.asks.JwtOutcome.{JwtOutcome}
-use Rattle.wl_session.specs.Tokens.{first_unnamed, first_ask}
+use Rattle.wl_session.specs.Tokens.{first_unnamed}
 use Rattle.wl_session.specs.Talks.{Talking}
-use Rattle.wl_session.specs.Sessions.{SessionState, Running, Fallen, OutOfMemory, feed_said, name_said, turn_said, given_said, state_of_fault, unnamed_in, asks_in}
-use Rattle.wl_session.specs.Steps.{turn_told, outcome_told}
-use Rattle.wl_session.specs.Completing.{IsCompleteIn, AllAnswered}
-use Rattle.wl_responses.proofs.AfterTurns.{KeepComplete}
+use Rattle.wl_session.specs.Sessions.{SessionState, Running, Fallen, OutOfMemory, feed_said, name_said, state_of_fault, unnamed_in, asks_in}
+use Rattle.wl_session.specs.Completing.{IsCompleteIn}
+use Rattle.wl_responses.proofs.AfterTurns.{KeepComplete, turn_complete, outcome_complete}
 use Rattle.wl_worker.specs.Rounds.{Round, heard_told, name_told_at, answer_told, answers_told, shown_told, given_told_at, given_told, outcomes_told, round_told, heard_session, named_session, turned_session, session_after}
 
 there : {X : Type 0} (o : Option X) (x : X) → o ≡ Some x → IsSome o
@@ -47,24 +46,14 @@ unfolding answers_told
 answers_complete law [] s h = h
 answers_complete law (a ∷ more) s h = answers_complete law more (answer_told a s).after (answer_complete law a s h)
 
-pub turn_complete : KeepComplete → (x : Publication) (s : SessionState) → IsCompleteIn s → IsCompleteIn (turn_told x s).after × AllAnswered x (turn_told x s).after
-unfolding turn_told
-turn_complete law x (Running e t shown) h = law.turned x (Running e t shown) (Running e (turn_said x t).after (Some x)) (Ok tt) [] (turn_said x t).bytes (refl, refl) h
-turn_complete law x (Fallen fault begun) h = (tt, tt)
-turn_complete law x OutOfMemory h = (tt, tt)
-
 shown_complete : KeepComplete → (shown : Option Publication) (s : SessionState) → IsCompleteIn s → IsCompleteIn (shown_told shown s).after
 unfolding shown_told
 shown_complete law None s h = h
 shown_complete law (Some x) s h = (turn_complete law x s h).0
 
 given_at_complete : KeepComplete → (ask : Option JwtAsk) (o : JwtOutcome) (s : SessionState) → asks_in s ≡ ask → IsCompleteIn s → IsCompleteIn (given_told_at ask o s).after
-unfolding outcome_told
 given_at_complete law None o s is h = h
-given_at_complete law (Some a) o (Running e t shown) is h =
-    law.given o (Running e t shown) (Running e (given_said o t).after shown) (Ok tt) [] (given_said o t).bytes (there (first_ask t.served) a is) (refl, refl) h
-given_at_complete law (Some a) o (Fallen fault begun) is h = tt
-given_at_complete law (Some a) o OutOfMemory is h = tt
+given_at_complete law (Some a) o s is h = outcome_complete law o a s is h
 
 given_complete : KeepComplete → (o : JwtOutcome) (s : SessionState) → IsCompleteIn s → IsCompleteIn (given_told o s).after
 unfolding given_told

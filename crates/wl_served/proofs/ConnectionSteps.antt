@@ -1,64 +1,25 @@
 -- The steps of a served connection: their talk is its talk, and their bytes are its bytes.
-use Rattle.std.proofs.Common.{◌≡◌, inl, inr, ℕ, ◌≤◌, List, [], ◌∷◌, ◌++◌, Option, Some, None, refl, sym, ap, subst, ◌∙◌, append-nil, append_assoc, arith}
-use Rattle.std.specs.List.{AllByRecursion}
-use Rattle.h2_frame.specs.declared.frame.Frame.{Frame}
-use Rattle.h2_frame.specs.Reading.{End, Opening, Rest, Fault, Reading, reading_from}
+use Rattle.std.proofs.Common.{◌≡◌, ℕ, ◌≤◌, List, [], ◌∷◌, ◌++◌, Option, Some, None, refl, sym, ap, subst, ◌∙◌, append-nil, append_assoc, arith}
+use Rattle.h2_frame.specs.Reading.{End, reading_from}
 use Rattle.h2_conn.specs.declared.fault.ConnFault.{ConnFault}
-use Rattle.h2_conn.specs.Kinds.{Fits}
 use Rattle.h2_conn.proofs.FrameDemands.{frames_fit}
 use Rattle.wl_snapshot.specs.Snapshots.{Publication}
 use Rattle.wl_publish.specs.Lists.{NonFallingFrom}
 use Rattle.wl_session.specs.declared.asks.JwtAsk.{JwtAsk}
 use Rattle.wl_session.specs.declared.asks.JwtOutcome.{JwtOutcome}
-use Rattle.wl_session.specs.Talks.{Talking, Said, then_, frame_said, frames_said, break_said}
-use Rattle.wl_session.specs.Sessions.{SessionState, Running, Fallen, OutOfMemory, ended_by, feed_said, turn_said, name_said, given_said, state_of_fault, unnamed_in, asks_in}
+use Rattle.wl_session.specs.Talks.{Talking}
+use Rattle.wl_session.specs.Sessions.{SessionState, Running, Fallen, OutOfMemory, feed_said, turn_said, name_said, given_said, state_of_fault, unnamed_in, asks_in}
 use Rattle.wl_session.specs.Steps.{Told, turn_told, outcome_told}
-use Rattle.wl_responses.specs.Steps.{Step, FrameCame, BytesBroke, CallAttested, TurnTaken, OutcomeCame, step_said, talk_after, AllFit}
-use Rattle.wl_responses.specs.Replies.{AnsweringTurn, Response}
-use Rattle.wl_responses.specs.Responses.{NoneAbove, NeverFall, numbers_read, WasTaken, IfTurn, AllTurns}
+use Rattle.wl_responses.specs.Steps.{Step, talk_after, AllFit}
+use Rattle.wl_responses.specs.Responses.{NoneAbove, NeverFall, numbers_read}
 use Rattle.wl_responses.specs.Moves.{onto_frames, onto_ending, bytes_of_steps, HasTalk}
+use Rattle.wl_responses.proofs.MoveSteps.{Leads, reading_leads, Takes, frames_all_fit, ending_fits, frames_numbers, ending_numbers}
+use Rattle.wl_responses.proofs.Runs.{Reads, frames_read, ending_reads}
 use Rattle.wl_worker.specs.Rounds.{Round, then_told, heard_told, name_told_at, answer_told, answers_told, shown_told, given_told_at, given_told, outcomes_told, round_told, heard_session, named_session, turned_session, session_after, numbers, number_of, IsIn, IsKnown, AreKnown}
 use Rattle.wl_worker.proofs.RoundTraces.{talk_grows, nothing_talked}
 use Rattle.wl_served.specs.Served.{onto_heard, onto_answer, onto_answers, onto_turn, onto_shown, onto_given, onto_outcomes, onto_round, steps_of_rounds, RoundsTakeSteps}
 
--- ---- talks
-
-record Leads (before after : List Step) (said : Said) : Type 0 where
-  talk : said.after ≡ talk_after after
-  bytes : bytes_of_steps after ≡ bytes_of_steps before ++ said.bytes
-
-leads_both : (before mid after : List Step) (first : Said) (go_on : Talking → Said) → Leads before mid first → Leads mid after (go_on (talk_after mid)) → Leads before after (then_ first go_on)
-leads_both before mid after first go_on h k = record {
-  talk = ap (λ (t : Talking). (go_on t).after) h.talk ∙ k.talk;
-  bytes =
-      k.bytes
-      ∙ (ap (λ (xs : List ℕ). xs ++ (go_on (talk_after mid)).bytes) h.bytes
-      ∙ (append_assoc (bytes_of_steps before) first.bytes (go_on (talk_after mid)).bytes
-      ∙ ap (λ (t : Talking). bytes_of_steps before ++ (first.bytes ++ (go_on t).bytes)) (sym h.talk)));
-}
-
-leads_step : (step : Step) (before : List Step) → Leads before (step ∷ before) (step_said step (talk_after before))
-leads_step step before = record { talk = refl; bytes = refl }
-
-frames_lead : (fs : List Frame) (before : List Step) → Leads before (onto_frames fs before) (frames_said fs (talk_after before))
-unfolding frames_said
-frames_lead [] before = record { talk = refl; bytes = sym (append-nil (bytes_of_steps before)) }
-frames_lead (f ∷ fs) before = leads_both before (FrameCame f ∷ before) (onto_frames fs (FrameCame f ∷ before)) (frame_said f (talk_after before)) (frames_said fs) (leads_step (FrameCame f) before) (frames_lead fs (FrameCame f ∷ before))
-
-ending_leads : (e : End) (before mid : List Step) (said : Said) → Leads before mid said → Leads before (onto_ending e mid) (ended_by e said)
-ending_leads (Opening left) before mid said h = h
-ending_leads (Rest rest) before mid said h = h
-ending_leads (Fault why) before mid said h = leads_both before mid (BytesBroke why ∷ mid) said (break_said why) h (leads_step (BytesBroke why) mid)
-
-reading_leads : (r : Reading) (before : List Step) → Leads before (onto_ending r.ending (onto_frames r.frames before)) (feed_said r (talk_after before))
-unfolding feed_said
-reading_leads r before = ending_leads r.ending before (onto_frames r.frames before) (frames_said r.frames (talk_after before)) (frames_lead r.frames before)
-
 -- ---- sessions
-
-record Takes (before after : List Step) (told : Told) : Type 0 where
-  talk : HasTalk told.after after
-  bytes : bytes_of_steps after ≡ bytes_of_steps before ++ told.bytes
 
 takes_both : (before mid after : List Step) (first : Told) (next : SessionState → Told) → Takes before mid first → Takes mid after (next first.after) → Takes before after (then_told first next)
 takes_both before mid after first next h k = record {
@@ -154,15 +115,6 @@ rounds_take_steps (r ∷ past) =
 
 -- ---- what holds of all steps
 
-frames_all_fit : (fs : List Frame) (before : List Step) → AllByRecursion Fits fs → AllFit before → AllFit (onto_frames fs before)
-frames_all_fit [] before fits h = h
-frames_all_fit (f ∷ fs) before fits h = frames_all_fit fs (FrameCame f ∷ before) fits.1 (h, fits.0)
-
-ending_fits : (e : End) (before : List Step) → AllFit before → AllFit (onto_ending e before)
-ending_fits (Opening left) before h = h
-ending_fits (Rest rest) before h = h
-ending_fits (Fault why) before h = (h, tt)
-
 heard_fits : (piece : List ℕ) (s : SessionState) (before : List Step) → AllFit before → AllFit (onto_heard piece s before)
 heard_fits piece (Running e t shown) before h = ending_fits (reading_from e piece).ending (onto_frames (reading_from e piece).frames before) (frames_all_fit (reading_from e piece).frames before (frames_fit e piece) h)
 heard_fits piece (Fallen fault begun) before h = h
@@ -202,42 +154,6 @@ rounds_fit (r ∷ past) =
     (answers_fit r.answers (heard_session r s) (onto_heard r.piece s (steps_of_rounds past)) (heard_fits r.piece s (steps_of_rounds past) (rounds_fit past))))
 
 -- ---- publications
-
-abbrev pub StepReads : (Publication → Type 0) → Step → Type 0
-StepReads P (FrameCame f) = Unit {0}
-StepReads P (BytesBroke why) = Unit {0}
-StepReads P (CallAttested caller) = Unit {0}
-StepReads P (TurnTaken x) = P x
-StepReads P (OutcomeCame o) = Unit {0}
-
-abbrev pub Reads : (Publication → Type 0) → List Step → Type 0
-Reads P steps = AllByRecursion (StepReads P) steps
-
-taken_reads : (P : Publication → Type 0) (n : ℕ) (turn : AnsweringTurn) (steps : List Step) → Reads P steps → WasTaken n turn steps → P turn.publication
-taken_reads P n turn [] h is = absurd is
-taken_reads P n turn (FrameCame f ∷ before) h (inl is) = absurd is
-taken_reads P n turn (BytesBroke why ∷ before) h (inl is) = absurd is
-taken_reads P n turn (CallAttested caller ∷ before) h (inl is) = absurd is
-taken_reads P n turn (TurnTaken x ∷ before) h (inl is) = subst P is.0 h.0
-taken_reads P n turn (OutcomeCame o ∷ before) h (inl is) = absurd is
-taken_reads P n turn (step ∷ before) h (inr is) = taken_reads P n turn before h.1 is
-
-pub turns_read : (P : Publication → Type 0) (n : ℕ) (steps : List Step) (begun : List Response) → Reads P steps → AllTurns (λ turn. WasTaken n turn steps) begun → AllTurns (λ turn. P turn.publication) begun
-turns_read P n steps [] h is = tt
-turns_read P n steps (r ∷ begun) h is = (go r.turn is.0, turns_read P n steps begun h is.1)
-  where
-    go : (turn : Option AnsweringTurn) → IfTurn (λ turn. WasTaken n turn steps) turn → IfTurn (λ turn. P turn.publication) turn
-    go None taken = tt
-    go (Some turn) taken = taken_reads P n turn steps h taken
-
-frames_read : (P : Publication → Type 0) (fs : List Frame) (before : List Step) → Reads P before → Reads P (onto_frames fs before)
-frames_read P [] before h = h
-frames_read P (f ∷ fs) before h = frames_read P fs (FrameCame f ∷ before) (tt, h)
-
-ending_reads : (P : Publication → Type 0) (e : End) (before : List Step) → Reads P before → Reads P (onto_ending e before)
-ending_reads P (Opening left) before h = h
-ending_reads P (Rest rest) before h = h
-ending_reads P (Fault why) before h = (tt, h)
 
 heard_reads : (P : Publication → Type 0) (piece : List ℕ) (s : SessionState) (before : List Step) → Reads P before → Reads P (onto_heard piece s before)
 heard_reads P piece (Running e t shown) before h = ending_reads P (reading_from e piece).ending (onto_frames (reading_from e piece).frames before) (frames_read P (reading_from e piece).frames before h)
@@ -279,15 +195,6 @@ rounds_read seen (r ∷ past) known =
     (answers_read P r.answers (heard_session r s) (onto_heard r.piece s (steps_of_rounds past)) (heard_reads P r.piece s (steps_of_rounds past) (rounds_read seen past known.1))))
 
 -- ---- numbers
-
-frames_numbers : (fs : List Frame) (before : List Step) → numbers_read (onto_frames fs before) ≡ numbers_read before
-frames_numbers [] before = refl
-frames_numbers (f ∷ fs) before = frames_numbers fs (FrameCame f ∷ before)
-
-ending_numbers : (e : End) (before : List Step) → numbers_read (onto_ending e before) ≡ numbers_read before
-ending_numbers (Opening more) before = refl
-ending_numbers (Rest rest) before = refl
-ending_numbers (Fault why) before = refl
 
 heard_numbers : (piece : List ℕ) (s : SessionState) (before : List Step) → numbers_read (onto_heard piece s before) ≡ numbers_read before
 heard_numbers piece (Running e t shown) before = ending_numbers (reading_from e piece).ending (onto_frames (reading_from e piece).frames before) ∙ frames_numbers (reading_from e piece).frames before

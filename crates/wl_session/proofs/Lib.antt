@@ -5,15 +5,15 @@ mod TurnSequences
 pub mod SessionFacts
 pub mod ViewFacts
 mod Views
-mod Sizes
+pub mod Sizes
 mod FramedMessages
 mod FedBytes
 pub mod TurnPublications
 mod Refusals
-mod Streams
+pub mod Streams
 mod Orders
 mod TurnAnswers
-mod PeerAnswers
+pub mod PeerAnswers
 pub mod Attestations
 pub mod WithoutSelectors
 pub mod Traces

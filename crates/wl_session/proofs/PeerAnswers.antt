@@ -54,7 +54,7 @@ use Rattle.wl_session.proofs.TurnAnswers.{all_kept, Any, any_all, flip, written_
 
 -- ---- calls that wait for their verdict
 
-none_without : (n k : ℕ) (calls : List Call) → standing_at n calls ≡ None → standing_at n (without k calls) ≡ None
+pub none_without : (n k : ℕ) (calls : List Call) → standing_at n calls ≡ None → standing_at n (without k calls) ≡ None
 none_without n k [] h = refl
 none_without n k (c ∷ calls) h =
     elim (cases_Bool (c.stream == n)) [
@@ -70,7 +70,7 @@ none_without n k (c ∷ calls) h =
     wrong : Some c.standing ≡ None → ⊥
     wrong e = absurd (cc e)
 
-gone_without : (n : ℕ) (calls : List Call) → standing_at n (without n calls) ≡ None
+pub gone_without : (n : ℕ) (calls : List Call) → standing_at n (without n calls) ≡ None
 gone_without n [] = refl
 gone_without n (c ∷ calls) =
     elim (cases_Bool (c.stream == n)) [
@@ -78,7 +78,7 @@ gone_without n (c ∷ calls) =
       | inr there ↦ rw there (rw there (gone_without n calls))
     ]
 
-none_with : (n k : ℕ) (s : Standing) (calls : List Call) → (n ≡ k → ⊥) → standing_at n calls ≡ None → standing_at n (with_call k s calls) ≡ None
+pub none_with : (n k : ℕ) (s : Standing) (calls : List Call) → (n ≡ k → ⊥) → standing_at n calls ≡ None → standing_at n (with_call k s calls) ≡ None
 none_with n k s [] other h = rw (ne_eqb k n (λ e. absurd (other (sym e)))) refl
 none_with n k s (c ∷ calls) other h =
     elim (cases_Bool (c.stream == n)) [
@@ -89,7 +89,7 @@ none_with n k s (c ∷ calls) other h =
     wrong : Some c.standing ≡ None → ⊥
     wrong e = absurd (cc e)
 
-none_after : (n k : ℕ) (bytes : List ℕ) (ended : Bool) (calls : List Call) → standing_at n calls ≡ None → standing_at n (calls_after k bytes ended calls) ≡ None
+pub none_after : (n k : ℕ) (bytes : List ℕ) (ended : Bool) (calls : List Call) → standing_at n calls ≡ None → standing_at n (calls_after k bytes ended calls) ≡ None
 none_after n k bytes ended [] h = refl
 none_after n k bytes ended (c ∷ calls) h =
     elim (cases_Bool (c.stream == n)) [
@@ -127,7 +127,7 @@ undecided n s calls (c ∷ cs) is h = ((λ e. wrong (sym (subst (λ (m : ℕ). s
 
 -- ---- an event
 
-served_all : (P : ServedCall → Type 0) (c : ServedCall) (cs : List ServedCall) → P c → AllByRecursion P cs → AllByRecursion P (with_served c cs)
+pub served_all : (P : ServedCall → Type 0) (c : ServedCall) (cs : List ServedCall) → P c → AllByRecursion P cs → AllByRecursion P (with_served c cs)
 served_all P c [] p h = (p, tt)
 served_all P c (d ∷ ds) p h = go (nat_lt c.stream d.stream) (served_all P c ds p h.1)
   where
@@ -217,7 +217,7 @@ told_complete (Some happened) t new h = happening_complete happened t (new happe
 -- ---- a frame
 
 -- a live stream was opened
-live_below : (n last : ℕ) (ns : List ℕ) (ss : List live.Stream) → ns ≡ map number_of ss → AllByRecursion (λ m. m < last + 1) ns → is_live n ss ≡ true → n ≤ last
+pub live_below : (n last : ℕ) (ns : List ℕ) (ss : List live.Stream) → ns ≡ map number_of ss → AllByRecursion (λ m. m < last + 1) ns → is_live n ss ≡ true → n ≤ last
 live_below n last ns [] same below live = absurd (cc live)
 live_below n last [] (s ∷ ss) same below live = absurd (cc same)
 live_below n last (m ∷ ns) (s ∷ ss) same below live =
@@ -246,7 +246,7 @@ new_of old new (Some told) t at so sn le names shows h is =
     go (happening.End n) names = subst (λ (p : Phase). CameOn n p) (sym at) (omega (arith, le, live_came n old so names))
     go (happening.Gone n) names = tt
 
-opens_not : (n : ℕ) (old new : State) (told : Option Happening) → n ≤ old.last_stream_id → NamesTold old told new → OpensNot n told
+pub opens_not : (n : ℕ) (old new : State) (told : Option Happening) → n ≤ old.last_stream_id → NamesTold old told new → OpensNot n told
 opens_not n old new None came names = tt
 opens_not n old new (Some (happening.Head k headers ended)) came names = λ e. absurd (omega (arith, came, ltb-true old.last_stream_id k names.0, e))
 opens_not n old new (Some (happening.Body k bytes ended)) came names = tt

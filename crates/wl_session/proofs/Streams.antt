@@ -141,7 +141,7 @@ pub refusal_keeps : (n k : ℕ) (headed : Bool) (r : Refusal) (p : Phase) → (k
 unfolding with_refusal
 refusal_keeps n k headed r p other = keeps_both n p (withdraws k p) _ (withdrawal_keeps n k p other) (trailers_keep n k (block_bytes (refused_fields r (not headed))) (withdraws k p))
 
-first_stands : (k : ℕ) (headed : Bool) (p : Phase) → Stands p (with_first_head k headed p)
+pub first_stands : (k : ℕ) (headed : Bool) (p : Phase) → Stands p (with_first_head k headed p)
 unfolding with_first_head
 first_stands k true p = stands_itself p
 first_stands k false p = head_stands k (block_bytes response_fields) p

@@ -5,7 +5,11 @@ use Rattle.clap.specs.Simple.{is_simple, subcommand_of}
 use Rattle.clap.specs.Faults.{fault_of, is_simple_and_free}
 use Rattle.agent_words.specs.Commands.{agentd}
 use Rattle.agent_words.specs.Asked.{asked}
-use Rattle.agent_words.proofs.Rows.{all_texts, asked_for, is_free, is_plain, refused}
+use Rattle.clap_words.proofs.Past.{all_texts}
+use Rattle.clap_words.proofs.Top.{asked_for, refused}
+use Rattle.agent_words.specs.Found.{operands_in}
+use Rattle.agent_words.specs.Requests.{request_of}
+use Rattle.agent_words.proofs.Top.{app, is_free, is_plain, parses}
 use Rattle.agent_words.proofs.read.Goals as goal
 
 pub returns-in_err-matches-clause-kinds : goal.returns-in_err-matches-clause-kinds
@@ -21,7 +25,7 @@ returns-in_err-matches-clause-unfit c =
     let command_is : app_of c.in_ok-agent_command.field-0 ≡ agentd = c.in_ok-agent_command.ensures in
     let words = map string_bytes c.args.words.now in
     let has : HasKind (fault_of (app_of c.in_ok-agent_command.field-0) words) c.in_err-matches.field-0.0 = c.in_err-matches.ensures.kinds (ap is_simple_and_free command_is ∙ is_free) in
-    let is = refused words (all_texts c.args.words.now) c.in_err-matches.field-0.0 (subst (λ a. HasKind (fault_of a words) c.in_err-matches.field-0.0) command_is has) in
+    let is = refused app operands_in words (request_of words) (parses words (all_texts c.args.words.now)) c.in_err-matches.field-0.0 (subst (λ a. HasKind (fault_of a words) c.in_err-matches.field-0.0) command_is has) in
     search (rules, is)
 
 pub returns-clause-fits : goal.returns-clause-fits
@@ -29,6 +33,6 @@ returns-clause-fits c =
     let command_is : app_of c.in_ok-agent_command.field-0 ≡ agentd = c.in_ok-agent_command.ensures in
     let words = map string_bytes c.args.words.now in
     let none : fault_of (app_of c.in_ok-agent_command.field-0) words ≡ [] = c.in_ok-matches.ensures.kinds (ap is_simple_and_free command_is ∙ is_free) in
-    asked_for words (all_texts c.args.words.now) (ap (λ a. fault_of a words) (sym command_is) ∙ none) _
+    asked_for app operands_in words (request_of words) (parses words (all_texts c.args.words.now)) (ap (λ a. fault_of a words) (sym command_is) ∙ none) _
     ((c.in_ok-matches.ensures.matches (ap is_simple command_is ∙ is_plain)).1 ∙ ap (λ a. subcommand_of a words) command_is) _
     (ap (option_map asked) (sym c.in-Some.is) ∙ c.in_ok-request.ensures)

@@ -1,4 +1,5 @@
-use Rattle.wl_served.proofs.ConnectionSteps.{rounds_take_steps, rounds_fit, rounds_read, rounds_fall, turns_read}
+use Rattle.wl_served.proofs.ConnectionSteps.{rounds_take_steps, rounds_fit, rounds_read, rounds_fall}
+use Rattle.wl_responses.proofs.Runs.{turns_read}
 use Rattle.wl_served.specs.Served.{steps_of_rounds, served_on}
 use Rattle.wl_worker.specs.Rounds.{IsIn}
 use Rattle.wl_served.proofs.laws.served_responses_are_answers.Goals as goal
