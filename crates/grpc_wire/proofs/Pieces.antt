@@ -52,7 +52,7 @@ ends_so : (limit : ℕ) (e : End) (h : List ℕ) → (messages_of limit h).endin
 ends_so limit (Rest rest) h same = same
 ends_so limit (Fault fault) h same = refuses fault same
 
-from_start : (limit : ℕ) (fed piece : List ℕ) → messages_of limit (fed ++ piece) ≡ read_on limit (messages_of limit fed) piece
+pub from_start : (limit : ℕ) (fed piece : List ℕ) → messages_of limit (fed ++ piece) ≡ read_on limit (messages_of limit fed) piece
 unfolding reading_from
 from_start limit fed piece = reads_on limit (Rest []) fed piece
 

@@ -4,10 +4,10 @@ use Rattle.std.proofs.lemmas.Bool.{cases_Bool}
 use Rattle.h2_flow.specs.declared.stream.Stream.{Stream}
 use Rattle.h2_flow.specs.Outboxes.{Out, update_stream, with_offer, with_message}
 
-changed_here : (n : ℕ) (f : Stream → Stream) (s : Stream) (ss : List Stream) → (s.number == n) ≡ true → update_stream n f (s ∷ ss) ≡ f s ∷ ss
+pub changed_here : (n : ℕ) (f : Stream → Stream) (s : Stream) (ss : List Stream) → (s.number == n) ≡ true → update_stream n f (s ∷ ss) ≡ f s ∷ ss
 changed_here n f s ss here = rw here refl
 
-changed_past : (n : ℕ) (f : Stream → Stream) (s : Stream) (ss : List Stream) → (s.number == n) ≡ false → update_stream n f (s ∷ ss) ≡ s ∷ update_stream n f ss
+pub changed_past : (n : ℕ) (f : Stream → Stream) (s : Stream) (ss : List Stream) → (s.number == n) ≡ false → update_stream n f (s ∷ ss) ≡ s ∷ update_stream n f ss
 changed_past n f s ss past = rw past refl
 
 changed_twice : (n : ℕ) (f : Stream → Stream) → ((s : Stream) → (f s).number ≡ s.number) → ((s : Stream) → f (f s) ≡ f s) → (ss : List Stream) → update_stream n f (update_stream n f ss) ≡ update_stream n f ss

@@ -1,18 +1,17 @@
 -- What was written on a stream is a prefix of the messages that began there, and each of them was offered.
-use Rattle.std.proofs.Common.{◌≡◌, inl, inr, ℕ, ◌+◌, ◌-◌, ◌<◌, ◌≤◌, ◌==◌, nat_lt, Bool, true, false, not, cond, pos, ◌+ℤ◌, bytes_eq, List, [], ◌∷◌, ◌++◌, length, drop, filter, map, Option, Some, None, option_map, Result, Ok, Err, refl, sym, ap, ◌∙◌, arith, eq-eqb, eqb-true, ne_eqb, append-nil, append_assoc, length-append, int_lt}
+use Rattle.std.proofs.Common.{◌≡◌, inl, inr, ℕ, ◌-◌, ◌<◌, ◌==◌, nat_lt, Bool, true, false, not, cond, pos, ◌+ℤ◌, bytes_eq, List, [], ◌∷◌, ◌++◌, length, drop, filter, Option, Some, None, option_map, Ok, refl, sym, ap, ◌∙◌, arith, eqb-true, ne_eqb, append-nil, append_assoc, length-append}
 use Rattle.std.specs.Cmp.Lexicographic.{bytes_decides}
 use Rattle.std.specs.List.{AllByRecursion}
 use Rattle.std.proofs.lemmas.Bool.{cases_Bool, le-ltb, lt-ltb}
 use Rattle.std.proofs.Math.Seq.{drop-append_seam}
 use Rattle.list_laws.specs.Lists.{BeginsWith}
-use Rattle.h2_flow.specs.declared.overflow.Overflow.{Overflow}
 use Rattle.h2_flow.specs.declared.stream.Stream.{Stream}
 use Rattle.h2_flow.specs.Streams.{Sent}
-use Rattle.h2_flow.specs.Outboxes.{Out, new_outbox, is_number, IsAbove, new_stream, RisesFrom, numbers, update_stream, with_stream, without_stream, with_control, with_size_update, with_head, with_offer, with_message, without_waiting, with_trailers, credit_of, with_connection_step, with_stream_step, with_step, first_over, with_initial, set_initial_window, pull_of}
+use Rattle.h2_flow.specs.Outboxes.{Out, is_number, IsAbove, new_stream, RisesFrom, numbers, update_stream, with_stream, without_stream, with_control, with_size_update, with_head, with_offer, with_message, without_waiting, with_trailers, with_connection_step, with_stream_step, with_step, first_over, with_initial, set_initial_window, pull_of}
 use Rattle.h2_flow.specs.Histories.{Step, Add, Remove, Initial, Grow, Control, Shrink, Give, Offer, Withdraw, Finish, Pull, Leads, Reaches}
-use Rattle.h2_flow.specs.Progress.{all_data_on, Progress, no_progress, last_of, all_messages, begin_with, IsMore, after_writing, after_offer, after_step, progress_on, AllDiffer, IsOffer, WasOffered, find_stream, left_of, Matches, WritesWhatBegan, Finishes}
+use Rattle.h2_flow.specs.Progress.{all_data_on, Progress, no_progress, last_of, all_messages, begin_with, IsMore, after_writing, after_offer, after_step, progress_on, AllDiffer, WasOffered, find_stream, left_of, Matches, WritesWhatBegan, Finishes}
 use Rattle.h2_flow.proofs.Messages.{Stays, Begins, GoesOn, goes_pull}
-use Rattle.h2_flow.proofs.Sums.{reached_rises}
+use Rattle.h2_flow.proofs.Sums.{reached_rises, granted}
 
 differ : {P : Type 0} {b : Bool} → b ≡ true → b ≡ false → P
 differ on off = absurd (cc (on, off))
@@ -23,10 +22,10 @@ pub record Keeps (p : Progress) (a : Option Stream) : Type 0 where
   pub front : p.written ++ p.left ≡ all_messages p.begun
   pub there : Matches p a
 
-not_more : (l d r : List ℕ) → d ++ r ≡ l → nat_lt (length l) (length d) ≡ false
+pub not_more : (l d r : List ℕ) → d ++ r ≡ l → nat_lt (length l) (length d) ≡ false
 not_more l d r e = le-ltb (length l) (length d) (omega (arith, sym (ap length e), length-append d r))
 
-more : (l b d : List ℕ) → 0 < length b → d ≡ l ++ b → nat_lt (length l) (length d) ≡ true
+pub more : (l b d : List ℕ) → 0 < length b → d ≡ l ++ b → nat_lt (length l) (length d) ≡ true
 more l b d some e = lt-ltb (length l) (length d) (omega (arith, some, ap length e, length-append l b))
 
 keeps_stays : (d : List ℕ) (p : Progress) (s t : Stream) → Stays d s t → Keeps p (Some s) → Keeps (after_writing d p) (Some t)
@@ -175,10 +174,6 @@ keeps_removed n k p ss h =
     ]
 
 -- ---- windows
-
-granted : (b : Bool) (e : Overflow) (x new : Out) → cond b (Err e) (Ok x) ≡ Ok new → new ≡ x
-granted true e x new due = absurd (cc due)
-granted false e x new due = cc
 
 keeps_connection : (n step : ℕ) (p : Progress) (o new : Out) → with_connection_step step o ≡ Ok new → Keeps p (find_stream n o.streams) → Keeps p (find_stream n new.streams)
 unfolding with_connection_step

@@ -409,7 +409,7 @@ holds_removed n before o h =
 -- ---- windows move
 
 -- what was granted
-granted : (b : Bool) (e : Overflow) (x new : Out) → cond b (Err e) (Ok x) ≡ Ok new → new ≡ x
+pub granted : (b : Bool) (e : Overflow) (x new : Out) → cond b (Err e) (Ok x) ≡ Ok new → new ≡ x
 granted true e x new due = absurd (cc due)
 granted false e x new due = cc
 

@@ -1,11 +1,11 @@
 -- What holds of each keep holds of those that stay and of the token that is found.
-use Rattle.std.specs.Prelude.{◌≡◌, ℕ, ◌&&◌, ◌-◌, zero, suc, Bool, nat_le, true, false, if◌then◌else◌, List, [], ◌∷◌, ◌++◌, length, drop, filter, option_map, Option, Some, None}
+use Rattle.std.specs.Prelude.{◌≡◌, ℕ, ◌&&◌, ◌-◌, Bool, nat_le, true, false, if◌then◌else◌, List, [], ◌∷◌, ◌++◌, length, filter, option_map, Option, Some, None}
 use Rattle.std.specs.Str.{bytes_eq}
 use Rattle.std.specs.List.{AllByRecursion, last_or}
 use Rattle.std.specs.Cmp.Lexicographic.{pointwise}
 use Rattle.std.proofs.Common.{refl, subst}
 use Rattle.std.proofs.lemmas.Bool.{and_parts}
-use Rattle.list_laws.proofs.Elements.{all_append}
+use Rattle.list_laws.proofs.Elements.{all_append, all_drop}
 use Rattle.wl_entry.specs.Same.{same_ask}
 use Rattle.list_laws.proofs.Equality.{texts_are}
 use Rattle.wl_entry.proofs.Sames.{ask_is}
@@ -16,11 +16,6 @@ use Rattle.jwt_cache.specs.declared.rings.CachedToken.{CachedToken}
 use Rattle.jwt_cache.specs.History.{last_of, is_of_use, newest, find_among}
 
 -- ---- those that stay
-
-all_drop : {A : Type 0} (P : A → Type 0) (n : ℕ) (xs : List A) → AllByRecursion P xs → AllByRecursion P (drop n xs)
-all_drop P zero xs all = all
-all_drop P (suc n) [] all = tt
-all_drop P (suc n) (x ∷ xs) all = all_drop P n xs all.1
 
 -- one more is kept, and the oldest may be pushed out
 pub last_holds : {A : Type 0} (P : A → Type 0) (n : ℕ) (xs : List A) (x : A) → AllByRecursion P xs → P x → AllByRecursion P (last_of n (xs ++ x ∷ []))

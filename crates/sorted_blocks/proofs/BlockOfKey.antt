@@ -10,35 +10,12 @@ use Rattle.list_laws.specs.Lists.{Rises}
 use Rattle.list_laws.specs.Keys.{item_at}
 use Rattle.list_laws.proofs.Order.{order}
 use Rattle.list_laws.proofs.Keys.{parted}
+use Rattle.list_laws.proofs.Elements.{all_append, all_back, all_take, all_drop}
 use Rattle.sorted_blocks.specs.Blocks.{join, AreFilled, is_below, is_above, with_item}
 use Rattle.sorted_blocks.specs.Places.{begins_up_to, block_in, IsPlace}
 use Rattle.sorted_blocks.proofs.Partitions.{below_first, up_to_down, above_up}
 
 -- ---- parts of lists
-
-pub all_behind : {A : Type 0} (P : A → Type 0) (xs ys : List A) → AllByRecursion P (xs ++ ys) → AllByRecursion P ys
-all_behind P [] ys all = all
-all_behind P (x ∷ xs) ys all = all_behind P xs ys all.1
-
-pub all_front : {A : Type 0} (P : A → Type 0) (xs ys : List A) → AllByRecursion P (xs ++ ys) → AllByRecursion P xs
-all_front P [] ys all = tt
-all_front P (x ∷ xs) ys all = (all.0, all_front P xs ys all.1)
-
-pub all_both : {A : Type 0} (P : A → Type 0) (xs ys : List A) → AllByRecursion P xs → AllByRecursion P ys → AllByRecursion P (xs ++ ys)
-all_both P [] ys a b = b
-all_both P (x ∷ xs) ys a b = (a.0, all_both P xs ys a.1 b)
-
-pub all_taken : {A : Type 0} (P : A → Type 0) (n : ℕ) (xs : List A) → AllByRecursion P xs → AllByRecursion P (take n xs)
-all_taken P zero [] all = tt
-all_taken P (suc n) [] all = tt
-all_taken P zero (x ∷ xs) all = tt
-all_taken P (suc n) (x ∷ xs) all = (all.0, all_taken P n xs all.1)
-
-pub all_dropped : {A : Type 0} (P : A → Type 0) (n : ℕ) (xs : List A) → AllByRecursion P xs → AllByRecursion P (drop n xs)
-all_dropped P zero [] all = tt
-all_dropped P (suc n) [] all = tt
-all_dropped P zero (x ∷ xs) all = all
-all_dropped P (suc n) (x ∷ xs) all = all_dropped P n xs all.1
 
 passes_all : {X : Type 0} (p : X → Bool) (xs : List X) → AllByRecursion (λ x. p x ≡ true) xs → filter p xs ≡ xs
 passes_all p [] all = refl
@@ -57,7 +34,7 @@ chosen_both p [] ys = refl
 chosen_both p (x ∷ xs) ys = chosen_go p x xs ys (p x) (chosen_both p xs ys)
 
 pub filled_more : {X : Type 0} (blocks : List (List X)) (block : List X) → AreFilled blocks → 0 < length block → AreFilled (blocks ++ block ∷ [])
-filled_more blocks block filled some = all_both (λ b. 0 < length b) blocks (block ∷ []) filled (some, tt)
+filled_more blocks block filled some = all_append (λ b. 0 < length b) blocks (block ∷ []) filled (some, tt)
 
 pub join_both : {X : Type 0} (xs ys : List (List X)) → join (xs ++ ys) ≡ join xs ++ join ys
 join_both [] ys = refl
@@ -196,14 +173,14 @@ module _ {X : Type 0} (key : X → List ℕ) (k : List ℕ) where
   place_go (suc n) (b ∷ c ∷ cs) filled rises few passed failed =
       let rest = place_go n (c ∷ cs) filled.1 (rises_behind b (join (c ∷ cs)) rises) (omega (arith, few)) (λ j d low high. passed (suc j) d (omega arith) (omega (arith, high))) (λ j d low high. failed (suc j) d (omega (arith, low)) (omega (arith, high))) in
       record {
-        before = all_both (λ x. is_below key k x ≡ true) b (join (take n (c ∷ cs))) (block_under b c (join cs) filled.1.0 rises (passed 1 c (omega arith) (omega arith))) rest.before;
+        before = all_append (λ x. is_below key k x ≡ true) b (join (take n (c ∷ cs))) (block_under b c (join cs) filled.1.0 rises (passed 1 c (omega arith) (omega arith))) rest.before;
         behind = rest.behind;
       }
 
   none_go : (blocks : List (List X)) → AreFilled blocks → Rises (map key (join blocks)) → AllWithin (λ b. begins_up_to key k b ≡ false) blocks 0 (length blocks) → IsPlace key k 0 blocks
   none_go [] filled rises failed = record { before = tt; behind = tt }
   none_go (b ∷ bs) filled rises failed =
-      record { before = tt; behind = all_behind (λ y. is_above key k y ≡ true) b (join bs) (all_over (b ∷ bs) filled rises failed) }
+      record { before = tt; behind = all_back (λ y. is_above key k y ≡ true) b (join bs) (all_over (b ∷ bs) filled rises failed) }
 
   pub placed : (n : ℕ) (blocks : List (List X)) → AreFilled blocks → Rises (map key (join blocks)) → n ≤ length blocks → AllWithin (λ b. begins_up_to key k b ≡ true) blocks 0 n → AllWithin (λ b. begins_up_to key k b ≡ false) blocks n (length blocks) → IsPlace key k (n - 1) blocks
   placed zero blocks filled rises few passed failed = subst (λ m. IsPlace key k m blocks) (omega arith) (none_go blocks filled rises failed)
@@ -323,6 +300,6 @@ put_whole key x n blocks front made whole back block items is first here last pu
 
 pub filled_whole : {X : Type 0} (n : ℕ) (blocks front made whole back : List (List X)) → AreFilled blocks → front ≡ take n blocks → back ≡ drop (suc n) blocks → (AreFilled front → AreFilled made) → whole ≡ made ++ back → AreFilled whole
 filled_whole n blocks front made whole back filled first last makes all =
-    let some : AreFilled made = makes (subst AreFilled (sym first) (all_taken (λ b. 0 < length b) n blocks filled)) in
-    let behind : AreFilled back = subst AreFilled (sym last) (all_dropped (λ b. 0 < length b) (suc n) blocks filled) in
-    subst AreFilled (sym all) (all_both (λ b. 0 < length b) made back some behind)
+    let some : AreFilled made = makes (subst AreFilled (sym first) (all_take (λ b. 0 < length b) n blocks filled)) in
+    let behind : AreFilled back = subst AreFilled (sym last) (all_drop (λ b. 0 < length b) (suc n) blocks filled) in
+    subst AreFilled (sym all) (all_append (λ b. 0 < length b) made back some behind)

@@ -1,22 +1,15 @@
 -- A list by ascending key rises with one item more.
-use Rattle.std.specs.Prelude.{◌≡◌, ◌++◌, ℕ, Bool, true, false, if◌then◌else◌, List, [], ◌∷◌, map, filter}
+use Rattle.std.specs.Prelude.{◌≡◌, ◌++◌, ℕ, true, List, [], ◌∷◌, map, filter}
 use Rattle.std.specs.List.{AllByRecursion}
 use Rattle.std.specs.List.Sorted.{IsStrictlySortedBy}
 use Rattle.std.specs.Cmp.Lexicographic.{nat_list_cmp_total}
-use Rattle.std.proofs.Common.{Less, refl, sym, ◌∙◌, subst}
+use Rattle.std.proofs.Common.{Less, sym, ◌∙◌, subst}
 use Rattle.list_laws.specs.Lists.{Rises}
 use Rattle.list_laws.proofs.Order.{order}
 use Rattle.list_laws.proofs.AscendingKeys.{keys_append, rises_filter}
+use Rattle.list_laws.proofs.Elements.{all_pass}
 use Rattle.sorted_blocks.specs.Blocks.{is_below, is_above, with_item}
 use Rattle.sorted_blocks.proofs.Partitions.{is_less, is_more}
-
-passes_go : {X : Type 0} (p : X → Bool) (x : X) (rest : List X) (b : Bool) → b ≡ p x → AllByRecursion (λ y. p y ≡ true) rest → AllByRecursion (λ y. p y ≡ true) (if b then x ∷ rest else rest)
-passes_go p x rest true is there = (sym is, there)
-passes_go p x rest false is there = there
-
-all_pass : {X : Type 0} (p : X → Bool) (xs : List X) → AllByRecursion (λ x. p x ≡ true) (filter p xs)
-all_pass p [] = tt
-all_pass p (x ∷ xs) = passes_go p x (filter p xs) (p x) refl (all_pass p xs)
 
 -- what is above a key is above each key below that one
 pub all_past : (a b : List ℕ) (ks : List (List ℕ)) → order a b ≡ Less → AllByRecursion (λ k. order b k ≡ Less) ks → AllByRecursion (λ k. order a k ≡ Less) ks

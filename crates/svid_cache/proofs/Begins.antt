@@ -1,15 +1,13 @@
 -- The earliest second at which all SVIDs have begun.
 use Rattle.std.specs.Prelude.{◌≡◌, ◌++◌, ℕ, ◌+◌, ◌<◌, ◌≤◌, max, List, [], ◌∷◌, take, filter, get_or, length, slice_index_or}
-use Rattle.std.specs.List.{AllByRecursion}
 use Rattle.std.proofs.Common.{arith, sym, ap, subst, ◌∙◌}
 use Rattle.std.proofs.lemmas.List.{take_more, take_all}
-use Rattle.list_laws.proofs.Elements.{all_append, all_filter, all_such}
+use Rattle.list_laws.proofs.Elements.{all_append, all_filter, all_such, all_front, all_back}
 use Rattle.wl_entry.specs.declared.signing.Svid.{Svid}
 use Rattle.sorted_blocks.specs.Blocks.{join}
 use Rattle.sorted_blocks.proofs.BlockOfKey.{join_more}
 use Rattle.svid_cache.specs.Caches.{with_svid, is_below, is_above}
 use Rattle.svid_cache.specs.Queue.{IsEarliest, AllBegunBy}
-use Rattle.svid_cache.proofs.Latest.{all_front, all_back}
 
 -- where all have begun they have at a later second
 pub begun_later : (begins later : ℕ) (svids : List Svid) → begins ≤ later → AllBegunBy begins svids → AllBegunBy later svids

@@ -15,7 +15,7 @@ use Rattle.wl_entry.specs.Limits.{SignedWithin}
 use Rattle.wl_entry.specs.Same.{same_ask}
 use Rattle.wl_entry.specs.declared.asks.Ask.{Ask}
 use Rattle.wl_entry.specs.declared.signing.Svid.{Svid}
-use Rattle.list_laws.proofs.Elements.{all_append, all_filter}
+use Rattle.list_laws.proofs.Elements.{all_append, all_filter, all_pass}
 use Rattle.list_laws.proofs.AscendingKeys.{rises_filter}
 use Rattle.sorted_blocks.proofs.OneMoreItem.{all_past, rises_with}
 use Rattle.list_laws.proofs.Order.{level_self}
@@ -29,16 +29,6 @@ use Rattle.svid_cache.specs.Caches.{install, unless_unfit, unless_older, kept_fo
 
 abbrev order : List ℕ → List ℕ → Ordering
 order a b = slice_cmp nat_cmp a b
-
--- ---- what is chosen passes the test
-
-passes_go : {X : Type 0} (p : X → Bool) (x : X) (rest : List X) (b : Bool) → b ≡ p x → AllByRecursion (λ y. p y ≡ true) rest → AllByRecursion (λ y. p y ≡ true) (if b then x ∷ rest else rest)
-passes_go p x rest true is there = (sym is, there)
-passes_go p x rest false is there = there
-
-pub all_pass : {X : Type 0} (p : X → Bool) (xs : List X) → AllByRecursion (λ x. p x ≡ true) (filter p xs)
-all_pass p [] = tt
-all_pass p (x ∷ xs) = passes_go p x (filter p xs) (p x) refl (all_pass p xs)
 
 -- ---- no SVIDs, fewer SVIDs, other asks
 

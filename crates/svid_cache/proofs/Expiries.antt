@@ -1,10 +1,11 @@
 -- Whether one of the SVIDs has expired, by a second before which none has.
-use Rattle.std.specs.Prelude.{◌≡◌, ◌||◌, ◌<◌, ◌≤◌, ◌++◌, ℕ, min, nat_lt, not, Bool, true, false, if◌then◌else◌, List, [], ◌∷◌, filter, take, length, slice_index_or, ◌+◌}
+use Rattle.std.specs.Prelude.{◌≡◌, ◌||◌, ◌<◌, ◌≤◌, ℕ, min, nat_lt, not, Bool, true, false, if◌then◌else◌, List, [], ◌∷◌, filter, take, length, slice_index_or, ◌+◌}
 use Rattle.std.specs.List.{list_any}
 use Rattle.std.proofs.Common.{arith, refl, sym, ◌∙◌, ap, subst}
 use Rattle.std.proofs.lemmas.Bool.{or_parts}
 use Rattle.std.proofs.lemmas.Bool.Decides.{nat_tests}
 use Rattle.std.proofs.lemmas.List.{take_more}
+use Rattle.std.proofs.lemmas.List.Folds.{list_any-append}
 use Rattle.wl_entry.specs.declared.signing.Svid.{Svid}
 use Rattle.list_laws.proofs.Elements.{all_append, all_filter, all_such}
 use Rattle.sorted_blocks.specs.Blocks.{join, with_item}
@@ -25,14 +26,10 @@ pub none_before : (now end : ℕ) (svids : List Svid) → NoneEndsBefore end svi
 none_before now end [] ends before = refl
 none_before now end (s ∷ more) ends before = rw (before_go now end s.signed.not_after ends.0 before) (none_before now end more ends.1 before)
 
-any_both : {X : Type 0} (t : X → Bool) (xs ys : List X) → list_any t (xs ++ ys) ≡ (list_any t xs || list_any t ys)
-any_both t [] ys = refl
-any_both t (x ∷ xs) ys = ap (λ b. t x || b) (any_both t xs ys) ∙ sym (or_assoc (t x) (list_any t xs) (list_any t ys))
-
 -- one in the blocks passes where one in a block does
 pub any_join : {X : Type 0} (t : X → Bool) (blocks : List (List X)) → list_any (λ block. list_any t block) blocks ≡ list_any t (join blocks)
 any_join t [] = refl
-any_join t (b ∷ bs) = ap (λ c. list_any t b || c) (any_join t bs) ∙ sym (any_both t b (join bs))
+any_join t (b ∷ bs) = ap (λ c. list_any t b || c) (any_join t bs) ∙ sym (list_any-append t b (join bs))
 
 kept_go : (b : Bool) (s : Svid) (kept more : List Svid) → not b ≡ false → kept ≡ more → (if b then s ∷ kept else kept) ≡ s ∷ more
 kept_go true s kept more h same = ap (λ l. s ∷ l) same

@@ -1,22 +1,13 @@
 -- The latest of the seconds before which nothing is due, or has ended.
-use Rattle.std.specs.Prelude.{◌++◌, ℕ, ◌+◌, ◌<◌, ◌≤◌, min, List, [], ◌∷◌, take, get_or, length, slice_index_or}
+use Rattle.std.specs.Prelude.{ℕ, ◌+◌, ◌<◌, ◌≤◌, min, List, [], ◌∷◌, take, get_or, length, slice_index_or}
 use Rattle.std.specs.List.{AllByRecursion}
 use Rattle.std.proofs.Common.{arith, sym, ap, subst, ◌∙◌}
 use Rattle.std.proofs.lemmas.List.{take_more, take_all}
-use Rattle.list_laws.proofs.Elements.{all_append, all_such}
+use Rattle.list_laws.proofs.Elements.{all_append, all_such, all_front, all_back}
 use Rattle.wl_entry.specs.declared.signing.Svid.{Svid}
 use Rattle.sorted_blocks.specs.Blocks.{join}
 use Rattle.sorted_blocks.proofs.BlockOfKey.{join_more}
 use Rattle.svid_cache.specs.Queue.{IsLatest, NoneEndsBefore, svid_end}
-
--- what holds of all items of two lists holds of those of each
-pub all_front : {X : Type 0} (P : X → Type 0) (xs ys : List X) → AllByRecursion P (xs ++ ys) → AllByRecursion P xs
-all_front P [] ys all = tt
-all_front P (x ∷ xs) ys all = (all.0, all_front P xs ys all.1)
-
-pub all_back : {X : Type 0} (P : X → Type 0) (xs ys : List X) → AllByRecursion P (xs ++ ys) → AllByRecursion P ys
-all_back P [] ys all = all
-all_back P (x ∷ xs) ys all = all_back P xs ys all.1
 
 -- the seconds of the items so far and of one more
 pub fits_more : {X : Type 0} (time : X → ℕ) (xs : List X) (i first : ℕ) (d : X) → i < length xs → AllByRecursion (λ x. first ≤ time x) (take i xs) → AllByRecursion (λ x. min first (time (get_or xs i d)) ≤ time x) (take (i + 1) xs)

@@ -8,7 +8,6 @@ use Rattle.wl_document.specs.declared.fault.DocFault.{DocFault}
 use Rattle.wl_document.specs.States.{State}
 use Rattle.wl_entry.specs.declared.signing.Signed.{Signed}
 use Rattle.wl_entry.specs.declared.tokens.JwtToken.{JwtToken}
-use Rattle.jwt_cache.specs.declared.rings.CachedToken.{CachedToken}
 use Rattle.wl_snapshot.specs.Same.{same_view_model}
 use Rattle.wl_snapshot.specs.Snapshots.{Publication}
 use Rattle.wl_snapshot.specs.Views.{view_in}
@@ -19,6 +18,7 @@ use Rattle.wl_store.specs.Steps.{Stored}
 use Rattle.wl_manager.specs.Managers.{Managed}
 use Rattle.wl_subscribe.specs.Filed.{has_number}
 use Rattle.wl_subscribe.specs.Subscribed.{Subscribed, members_without, without_member, views_differ, affected_numbers}
+use Rattle.wl_subscribe.proofs.Filings.{or_weakened}
 use Rattle.wl_session.specs.declared.asks.JwtAsk.{JwtAsk}
 use Rattle.wl_session.specs.Sessions.{fresh_session, asks_in}
 use Rattle.wl_session.proofs.ViewFacts.{NewIs, fed_each, turned_each, outcome_each, fed_shown, outcome_shown, turned_shown, shown_on, weaker}
@@ -43,10 +43,6 @@ or_first false b is = absurd (cc is)
 or_then : (a b : Bool) → b ≡ true → (a || b) ≡ true
 or_then true b is = refl
 or_then false b is = is
-
-or_still : (a b c : Bool) → (b ≡ true → c ≡ true) → (a || b) ≡ true → (a || c) ≡ true
-or_still true b c go is = refl
-or_still false b c go is = go is
 
 neither : (a b : Bool) → (a || b) ≡ false → (a ≡ false) × (b ≡ false)
 neither true b is = absurd (cc is)
@@ -77,7 +73,7 @@ number_more (i ∷ ids) n k has = number_go n k (i == k) (has_number (ids ++ n �
 
 number_still : (ids : List ℕ) (n k : ℕ) → has_number ids k ≡ true → has_number (ids ++ n ∷ []) k ≡ true
 number_still [] n k has = absurd (cc has)
-number_still (i ∷ ids) n k has = or_still (i == k) (has_number ids k) (has_number (ids ++ n ∷ []) k) (number_still ids n k) has
+number_still (i ∷ ids) n k has = or_weakened (i == k) (has_number ids k) (has_number (ids ++ n ∷ []) k) (number_still ids n k) has
 
 number_last : (ids : List ℕ) (n : ℕ) → has_number (ids ++ n ∷ []) n ≡ true
 number_last [] n = or_first (n == n) false (itself n)

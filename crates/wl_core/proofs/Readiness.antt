@@ -9,7 +9,6 @@ use Rattle.wl_document.specs.declared.fault.DocFault.{DocFault}
 use Rattle.wl_document.specs.States.{State}
 use Rattle.wl_entry.specs.declared.signing.Signed.{Signed}
 use Rattle.wl_entry.specs.declared.tokens.JwtToken.{JwtToken}
-use Rattle.jwt_cache.specs.declared.rings.CachedToken.{CachedToken}
 use Rattle.wl_snapshot.specs.Snapshots.{Publication}
 use Rattle.wl_snapshot.specs.Views.{ViewModel, view_in}
 use Rattle.wl_snapshot.specs.Answers.{answer_of, asks_of}

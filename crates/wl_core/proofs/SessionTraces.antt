@@ -1,9 +1,9 @@
 -- Each session follows its trace, and was written the talk over it.
 use Rattle.std.proofs.Common.{◌≡◌, ◌≢◌, ℕ, ◌==◌, ◌<◌, Bool, true, false, if◌then◌else◌, List, [], ◌∷◌, ◌++◌, length, Option, Some, None, slice_set, refl, sym, ap, subst, ◌∙◌, arith, inl}
 use Rattle.std.proofs.lemmas.List.{append-nil, length-replicate, get_or-replicate, get_or-set_same, get_or-set_other}
+use Rattle.std.proofs.lemmas.Bool.{eqb-true}
 use Rattle.std.proofs.lemmas.Bool.Decides.{nat_tests}
 use Rattle.wl_entry.specs.declared.tokens.JwtToken.{JwtToken}
-use Rattle.jwt_cache.specs.declared.rings.CachedToken.{CachedToken}
 use Rattle.wl_session.specs.declared.asks.JwtAsk.{JwtAsk}
 use Rattle.wl_session.specs.Sessions.{SessionState, Running, Fallen, OutOfMemory, fresh_session, asks_in, failure_in}
 use Rattle.wl_session.proofs.SessionFacts.{settled_fresh}
@@ -32,10 +32,7 @@ Along (Some seat) (Some items) bytes = Follows seat.session items × (bytes ≡ 
 Along None (Some items) bytes = ⊥
 Along (Some seat) None bytes = ⊥
 
-same_conn : (k conn : ℕ) → (k == conn) ≡ true → k ≡ conn
-same_conn k conn is = grind (arith, nat_tests, is)
-
-other_conn : (k conn : ℕ) → (k == conn) ≡ false → conn ≢ k
+pub other_conn : (k conn : ℕ) → (k == conn) ≡ false → conn ≢ k
 other_conn k conn is = grind (arith, nat_tests, is)
 
 set_here : (seats : List (Option Seat)) (k conn : ℕ) (o : Option Seat) → k ≡ conn → conn < length seats → seat_at (slice_set seats k o) conn ≡ o
@@ -71,7 +68,7 @@ told_along : (conn k : ℕ) (before : List ℕ) (tell : Seat → Told) (more : S
     → Along (seat_at seats conn) tr before
     → Along (seat_at (with_told k tell seats) conn) (if b then gain more (seat_at seats conn) tr else tr) (told_from conn before (say (seat_at seats k)))
 told_along conn k before tell more say seats tr true is within here none there follows along =
-    let same = same_conn k conn is in
+    let same = eqb-true k conn is in
     let now : seat_at (with_told k tell seats) conn ≡ told_seat tell (seat_at seats conn) =
     set_here seats k conn (told_seat tell (seat_at seats k)) same within ∙ ap (λ (n : ℕ). told_seat tell (seat_at seats n)) same in
     let said : told_from conn before (say (seat_at seats k)) ≡ told_from conn before (say (seat_at seats conn)) = ap (λ (n : ℕ). told_from conn before (say (seat_at seats n))) same in
@@ -126,7 +123,7 @@ join_along : (conn k : ℕ) (before : List ℕ) (selectors : List (List ℕ)) (s
     → Along (seat_at seats conn) tr before
     → Along (seat_at (slice_set seats k (joined_seat selectors (seat_at seats k))) conn) (if b then joined_trace tr else tr) (told_from conn before (join_lines k (seat_at seats k)))
 join_along conn k before selectors seats tr true is within along =
-    let same = same_conn k conn is in
+    let same = eqb-true k conn is in
     let now : seat_at (slice_set seats k (joined_seat selectors (seat_at seats k))) conn ≡ joined_seat selectors (seat_at seats conn) =
     set_here seats k conn (joined_seat selectors (seat_at seats k)) same within ∙ ap (λ (n : ℕ). joined_seat selectors (seat_at seats n)) same in
     let said : told_from conn before (join_lines k (seat_at seats k)) ≡ told_from conn before (join_lines k (seat_at seats conn)) = ap (λ (n : ℕ). told_from conn before (join_lines k (seat_at seats n))) same in
@@ -146,7 +143,7 @@ named_here caller (Some s) (Some items) before along = along
 name_along : (conn k : ℕ) (before : List ℕ) (caller : Option (List (List ℕ))) (seats : List (Option Seat)) (tr : Option (List Item)) (b : Bool) → (k == conn) ≡ b → conn < length seats
     → Along (seat_at seats conn) tr before → Along (seat_at (slice_set seats k (named_seat caller (seat_at seats k))) conn) tr before
 name_along conn k before caller seats tr true is within along =
-    let same = same_conn k conn is in
+    let same = eqb-true k conn is in
     let now : seat_at (slice_set seats k (named_seat caller (seat_at seats k))) conn ≡ named_seat caller (seat_at seats conn) =
     set_here seats k conn (named_seat caller (seat_at seats k)) same within ∙ ap (λ (n : ℕ). named_seat caller (seat_at seats n)) same in
     subst (λ (o : Option Seat). Along o tr before) (sym now) (named_here caller (seat_at seats conn) tr before along)
@@ -156,7 +153,7 @@ name_along conn k before caller seats tr false is within along =
 close_along : (conn k : ℕ) (before : List ℕ) (seats : List (Option Seat)) (tr : Option (List Item)) (b : Bool) → (k == conn) ≡ b → conn < length seats
     → Along (seat_at seats conn) tr before → Along (seat_at (slice_set seats k None) conn) (if b then None else tr) before
 close_along conn k before seats tr true is within along =
-    subst (λ (o : Option Seat). Along o None before) (sym (set_here seats k conn None (same_conn k conn is) within)) tt
+    subst (λ (o : Option Seat). Along o None before) (sym (set_here seats k conn None (eqb-true k conn is) within)) tt
 close_along conn k before seats tr false is within along =
     subst (λ (o : Option Seat). Along o tr before) (sym (set_there seats k conn None is)) along
 
@@ -196,7 +193,7 @@ along_after (events.Close k) conn m tr before within along =
     telling (seat_at (slice_set m.seats k None) conn) (trace_after (events.Close k) conn m tr) before _ (close_tell conn before k (seat_at m.seats k))
     (close_along conn k before m.seats tr (k == conn) refl within along)
 
-room : (d : Beginning) (past : List Event) → length (moment d past).seats ≡ CONNS
+pub room : (d : Beginning) (past : List Event) → length (moment d past).seats ≡ CONNS
 room d [] = let none : Option Seat = None in length-replicate CONNS none
 room d (e ∷ past) = room_after e (moment d past) ∙ room d past
 

@@ -2,13 +2,8 @@
 use Rattle.std.proofs.Common.{◌≡◌, ℕ, ◌+◌, ◌≤◌, ◌==◌, List, [], ◌∷◌, length, codes, Bool, true, false, if◌then◌else◌, nat_lt, nat_le, Result, Ok, ◌∙◌, ap, subst, arith, length-append}
 use Rattle.std.proofs.lemmas.Bool.{ltb-false, leb-true}
 use Rattle.std.specs.Cmp.{first_so, second_so}
-use Rattle.std.specs.Ordering.{nat_cmp, match_ordering}
-use Rattle.std.specs.declared.cmp.Ordering.{Ordering}
-use Rattle.std.specs.declared.cmp.Ordering.TheVariants.{Less, Equal, Greater}
-use Rattle.std.specs.Cmp.Lexicographic.{slice_cmp}
 use Rattle.serde_json.specs.Data.{Data}
 use Rattle.serde_json.specs.Find.{get}
-use Rattle.wl_selector.specs.Selectors.{put_text, sorted_onto, sorted_texts}
 use Rattle.wl_entry.specs.Limits.{EntryWithin, BundleWithin}
 use Rattle.wl_entry.specs.declared.bundles.Bundle.{Bundle}
 use Rattle.wl_entry.specs.declared.entries.Entry.{Entry}
@@ -25,6 +20,7 @@ use Rattle.wl_document.specs.declared.fault.Place.{Place}
 use Rattle.wl_document.specs.declared.fault.DocFault.{DocFault}
 use Rattle.wl_document.specs.declared.fault.DocFault.TheVariants.{Missing, Kind, TooMany, TooLong, Duplicate, NoSelectors}
 use Rattle.list_laws.proofs.Results.{ok_is, bind_then, unless_ok, when_ok}
+use Rattle.wl_selector.proofs.Members.{sorted_short}
 use Rattle.wl_document.proofs.Checks.{optional_ok}
 
 -- ---- members
@@ -74,30 +70,13 @@ each_counts read n done (d ∷ ds) all h =
     bind_then (read n done d) _ all h
     (λ x was last. omega (arith, each_counts read (n + 1) (at_end done x) ds all last, length-append done (x ∷ [])))
 
-put_text_counts : (done : List (List ℕ)) (text : List ℕ) → length (put_text done text) ≤ length done + 1
-put_text_counts [] text = omega arith
-put_text_counts (u ∷ us) text = by (slice_cmp nat_cmp text u) (put_text_counts us text)
-  where
-    by : (o : Ordering) → length (put_text us text) ≤ length us + 1 → length (match_ordering o (text ∷ u ∷ us) (u ∷ us) (u ∷ put_text us text)) ≤ length (u ∷ us) + 1
-    by Less h = omega arith
-    by Equal h = omega arith
-    by Greater h = omega (arith, h)
-
-sorted_onto_counts : (done texts : List (List ℕ)) → length (sorted_onto done texts) ≤ length done + length texts
-sorted_onto_counts done [] = omega arith
-sorted_onto_counts done (text ∷ texts) = omega (arith, sorted_onto_counts (put_text done text) texts, put_text_counts done text)
-
-sorted_counts : (texts : List (List ℕ)) → length (sorted_texts texts) ≤ length texts
-unfolding sorted_texts
-sorted_counts texts = omega (arith, sorted_onto_counts [] texts)
-
 selectors_few : (p : Place) (d : Data) (out : List (List ℕ)) → selectors_of p d ≡ Ok out → length out ≤ 64
 unfolding selectors_of selector_list_of
 selectors_few p d out h =
     bind_then (list_of 64 p (codes "selectors") d) _ out h
     (λ items was next. unless_ok (length items == 0) (NoSelectors p) _ out next
     (λ some next. bind_then (each_from (λ k before d. selector_of p k d) at_end 0 [] items) _ out next
-    (λ texts read last. omega (arith, list_of_short 64 p (codes "selectors") d items was, each_counts (λ k before d. selector_of p k d) 0 [] items texts read, sorted_counts texts, ap length (ok_is last)))))
+    (λ texts read last. omega (arith, list_of_short 64 p (codes "selectors") d items was, each_counts (λ k before d. selector_of p k d) 0 [] items texts read, sorted_short texts, ap length (ok_is last)))))
 
 federates_few : (i : ℕ) (d : Data) (out : List (List ℕ)) → federates_with_of i d ≡ Ok out → length out ≤ 64
 unfolding federates_with_of federated_list_of federates_of

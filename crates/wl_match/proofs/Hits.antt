@@ -11,6 +11,7 @@ use Rattle.std.proofs.lemmas.List.{take_more}
 use Rattle.std.proofs.lemmas.List.Folds.{list_any-append}
 use Rattle.std.proofs.lemmas.Grind.{flat_map-append}
 use Rattle.wl_selector.specs.Selectors.{has_text, has_texts}
+use Rattle.wl_selector.proofs.Members.{has_text_append}
 use Rattle.wl_entry.specs.declared.entries.Entry.{Entry}
 use Rattle.wl_entry.specs.Entitled.{is_entitled}
 use Rattle.wl_match.specs.declared.postings.Posting.{Posting}
@@ -120,10 +121,6 @@ reach_step f sel ids i s o x y lt is new of old =
 
 -- ---- all of them
 
-has_text-append : (xs ys : List (List ℕ)) (t : List ℕ) → has_text (xs ++ ys) t ≡ (has_text xs t || has_text ys t)
-unfolding has_text
-has_text-append xs ys t = list_any-append (λ other. bytes_eq other t) xs ys
-
 in_by : (f : List ℕ → List (List ℕ)) (y : List ℕ) (keys : List (List ℕ)) (k x : List ℕ) (t : Bool) → bytes_eq y k ≡ t → (t || has_text keys k) ≡ true → has_text (f k) x ≡ true
     → (has_text keys k ≡ true → has_text (flat_map f keys) x ≡ true) → (has_text (f y) x || has_text (flat_map f keys) x) ≡ true
 in_by f y keys k x true t h g rest = or_left (has_text (f y) x) (has_text (flat_map f keys) x) (ap (λ (z : List ℕ). has_text (f z) x) ((bytes_decides y k).0 t) ∙ g)
@@ -140,7 +137,7 @@ has_there y keys k = refl
 has_text_in : (f : List ℕ → List (List ℕ)) (keys : List (List ℕ)) (k x : List ℕ) → has_text keys k ≡ true → has_text (f k) x ≡ true → has_text (flat_map f keys) x ≡ true
 has_text_in f [] k x h g = absurd (none_there k h)
 has_text_in f (y ∷ keys) k x h g =
-    has_text-append (f y) (flat_map f keys) x ∙ in_by f y keys k x (bytes_eq y k) refl (sym (has_there y keys k) ∙ h) g (λ more. has_text_in f keys k x more g)
+    has_text_append (f y) (flat_map f keys) x ∙ in_by f y keys k x (bytes_eq y k) refl (sym (has_there y keys k) ∙ h) g (λ more. has_text_in f keys k x more g)
 
 one_text : (b : Bool) (x : List ℕ) → b ≡ true → has_text (cond b (x ∷ []) []) x ≡ true
 unfolding has_text
@@ -152,12 +149,12 @@ under [] q e h = cc
 under (x ∷ xs) zero e h =
     let same : x ≡ e = cc in
     let k = first_text e.selectors in
-    ap (λ (ids : List (List ℕ)). has_text ids e.id) (ids_under-append k (x ∷ []) xs) ∙ has_text-append (ids_under k (x ∷ [])) (ids_under k xs) e.id
+    ap (λ (ids : List (List ℕ)). has_text ids e.id) (ids_under-append k (x ∷ []) xs) ∙ has_text_append (ids_under k (x ∷ [])) (ids_under k xs) e.id
     ∙ or_left (has_text (ids_under k (x ∷ [])) e.id) (has_text (ids_under k xs) e.id)
     (ap (λ (y : Entry). has_text (ids_under k (y ∷ [])) e.id) same ∙ ap (λ (ids : List (List ℕ)). has_text ids e.id) (ids_one k e) ∙ one_text (bytes_eq k k) e.id (nat_list_eq_equiv.refl k))
 under (x ∷ xs) (suc q) e h =
     let k = first_text e.selectors in
-    ap (λ (ids : List (List ℕ)). has_text ids e.id) (ids_under-append k (x ∷ []) xs) ∙ has_text-append (ids_under k (x ∷ [])) (ids_under k xs) e.id
+    ap (λ (ids : List (List ℕ)). has_text ids e.id) (ids_under-append k (x ∷ []) xs) ∙ has_text_append (ids_under k (x ∷ [])) (ids_under k xs) e.id
     ∙ or_right (has_text (ids_under k (x ∷ [])) e.id) (has_text (ids_under k xs) e.id) (under xs q e h)
 
 key_among : (sel ts : List (List ℕ)) → has_texts sel ts ≡ true → has_text ([] ∷ sel) (first_text ts) ≡ true

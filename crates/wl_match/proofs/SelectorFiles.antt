@@ -4,7 +4,7 @@ use Rattle.std.specs.Str.{bytes_eq}
 use Rattle.std.specs.Ordering.{nat_cmp}
 use Rattle.std.specs.Map.{lookup, keys_of}
 use Rattle.std.specs.BTreeMap.{is_at}
-use Rattle.std.specs.Cmp.Lexicographic.{slice_cmp, pointwise, bytes_decides, nat_list_eq_equiv}
+use Rattle.std.specs.Cmp.Lexicographic.{slice_cmp, pointwise, nat_list_eq_equiv}
 use Rattle.std.proofs.lemmas.Bool.{and_parts}
 use Rattle.std.proofs.lemmas.List.{map-append, take_more}
 use Rattle.std.proofs.lemmas.List.Elements.{filter-append}
@@ -12,29 +12,16 @@ use Rattle.std.proofs.lemmas.Map.Text.{is_eq-slice_cmp}
 use Rattle.std.specs.List.Sorted.{IsStrictlySortedBy}
 use Rattle.list_laws.specs.Lists.{Rises}
 use Rattle.list_laws.specs.Keys.{item_at}
+use Rattle.list_laws.proofs.Equality.{bytes_are, texts_are}
 use Rattle.wl_entry.specs.Keys.{entry_key}
 use Rattle.wl_entry.specs.declared.entries.Entry.{Entry}
 use Rattle.wl_match.specs.declared.postings.Posting.{Posting}
 use Rattle.wl_match.specs.Postings.{posting_key, posting_of, first_text, ids_under, ids_of, ids_at}
 
--- ---- equal by test, equal
-
-same_bytes : (a b : List ℕ) → bytes_eq a b ≡ true → a ≡ b
-same_bytes a b h = (bytes_decides a b).0 h
-
-same_lists : (a b : List (List ℕ)) → pointwise bytes_eq a b ≡ true → a ≡ b
-same_lists [] [] h = refl
-same_lists [] (y ∷ ys) h = cc
-same_lists (x ∷ xs) [] h = cc
-same_lists (x ∷ xs) (y ∷ ys) h =
-    let p = and_parts (bytes_eq x y) (pointwise bytes_eq xs ys) h in
-    let first = same_bytes x y p.0 in
-    let rest = same_lists xs ys p.1 in cc
-
 pub same_posting : (a b : Posting) → (bytes_eq a.selector b.selector && pointwise bytes_eq a.ids b.ids) ≡ true → a ≡ b
 same_posting a b h =
     let p = and_parts (bytes_eq a.selector b.selector) (pointwise bytes_eq a.ids b.ids) h in
-    ap (λ (s : List ℕ). record a { selector = s }) (same_bytes a.selector b.selector p.0) ∙ ap (λ (i : List (List ℕ)). record { selector = b.selector; ids = i }) (same_lists a.ids b.ids p.1)
+    ap (λ (s : List ℕ). record a { selector = s }) (bytes_are a.selector b.selector p.0) ∙ ap (λ (i : List (List ℕ)). record { selector = b.selector; ids = i }) (texts_are a.ids b.ids p.1)
 
 -- ---- one more entry
 
@@ -68,7 +55,7 @@ file_step e q es mid new m n =
     let k = first_text e.selectors in
     let test = is_eq-slice_cmp k q in
     let same : is_at (slice_cmp nat_cmp k) q ≡ true → lookup (is_at (slice_cmp nat_cmp k)) es ≡ lookup (is_at (slice_cmp nat_cmp q)) es =
-    (λ h. ap (λ (x : List ℕ). lookup (is_at (slice_cmp nat_cmp x)) es) (same_bytes k q (sym test ∙ h))) in
+    (λ h. ap (λ (x : List ℕ). lookup (is_at (slice_cmp nat_cmp x)) es) (bytes_are k q (sym test ∙ h))) in
     rw (n, m) (file_by (is_at (slice_cmp nat_cmp k) q) e.id (lookup (is_at (slice_cmp nat_cmp q)) es) (lookup (is_at (slice_cmp nat_cmp k)) es) same
     ∙ ap (λ (b : Bool). unwrap_or (lookup (is_at (slice_cmp nat_cmp q)) es) [] ++ cond b (e.id ∷ []) []) test
     ∙ ap (λ (ids : List (List ℕ)). unwrap_or (lookup (is_at (slice_cmp nat_cmp q)) es) [] ++ ids) (sym (ids_one q e)))

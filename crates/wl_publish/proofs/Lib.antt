@@ -1,4 +1,4 @@
 mod Prefixes
-mod Numbers
+pub mod Numbers
 mod Additions
 mod Keeps

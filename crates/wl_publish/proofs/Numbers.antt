@@ -6,7 +6,7 @@ use Rattle.list_laws.proofs.Elements.{all_append, all_such}
 use Rattle.wl_snapshot.specs.Snapshots.{Publication}
 use Rattle.wl_publish.specs.Lists.{NumberedFrom, IsLast, HasNumber, NonFallingFrom, IsMine}
 
-last_of : (n : ℕ) (before : List Publication) (p : Publication) → NumberedFrom n (before ++ p ∷ []) → p.number ≡ n + length before
+pub last_of : (n : ℕ) (before : List Publication) (p : Publication) → NumberedFrom n (before ++ p ∷ []) → p.number ≡ n + length before
 last_of n [] p h = omega (arith, h.0)
 last_of n (q ∷ before) p h = omega (arith, last_of (n + 1) before p h.1)
 
@@ -32,7 +32,7 @@ below_end : (n : ℕ) (list : List Publication) (m : ℕ) → NumberedFrom n lis
 below_end n [] m h has = absurd has
 below_end n (p ∷ list) m h has = ⊎_elim (λ (here : p.number ≡ m). omega (arith, here, h.0)) (λ (there : HasNumber list m). omega (arith, below_end (n + 1) list m h.1 there)) has
 
-falls_more : (low : ℕ) (mine : List ℕ) (m : ℕ) → NonFallingFrom low mine → AllByRecursion (λ k. k ≤ m) mine → low ≤ m → NonFallingFrom low (mine ++ m ∷ [])
+pub falls_more : (low : ℕ) (mine : List ℕ) (m : ℕ) → NonFallingFrom low mine → AllByRecursion (λ k. k ≤ m) mine → low ≤ m → NonFallingFrom low (mine ++ m ∷ [])
 falls_more low [] m h all le = (le, tt)
 falls_more low (k ∷ mine) m h all le = (h.0, falls_more k mine m h.1 all.1 all.0)
 

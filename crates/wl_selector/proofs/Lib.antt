@@ -1,3 +1,3 @@
-mod Texts
-mod Members
+pub mod Texts
+pub mod Members
 pub mod Subsets

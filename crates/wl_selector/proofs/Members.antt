@@ -1,5 +1,5 @@
 -- What a list and its set have in common.
-use Rattle.std.proofs.Common.{ℕ, ◌≡◌, ◌+◌, ◌≤◌, Bool, true, false, ◌||◌, List, [], ◌∷◌, length, refl, sym, ap, ◌∙◌, arith}
+use Rattle.std.proofs.Common.{ℕ, ◌≡◌, ◌+◌, ◌≤◌, Bool, true, false, ◌||◌, List, [], ◌∷◌, ◌++◌, length, refl, sym, ap, ◌∙◌, arith}
 use Rattle.std.proofs.Math.Bool.{or_assoc, or_comm}
 use Rattle.std.specs.List.{list_any}
 use Rattle.std.specs.Ordering.{nat_cmp, match_ordering, is_eq}
@@ -7,6 +7,8 @@ use Rattle.std.specs.declared.cmp.Ordering.{Ordering}
 use Rattle.std.specs.declared.cmp.Ordering.TheVariants.{Less, Equal, Greater}
 use Rattle.std.specs.Cmp.Lexicographic.{slice_cmp, bytes_decides}
 use Rattle.std.specs.Str.{bytes_eq}
+use Rattle.std.proofs.lemmas.Bool.{or_parts}
+use Rattle.std.proofs.lemmas.List.Folds.{list_any-append}
 use Rattle.std.proofs.lemmas.Map.Text.{is_eq-slice_cmp}
 use Rattle.wl_selector.specs.Selectors.{has_text, put_text, sorted_onto, sorted_texts}
 
@@ -59,3 +61,16 @@ module _ (t : List ℕ) where
   pub sorted_has : (ts : List (List ℕ)) → has_text (sorted_texts ts) t ≡ has_text ts t
   unfolding has_text sorted_texts
   sorted_has ts = onto_has [] ts
+
+-- ---- two lists of texts
+
+pub has_text_append : (xs ys : List (List ℕ)) (t : List ℕ) → has_text (xs ++ ys) t ≡ (has_text xs t || has_text ys t)
+unfolding has_text
+has_text_append xs ys t = list_any-append (λ other. bytes_eq other t) xs ys
+
+-- a text that is in neither is in none of the two
+pub front_out : (xs ys : List (List ℕ)) (id : List ℕ) → has_text (xs ++ ys) id ≡ false → has_text xs id ≡ false
+front_out xs ys id out = (or_parts (has_text xs id) (has_text ys id) (sym (has_text_append xs ys id) ∙ out)).0
+
+pub back_out : (xs ys : List (List ℕ)) (id : List ℕ) → has_text (xs ++ ys) id ≡ false → has_text ys id ≡ false
+back_out xs ys id out = (or_parts (has_text xs id) (has_text ys id) (sym (has_text_append xs ys id) ∙ out)).1

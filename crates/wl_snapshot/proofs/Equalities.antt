@@ -14,7 +14,7 @@ use Rattle.wl_snapshot.specs.Same.{same_held, same_view_model}
 
 -- ---- what the test finds the same is equal
 
-options_are : {X : Type 0} (t : X → X → Bool) → ((x y : X) → t x y ≡ true → x ≡ y) → (a b : Option X) → option_eq t a b ≡ true → a ≡ b
+pub options_are : {X : Type 0} (t : X → X → Bool) → ((x y : X) → t x y ≡ true → x ≡ y) → (a b : Option X) → option_eq t a b ≡ true → a ≡ b
 options_are t decides None None is = refl
 options_are t decides None (Some y) is = grind (arith, is)
 options_are t decides (Some x) None is = grind (arith, is)

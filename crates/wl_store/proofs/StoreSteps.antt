@@ -1,21 +1,15 @@
 -- What a step leaves is the step of the definitions.
-use Rattle.std.specs.Prelude.{◌≡◌, ℕ, ◌+◌, ◌==◌, ◌<◌, ◌≤◌, ◌&&◌, ◌||◌, Bool, true, false, not, nat_le, if◌then◌else◌, List, [], ◌∷◌, ◌++◌, filter, find, length, Option, Some, None, unwrap_or}
-use Rattle.std.specs.Str.{bytes_eq}
-use Rattle.std.specs.List.{AllByRecursion, list_any}
-use Rattle.std.specs.Ordering.{nat_cmp, is_lt}
-use Rattle.std.specs.Cmp.Lexicographic.{slice_cmp}
-use Rattle.std.proofs.lemmas.Slice.Eq.{bytes_eq-Decides}
-use Rattle.std.proofs.lemmas.Bool.Decides.{nat_tests}
-use Rattle.list_laws.proofs.Order.{level_self}
-use Rattle.wl_entry.specs.Fitness.{signed_unfit, is_wanted}
+use Rattle.std.specs.Prelude.{◌≡◌, ℕ, ◌+◌, ◌<◌, ◌≤◌, ◌&&◌, ◌||◌, Bool, true, false, not, if◌then◌else◌, List, [], ◌∷◌, filter, length, Option, Some, None, unwrap_or}
+use Rattle.std.specs.List.{list_any}
+use Rattle.wl_entry.specs.Fitness.{signed_unfit}
 use Rattle.wl_entry.specs.declared.unfit.Unfit.{Unfit}
 use Rattle.svid_cache.specs.Caches as caches
 use Rattle.svid_cache.specs.declared.install.Installed.{Installed}
 use Rattle.svid_cache.specs.declared.install.Installed.TheVariants as installed
 use Rattle.std.specs.Cmp.Lexicographic.{pointwise}
 use Rattle.std.proofs.Common.{arith, refl, sym, ◌∙◌, ap, subst}
-use Rattle.wl_entry.specs.Same.{same_ask, same_entry, same_signed, same_svid, same_bundle}
-use Rattle.list_laws.proofs.Elements.{all_filter, length_filter}
+use Rattle.wl_entry.specs.Same.{same_entry, same_svid, same_bundle}
+use Rattle.list_laws.proofs.Elements.{all_filter, length_filter, all_append}
 use Rattle.wl_entry.specs.declared.asks.Ask.{Ask}
 use Rattle.wl_entry.specs.declared.signing.Signed.{Signed}
 use Rattle.wl_entry.specs.declared.entries.Entry.{Entry}
@@ -28,7 +22,7 @@ use Rattle.svid_cache.specs.Caches.{Cached, is_listed, kept_for, with_svid, is_b
 use Rattle.wl_store.specs.declared.tickets.Change.TheVariants as change
 use Rattle.wl_store.specs.Steps.{Stored, stored_after, stored_of, change_to, Trusted, AllTrusted, with_parts, IsInstalled}
 use Rattle.std.proofs.lemmas.Bool.{and_parts}
-use Rattle.wl_entry.proofs.Sames.{entries_are, svids_are, bundles_are, ask_self, svid_self, list_self}
+use Rattle.wl_entry.proofs.Sames.{entries_are, svids_are, bundles_are}
 use Rattle.wl_store.proofs.Sames.{shows_itself}
 
 -- where the last publication shows what is kept
@@ -96,14 +90,10 @@ other_length t (x ∷ xs) (y ∷ ys) less = and_false (t x y) (pointwise t xs ys
 
 -- ---- a new SVID
 
-all_join : {X : Type 0} (P : X → Type 0) (xs ys : List X) → AllByRecursion P xs → AllByRecursion P ys → AllByRecursion P (xs ++ ys)
-all_join P [] ys a b = b
-all_join P (x ∷ xs) ys a b = (a.0, all_join P xs ys a.1 b)
-
 pub put_trusted : (signed : Ask → Signed → Type 0) (strict : Bool) (v : Svid) (svids : List Svid) → AllTrusted signed strict svids → Trusted signed strict v.ask v.signed → AllTrusted signed strict (with_svid v svids)
 unfolding with_svid
 put_trusted signed strict v svids all one =
-    all_join (λ s. Trusted signed strict s.ask s.signed) (filter (is_below v.ask.entry_id) svids) (v ∷ filter (is_above v.ask.entry_id) svids) (still_trusted signed strict (is_below v.ask.entry_id) svids all) (one, still_trusted signed strict (is_above v.ask.entry_id) svids all)
+    all_append (λ s. Trusted signed strict s.ask s.signed) (filter (is_below v.ask.entry_id) svids) (v ∷ filter (is_above v.ask.entry_id) svids) (still_trusted signed strict (is_below v.ask.entry_id) svids all) (one, still_trusted signed strict (is_above v.ask.entry_id) svids all)
 
 -- ---- Install
 
@@ -167,10 +157,6 @@ install_gives signed s v i c trusted one same =
 pub ended_differs : (now : ℕ) (c : Cached) → has_ended now c ≡ true → pointwise same_svid c.svids (filter (lasts now) c.svids) ≡ false
 unfolding has_ended
 ended_differs now c some = other_length same_svid c.svids (filter (lasts now) c.svids) (fewer (lasts now) c.svids some)
-
--- where none has all are
-pub all_same : (svids left : List Svid) → left ≡ svids → pointwise same_svid svids left ≡ true
-all_same svids left same = subst (λ l. pointwise same_svid svids l ≡ true) (sym same) (list_self same_svid svid_self svids)
 
 -- ---- the parts of a step are those of its definition
 

@@ -1,5 +1,5 @@
 -- What no step touched is as it was.
-use Rattle.std.specs.Prelude.{◌≡◌, ◌||◌, ℕ, Bool, true, false, not, if◌then◌else◌, List, [], ◌∷◌, ◌+◌, ◌++◌, map, filter, find, is_some, option_map, IfSome, IsSomeAnd, Option, Some, None}
+use Rattle.std.specs.Prelude.{◌≡◌, ℕ, Bool, true, false, not, if◌then◌else◌, List, [], ◌∷◌, ◌+◌, ◌++◌, map, filter, find, is_some, option_map, IfSome, IsSomeAnd, Option, Some, None}
 use Rattle.std.specs.Str.{bytes_eq}
 use Rattle.std.specs.List.{list_any}
 use Rattle.std.specs.Cmp.Lexicographic.{pointwise}
@@ -10,6 +10,7 @@ use Rattle.list_laws.specs.Keys.{item_at}
 use Rattle.list_laws.proofs.Equality.{bytes_are, same_bytes}
 use Rattle.list_laws.proofs.Keys.{found_has}
 use Rattle.wl_selector.specs.Selectors.{has_text}
+use Rattle.wl_selector.proofs.Members.{front_out, back_out}
 use Rattle.wl_entry.specs.Asks.{ask_of, is_ask_of}
 use Rattle.wl_entry.specs.Keys.{entry_key, svid_key}
 use Rattle.wl_entry.specs.Same.{same_ask, same_svid}
@@ -17,8 +18,9 @@ use Rattle.wl_entry.specs.declared.asks.Ask.{Ask}
 use Rattle.wl_entry.specs.declared.entries.Entry.{Entry}
 use Rattle.wl_entry.specs.declared.signing.Svid.{Svid}
 use Rattle.wl_entry.proofs.Sames.{entry_is, svids_are}
+use Rattle.wl_entry.proofs.FoundAtKeys.{found_passes}
 use Rattle.wl_snapshot.specs.Snapshots.{Publication, IsPublication, IsAsked}
-use Rattle.svid_cache.specs.Caches.{is_listed, is_refused, lasts, has_ended, with_svid, Cached}
+use Rattle.svid_cache.specs.Caches.{is_listed, lasts, has_ended, with_svid, Cached}
 use Rattle.svid_cache.proofs.AskBlocks.{find_put}
 use Rattle.svid_cache.proofs.KeyTests.{passes, listed_found}
 use Rattle.svid_cache.specs.declared.install.Installed.{Installed}
@@ -28,36 +30,6 @@ use Rattle.wl_snapshot.specs.Untouched.{SameBut}
 use Rattle.wl_store.specs.Touched.{is_entry, ids_gone, ids_new, ids_ended}
 use Rattle.wl_store.proofs.Asks.{asks_rise}
 use Rattle.wl_store.proofs.Publications.{ask_at}
-
--- ---- texts that are not among others
-
-front_out : (xs ys : List (List ℕ)) (id : List ℕ) → has_text (xs ++ ys) id ≡ false → has_text xs id ≡ false
-unfolding has_text
-front_out [] ys id out = refl
-front_out (x ∷ xs) ys id out =
-    let parts = or_parts (bytes_eq x id) (list_any (λ other. bytes_eq other id) (xs ++ ys)) out in
-    (λ i. parts.0 i || front_out xs ys id parts.1 i)
-
-back_out : (xs ys : List (List ℕ)) (id : List ℕ) → has_text (xs ++ ys) id ≡ false → has_text ys id ≡ false
-unfolding has_text
-back_out [] ys id out = out
-back_out (x ∷ xs) ys id out = back_out xs ys id (or_parts (bytes_eq x id) (list_any (λ other. bytes_eq other id) (xs ++ ys)) out).1
-
--- ---- what is found passes the test that all others of its key fail
-
-found_go : {X : Type 0} (key : X → List ℕ) (t : X → Bool) (id : List ℕ) (y : X) (rest : Option X) (found : List X) (x : X) (b c : Bool) → bytes_eq (key y) id ≡ b → t y ≡ c
-    → has_text (map key (if not c then y ∷ found else found)) id ≡ false → (if b then Some y else rest) ≡ Some x → (has_text (map key found) id ≡ false → rest ≡ Some x → t x ≡ true) → t x ≡ true
-unfolding has_text
-found_go key t id y rest found x true true at is out there later = subst (λ z. t z ≡ true) (let same : y ≡ x = cc there in same) is
-found_go key t id y rest found x true false at is out there later =
-    let parts = or_parts (bytes_eq (key y) id) (list_any (λ other. bytes_eq other id) (map key found)) out in cc (sym at ∙ parts.0)
-found_go key t id y rest found x false true at is out there later = later out there
-found_go key t id y rest found x false false at is out there later = later (or_parts (bytes_eq (key y) id) (list_any (λ other. bytes_eq other id) (map key found)) out).1 there
-
-found_passes : {X : Type 0} (key : X → List ℕ) (t : X → Bool) (id : List ℕ) (xs : List X) (x : X) → has_text (map key (filter (λ y. not (t y)) xs)) id ≡ false → item_at key xs id ≡ Some x → t x ≡ true
-unfolding item_at
-found_passes key t id [] x out there = cc there
-found_passes key t id (y ∷ ys) x out there = found_go key t id y (find (λ z. bytes_eq (key z) id) ys) (filter (λ z. not (t z)) ys) x (bytes_eq (key y) id) (t y) refl refl out there (found_passes key t id ys x)
 
 -- ---- an item that passes stays where it was
 

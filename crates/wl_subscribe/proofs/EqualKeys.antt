@@ -1,47 +1,17 @@
 -- What is at a key that is not among those that differ is the same in both lists.
-use Rattle.std.specs.Prelude.{◌≡◌, ◌||◌, ℕ, Bool, true, false, not, if◌then◌else◌, List, [], ◌∷◌, ◌++◌, map, filter, find, is_some, Option, Some, None}
-use Rattle.std.specs.Str.{bytes_eq}
-use Rattle.std.specs.List.{list_any}
+use Rattle.std.specs.Prelude.{◌≡◌, ℕ, Bool, true, false, List, [], ◌++◌, is_some, Option, Some, None}
 use Rattle.std.proofs.Common.{refl, sym, ◌∙◌, ap, subst}
-use Rattle.std.proofs.lemmas.Bool.{or_parts}
 use Rattle.list_laws.specs.Keys.{item_at}
 use Rattle.wl_selector.specs.Selectors.{has_text}
+use Rattle.wl_selector.proofs.Members.{front_out, back_out}
 use Rattle.wl_entry.specs.Keys.{entry_key, svid_key}
 use Rattle.wl_entry.specs.Same.{same_entry, same_svid}
 use Rattle.wl_entry.proofs.Sames.{entry_is, svid_is}
+use Rattle.wl_entry.proofs.FoundAtKeys.{found_passes}
 use Rattle.wl_snapshot.specs.Snapshots.{Publication}
 use Rattle.wl_snapshot.specs.Untouched.{SameBut}
 use Rattle.wl_subscribe.specs.Differing.{is_item, keys_gone, keys_new}
 use Rattle.wl_subscribe.proofs.ByKey.{key_found}
-
--- ---- texts that are not among others
-
-front_out : (xs ys : List (List ℕ)) (id : List ℕ) → has_text (xs ++ ys) id ≡ false → has_text xs id ≡ false
-unfolding has_text
-front_out [] ys id out = refl
-front_out (x ∷ xs) ys id out =
-    let parts = or_parts (bytes_eq x id) (list_any (λ other. bytes_eq other id) (xs ++ ys)) out in
-    (λ i. parts.0 i || front_out xs ys id parts.1 i)
-
-back_out : (xs ys : List (List ℕ)) (id : List ℕ) → has_text (xs ++ ys) id ≡ false → has_text ys id ≡ false
-unfolding has_text
-back_out [] ys id out = out
-back_out (x ∷ xs) ys id out = back_out xs ys id (or_parts (bytes_eq x id) (list_any (λ other. bytes_eq other id) (xs ++ ys)) out).1
-
--- ---- what is found passes the test that all others of its key fail
-
-pass_go : {X : Type 0} (key : X → List ℕ) (t : X → Bool) (id : List ℕ) (y x : X) (found : Option X) (failing : List X) (b c : Bool) → bytes_eq (key y) id ≡ b → t y ≡ c
-    → has_text (map key (if not c then y ∷ failing else failing)) id ≡ false → (if b then Some y else found) ≡ Some x → (has_text (map key failing) id ≡ false → found ≡ Some x → t x ≡ true) → t x ≡ true
-unfolding has_text
-pass_go key t id y x found failing true true at is out there later = subst (λ z. t z ≡ true) (let same : y ≡ x = cc there in same) is
-pass_go key t id y x found failing true false at is out there later = cc (sym at ∙ (or_parts (bytes_eq (key y) id) (list_any (λ other. bytes_eq other id) (map key failing)) out).0)
-pass_go key t id y x found failing false true at is out there later = later out there
-pass_go key t id y x found failing false false at is out there later = later (or_parts (bytes_eq (key y) id) (list_any (λ other. bytes_eq other id) (map key failing)) out).1 there
-
-passes : {X : Type 0} (key : X → List ℕ) (t : X → Bool) (id : List ℕ) (xs : List X) (x : X) → has_text (map key (filter (λ y. not (t y)) xs)) id ≡ false → item_at key xs id ≡ Some x → t x ≡ true
-unfolding item_at
-passes key t id [] x out there = cc there
-passes key t id (y ∷ ys) x out there = pass_go key t id y x (find (λ z. bytes_eq (key z) id) ys) (filter (λ z. not (t z)) ys) (bytes_eq (key y) id) (t y) refl refl out there (passes key t id ys x)
 
 -- ---- an item of none of these keys
 
@@ -54,10 +24,10 @@ untouched_go : {X : Type 0} (test : X → X → Bool) (key : X → List ℕ) →
 unfolding keys_gone keys_new
 untouched_go test key decides before after id None None was is gone fresh = refl
 untouched_go test key decides before after id (Some x) new was is gone fresh =
-    let passed : is_item test (item_at key after (key x)) x ≡ true = passes key (λ y. is_item test (item_at key after (key y)) y) id before x gone was in
+    let passed : is_item test (item_at key after (key x)) x ≡ true = found_passes key (λ y. is_item test (item_at key after (key y)) y) id before x gone was in
     sym is ∙ item_is test decides (item_at key after id) x (subst (λ k. is_item test (item_at key after k) x ≡ true) (key_found key before id x was) passed)
 untouched_go test key decides before after id None (Some y) was is gone fresh =
-    let passed : is_some (item_at key before (key y)) ≡ true = passes key (λ z. is_some (item_at key before (key z))) id after y fresh is in
+    let passed : is_some (item_at key before (key y)) ≡ true = found_passes key (λ z. is_some (item_at key before (key z))) id after y fresh is in
     let there : is_some (item_at key before id) ≡ true = subst (λ k. is_some (item_at key before k) ≡ true) (key_found key after id y is) passed in
     cc (sym (ap is_some was) ∙ there)
 

@@ -9,10 +9,12 @@ use Rattle.std.proofs.Common.{cond, get_or, refl, sym, ◌∙◌, ap, subst, ari
 use Rattle.std.proofs.lemmas.Bool.{and_parts}
 use Rattle.std.proofs.lemmas.Bool.Decides.{nat_tests}
 use Rattle.std.proofs.lemmas.List.{take_more}
+use Rattle.std.proofs.lemmas.List.Folds.{list_any-append}
 use Rattle.std.proofs.lemmas.List.Elements.{filter_more}
 use Rattle.std.proofs.lemmas.Map.Text.{is_eq-slice_cmp}
 use Rattle.list_laws.proofs.Equality.{bytes_are, same_bytes}
 use Rattle.wl_selector.specs.Selectors.{has_text, has_texts}
+use Rattle.wl_selector.proofs.Members.{has_text_append}
 use Rattle.wl_entry.specs.Entitled.{is_entitled}
 use Rattle.wl_entry.specs.declared.entries.Entry.{Entry}
 use Rattle.wl_subscribe.specs.Filed.{has_number, numbers_at, is_filed}
@@ -25,7 +27,7 @@ or_right : (a b : Bool) → b ≡ true → (a || b) ≡ true
 or_right true b on = refl
 or_right false b on = on
 
-or_weakened : (a b c : Bool) → (b ≡ true → c ≡ true) → (a || b) ≡ true → (a || c) ≡ true
+pub or_weakened : (a b c : Bool) → (b ≡ true → c ≡ true) → (a || b) ≡ true → (a || c) ≡ true
 or_weakened true b c step has = refl
 or_weakened false b c step has = step has
 
@@ -105,15 +107,6 @@ filed_gone old new k number up all text n other was = changed old new k None up 
 
 -- ---- texts among others
 
-has_text_append : (xs ys : List (List ℕ)) (t : List ℕ) → has_text (xs ++ ys) t ≡ (has_text xs t || has_text ys t)
-unfolding has_text
-has_text_append [] ys t = refl
-has_text_append (x ∷ xs) ys t = ap (λ b. bytes_eq x t || b) (has_text_append xs ys t) ∙ joined (bytes_eq x t) (has_text xs t) (has_text ys t)
-  where
-    joined : (a b c : Bool) → (a || (b || c)) ≡ ((a || b) || c)
-    joined true b c = refl
-    joined false b c = refl
-
 one_text : (s t : List ℕ) → has_text (s ∷ []) t ≡ true → s ≡ t
 unfolding has_text
 one_text s t has = go (bytes_eq s t) refl has
@@ -155,28 +148,20 @@ and_found false false found = refl
 
 -- ---- who is hit
 
-or_joined : (a b c : Bool) → (a || (b || c)) ≡ ((a || b) || c)
-or_joined true b c = refl
-or_joined false b c = refl
-
 or_off : (b : Bool) → (b || false) ≡ b
 or_off true = refl
 or_off false = refl
 
-pub any_append : {X : Type 0} (t : X → Bool) (xs ys : List X) → list_any t (xs ++ ys) ≡ (list_any t xs || list_any t ys)
-any_append t [] ys = refl
-any_append t (x ∷ xs) ys = ap (λ b. t x || b) (any_append t xs ys) ∙ or_joined (t x) (list_any t xs) (list_any t ys)
-
 pub more_numbers : (ns : List ℕ) (i m n : ℕ) → i < length ns → m ≡ get_or ns i 0 → has_number (take (i + 1) ns) n ≡ (has_number (take i ns) n || (m == n))
 more_numbers ns i m n lt is =
     ap (λ l. has_number l n) (take_more ns i 0 lt ∙ ap (λ x. take i ns ++ x ∷ []) (sym is))
-    ∙ any_append (λ k. k == n) (take i ns) (m ∷ []) ∙ ap (λ b. has_number (take i ns) n || b) (or_off (m == n))
+    ∙ list_any-append (λ k. k == n) (take i ns) (m ∷ []) ∙ ap (λ b. has_number (take i ns) n || b) (or_off (m == n))
 
 -- those of one item more that pass a test
 pub more_passing : {X : Type 0} (t on : X → Bool) (xs : List X) (i : ℕ) (x : X) → i < length xs → x ≡ get_or xs i x → list_any on (filter t (take (i + 1) xs)) ≡ (list_any on (filter t (take i xs)) || (t x && on x))
 more_passing t on xs i x lt is =
     ap (λ l. list_any on l) (filter_more t xs i x lt ∙ ap (λ y. filter t (take i xs) ++ cond (t y) (y ∷ []) []) (sym is))
-    ∙ any_append on (filter t (take i xs)) (cond (t x) (x ∷ []) []) ∙ ap (λ b. list_any on (filter t (take i xs)) || b) (one (t x) (on x))
+    ∙ list_any-append on (filter t (take i xs)) (cond (t x) (x ∷ []) []) ∙ ap (λ b. list_any on (filter t (take i xs)) || b) (one (t x) (on x))
   where
     one : (b c : Bool) → list_any on (cond b (x ∷ []) []) ≡ (b && on x)
     one true c = or_off (on x)

@@ -1,7 +1,7 @@
 mod Bundles
 mod ByKey
 mod EqualKeys
-mod Filings
+pub mod Filings
 mod MemberNumbers
 mod Reasons
 mod Samples

@@ -10,6 +10,7 @@ use Rattle.std.specs.Ordering.{nat_cmp}
 use Rattle.std.proofs.Common.{cond, Less, refl, sym, ◌∙◌, ap, subst, arith}
 use Rattle.std.proofs.lemmas.Bool.{and_parts}
 use Rattle.std.proofs.lemmas.Bool.Decides.{nat_tests}
+use Rattle.std.proofs.lemmas.List.Folds.{list_any-append}
 use Rattle.list_laws.specs.Keys.{item_at}
 use Rattle.list_laws.proofs.Equality.{bytes_are, same_bytes}
 use Rattle.list_laws.proofs.AscendingKeys.{rises_filter}
@@ -27,19 +28,13 @@ use Rattle.wl_snapshot.specs.Same.{same_view_model}
 use Rattle.wl_snapshot.specs.Views.{ViewModel, held_of, held_key, is_federated, is_seen, view_model_of, view_in}
 use Rattle.wl_snapshot.proofs.Choices.{chosen_by}
 use Rattle.wl_snapshot.proofs.ViewModels.{view_model_holds}
-use Rattle.wl_snapshot.proofs.Equalities.{view_model_is, view_model_self}
+use Rattle.wl_snapshot.proofs.Equalities.{view_model_is, view_model_self, options_are}
 use Rattle.wl_subscribe.specs.Subscribed.{Subscribed, views_differ, affected_numbers}
 use Rattle.wl_snapshot.specs.Untouched.{SameBut}
 use Rattle.wl_subscribe.specs.Differing.{is_same_at, entries_differing, is_other_bundle, federates_anew, all_differ, reasons}
 use Rattle.wl_subscribe.proofs.ByKey.{kept, item_filter, item_map, key_found, lists_same}
 
 -- ---- tests
-
-options_are : {X : Type 0} (t : X → X → Bool) → ((x y : X) → t x y ≡ true → x ≡ y) → (a b : Option X) → option_eq t a b ≡ true → a ≡ b
-options_are t decides None None is = refl
-options_are t decides None (Some y) is = cc is
-options_are t decides (Some x) None is = cc is
-options_are t decides (Some x) (Some y) is = ap Some (decides x y is)
 
 option_self : {X : Type 0} (t : X → X → Bool) → ((x : X) → t x x ≡ true) → (a b : Option X) → a ≡ b → option_eq t a b ≡ true
 option_self t self None b is = subst (λ c. option_eq t None c ≡ true) is refl
@@ -71,14 +66,6 @@ or_right false b on = on
 
 some_is : {X : Type 0} {x y : X} → ◌≡◌ {A = Option X} (Some x) (Some y) → x ≡ y
 some_is same = cc same
-
-any_append : {X : Type 0} (t : X → Bool) (xs ys : List X) → list_any t (xs ++ ys) ≡ (list_any t xs || list_any t ys)
-any_append t [] ys = refl
-any_append t (x ∷ xs) ys = ap (λ b. t x || b) (any_append t xs ys) ∙ joined (t x) (list_any t xs) (list_any t ys)
-  where
-    joined : (a b c : Bool) → (a || (b || c)) ≡ ((a || b) || c)
-    joined true b c = refl
-    joined false b c = refl
 
 module _ (p q : Publication) (sel : List (List ℕ)) where
   abbrev pub ent : Entry → Bool
@@ -153,7 +140,7 @@ module _ (p q : Publication) (sel : List (List ℕ)) where
       let parts = and_parts (option_eq same_entry (entry_in p id) (entry_in q id)) _ is in
       same_there id (sym (options_are same_entry entry_is (entry_in p id) (entry_in q id) parts.0)) (sym (options_are same_svid svid_is (svid_in p id) (svid_in q id) parts.1))
   differing_go id false is out =
-      let parts = either _ _ (sym (any_append ent (option_to_list (entry_in p id)) (option_to_list (entry_in q id))) ∙ out) in
+      let parts = either _ _ (sym (list_any-append ent (option_to_list (entry_in p id)) (option_to_list (entry_in q id))) ∙ out) in
       ap (option_map (held_of p.svids)) (none_kept (entry_in p id) parts.0) ∙ sym (ap (option_map (held_of q.svids)) (none_kept (entry_in q id) parts.1))
 
   among_go : (i id : List ℕ) (ids : List (List ℕ)) (c : Bool) → bytes_eq i id ≡ c → (c || has_text ids id) ≡ true → list_any ent (entries_differing p q i) ≡ false
@@ -165,7 +152,7 @@ module _ (p q : Publication) (sel : List (List ℕ)) where
   unfolding has_text
   among [] id there out = cc there
   among (i ∷ ids) id there out =
-      let parts = either _ _ (sym (any_append ent (entries_differing p q i) (flat_map (entries_differing p q) ids)) ∙ out) in
+      let parts = either _ _ (sym (list_any-append ent (entries_differing p q i) (flat_map (entries_differing p q) ids)) ∙ out) in
       among_go i id ids (bytes_eq i id) refl there parts.0 (λ later. among ids id later parts.1)
 
   differing_out : (id : List ℕ) → list_any ent (entries_differing p q id) ≡ false → option_map (held_of p.svids) (kept ent (entry_in p id)) ≡ option_map (held_of q.svids) (kept ent (entry_in q id))
@@ -254,7 +241,7 @@ module _ (p q : Publication) (sel : List (List ℕ)) where
   same_view : IsPublication p → IsPublication q → (ids : List (List ℕ)) → SameBut ids p q → all_differ p q ≡ false → list_any ent (reasons ids p q) ≡ false → view_in p sel ≡ view_in q sel
   unfolding view_in view_model_of reasons
   same_view is_p is_q ids but own out =
-      let parts = either _ _ (sym (any_append ent (flat_map (entries_differing p q) ids) (filter (federates_anew p q) q.entries)) ∙ out) in
+      let parts = either _ _ (sym (list_any-append ent (flat_map (entries_differing p q) ids) (filter (federates_anew p q) q.entries)) ∙ out) in
       let helds_are = same_helds is_p is_q ids but parts.0 in
       let shown_are : shown p (chosen p) ≡ shown q (chosen q) =
       ap (λ (d : List ℕ). filter (is_seen d (chosen p)) p.bundles) (same_domain own) ∙ ap (λ (es : List Entry). filter (is_seen q.domain es) p.bundles) (same_chosen helds_are) ∙ same_shown is_p is_q own parts.1 in
@@ -317,7 +304,7 @@ module _ (p q : Publication) (sel : List (List ℕ)) where
   unfolding entries_differing
   none_differing is_p is_q same [] = refl
   none_differing is_p is_q same (id ∷ ids) =
-      any_append ent (if is_same_at p q id then [] else option_to_list (entry_in p id) ++ option_to_list (entry_in q id)) (flat_map (entries_differing p q) ids)
+      list_any-append ent (if is_same_at p q id then [] else option_to_list (entry_in p id) ++ option_to_list (entry_in q id)) (flat_map (entries_differing p q) ids)
       ∙ neither _ _ (differing_none is_p is_q same id (is_same_at p q id) refl) (none_differing is_p is_q same ids)
 
   none_anew : (domains : List (List ℕ)) → ((domain : List ℕ) → list_any (λ other. bytes_eq other domain) domains ≡ true → is_other_bundle p q domain ≡ false) → list_any (is_other_bundle p q) domains ≡ false
@@ -351,7 +338,7 @@ module _ (p q : Publication) (sel : List (List ℕ)) where
       sym (ap (λ (d : List ℕ). filter (is_seen d (chosen p)) p.bundles) domains ∙ ap (λ (es : List Entry). filter (is_seen q.domain es) p.bundles) (same_chosen helds_are)) ∙ shown_are in
       let each = bundles_seen is_p is_q (chosen q) at_q in (
         neither _ _ (ap not (subst (λ d. bytes_eq p.domain d ≡ true) domains (same_bytes p.domain))) (each q.domain (or_left (bytes_eq q.domain q.domain) _ (same_bytes q.domain))),
-        any_append ent (flat_map (entries_differing p q) ids) (filter (federates_anew p q) q.entries)
+        list_any-append ent (flat_map (entries_differing p q) ids) (filter (federates_anew p q) q.entries)
             ∙ neither _ _ (none_differing is_p is_q helds_are ids) (none_federated q.entries (λ domain there. each domain (or_right (bytes_eq domain q.domain) _ there))),
       )
 

@@ -1,3 +1,3 @@
 pub mod RequestFields
 pub mod RequestBytes
-mod Prefixes
+mod Faults

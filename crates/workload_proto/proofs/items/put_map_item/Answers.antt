@@ -3,7 +3,7 @@ use Rattle.workload_proto.specs.declared.message.MapItem.{MapItem}
 use Rattle.pb_wire.specs.Spelling.{head}
 use Rattle.workload_proto.specs.Spelling.{spell_map_item, map_field}
 use Rattle.list_laws.proofs.Fronts.{gains_before}
-use Rattle.workload_proto.proofs.Prefixes.{on_err}
+use Rattle.workload_proto.proofs.Faults.{on_err}
 use Rattle.workload_proto.proofs.items.put_map_item.Goals as goal
 
 pub returns : goal.returns

@@ -3,7 +3,7 @@ use Rattle.std.proofs.lemmas.Result.{on_err_weaker}
 use Rattle.pb_wire.specs.Spelling.{optional_field}
 use Rattle.list_laws.proofs.Fronts.{gains_before, gains_after}
 use Rattle.workload_proto.specs.Spelling.{spell_x509_item}
-use Rattle.workload_proto.proofs.Prefixes.{on_err}
+use Rattle.workload_proto.proofs.Faults.{on_err}
 use Rattle.workload_proto.proofs.items.put_x509_content.Goals as goal
 
 pub returns-in_err-put_optional-clause-err : goal.returns-in_err-put_optional-clause-err

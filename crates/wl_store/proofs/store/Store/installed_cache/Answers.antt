@@ -1,7 +1,8 @@
-use Rattle.std.proofs.Common.{◌≡◌, Some, None, refl, sym, ◌∙◌, ap, subst}
-use Rattle.wl_store.specs.Stores.{refusal, cached_of}
+use Rattle.std.proofs.Common.{refl, sym, ◌∙◌, subst}
+use Rattle.svid_cache.proofs.KeptAlready.{same_svids}
+use Rattle.wl_store.specs.Stores.{cached_of}
 use Rattle.wl_store.specs.Steps.{AllTrusted, Trusted, kept_after}
-use Rattle.wl_store.proofs.StoreSteps.{all_same, refusal_installs, refusal_gives, install_gives}
+use Rattle.wl_store.proofs.StoreSteps.{refusal_installs, refusal_gives, install_gives}
 use Rattle.wl_store.proofs.store.Store.installed_cache.Goals as goal
 
 pub returns-in-Some-clause-answer : goal.returns-in-Some-clause-answer
@@ -15,7 +16,7 @@ returns-in-Some-clause-gives g c =
     refusal_gives g.V.Voucher.signed c.args.now s c.args.svid c.in-Some.refusal (cached_of s) trusted (sym c.in_ok-refusal.ensures.value ∙ c.in-Some.is) refl
 
 pub returns-in-Some-clause-none : goal.returns-in-Some-clause-none
-returns-in-Some-clause-none g c = sym (all_same c.args.self.now.store.svids c.args.self.now.store.svids refl)
+returns-in-Some-clause-none g c = sym (same_svids c.args.self.now.store.svids c.args.self.now.store.svids refl)
 
 pub returns-in_ok-both-in-None-clause-gives : goal.returns-in_ok-both-in-None-clause-gives
 returns-in_ok-both-in-None-clause-gives g c =

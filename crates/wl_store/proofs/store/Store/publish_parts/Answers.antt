@@ -1,4 +1,4 @@
-use Rattle.std.proofs.Common.{◌≡◌, ◌+◌, sym, ◌∙◌, ap, subst}
+use Rattle.std.proofs.Common.{◌≡◌, ◌+◌, ◌∙◌, ap}
 use Rattle.svid_cache.specs.Caches.{Cached}
 use Rattle.svid_cache.specs.Timetables.{cached_by}
 use Rattle.wl_store.specs.Stores.{asks_of}

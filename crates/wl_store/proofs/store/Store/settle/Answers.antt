@@ -1,6 +1,6 @@
-use Rattle.std.proofs.Common.{◌≡◌, ◌+◌, sym, ◌∙◌, ap, subst}
+use Rattle.std.proofs.Common.{◌+◌, sym, ◌∙◌, ap}
 use Rattle.std.specs.Prelude.{is_none}
-use Rattle.wl_store.specs.Stores.{publish, shows_parts}
+use Rattle.wl_store.specs.Stores.{publish}
 use Rattle.wl_store.specs.Steps.{with_parts, kept_after, stored_of}
 use Rattle.wl_store.proofs.StoreSteps.{settled_same, settled_new, change_same, change_new}
 use Rattle.wl_store.proofs.store.Store.settle.Goals as goal

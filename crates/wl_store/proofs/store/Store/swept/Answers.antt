@@ -3,8 +3,9 @@ use Rattle.std.specs.Cmp.Lexicographic.{pointwise}
 use Rattle.wl_entry.specs.Same.{same_svid}
 use Rattle.svid_cache.specs.Caches.{lasts, has_ended, without_ended}
 use Rattle.svid_cache.specs.Timetables.{cached_by}
+use Rattle.svid_cache.proofs.KeptAlready.{same_svids}
 use Rattle.wl_store.specs.Steps.{AllTrusted}
-use Rattle.wl_store.proofs.StoreSteps.{still_trusted, ended_differs, all_same}
+use Rattle.wl_store.proofs.StoreSteps.{still_trusted, ended_differs}
 use Rattle.wl_store.proofs.store.Store.swept.Goals as goal
 
 pub returns-then-has_ended-clause-trusted : goal.returns-then-has_ended-clause-trusted
@@ -28,4 +29,4 @@ returns-clause-value g c =
     sym (ap (without_ended c.args.now) (sym c.table.ensures.value) ∙ (kept ∙ c.table.ensures.value))
 
 pub returns-clause-same : goal.returns-clause-same
-returns-clause-same g c = sym (all_same c.args.self.now.store.svids c.args.self.now.store.svids refl)
+returns-clause-same g c = sym (same_svids c.args.self.now.store.svids c.args.self.now.store.svids refl)
