@@ -20,6 +20,9 @@ STRUCK = r"\b(?:is told|are told|want of memory|lives through|as fit|but for|of 
 COMMENT = r"^\s*(?://[/!]?|--)(.*)$"
 # pages that list what was said in their time
 OLD_PAGES = {"CHANGELOG.md"}
+# statements of lemmas, of so many letters at least, that stand in more than one place: no more than so many are left
+STATEMENT_LETTERS = 60
+REPEATED = 23
 faults = []
 
 
@@ -156,6 +159,44 @@ def check_proof_names(files):
                 fault(f"{path.relative_to(TOP)}: there is no file {name} in its proofs")
 
 
+def statements(text):
+    """Each name with its statement, whole: what stands between the name's colon and its first clause."""
+    lines = text.split("\n")
+    for at, line in enumerate(lines):
+        head = re.match(r"( *)(?:pub )?([^\s:(){}]+) : (.*)$", line)
+        if not head:
+            continue
+        indent, name, said = head.groups()
+        end = next((it for it in range(at + 1, len(lines)) if not lines[it].startswith(indent + " ")), len(lines))
+        clause = next((it for it in lines[end:end + 3] if not it.startswith(indent + "unfolding")), "")
+        if clause.startswith(indent + name):
+            yield name, " ".join([said, *map(str.strip, lines[at + 1:end])])
+
+
+def shape(said):
+    """A statement with its variables numbered, so that two of the same meaning are the same text."""
+    bound = re.findall(r"[({]((?:[^\s:(){}]+ )+): |λ ((?:[^\s.(){}λ]+ ?)+)\. ", said)
+    places = {name: f"#{at}" for at, name in enumerate(dict.fromkeys(" ".join(map("".join, bound)).split()))}
+    return re.sub(r"[^\s(){}.,;]+", lambda word: places.get(word[0], word[0]), said)
+
+
+def check_repeated(files):
+    """A lemma stands once, in the lowest crate that needs it."""
+    places = {}
+    for path in files:
+        if path.suffix != ".antt" or "proofs" not in path.parts:
+            continue
+        for name, said in statements(path.read_text()):
+            # a goal of the code's own names no lemma
+            if len(said) >= STATEMENT_LETTERS and "goal." not in said:
+                places.setdefault(shape(said), []).append(f"{path.relative_to(TOP)}: {name}")
+    repeated = [where for where in places.values() if len(where) > 1]
+    if len(repeated) > REPEATED:
+        fault(f"{len(repeated)} statements stand in more than one place, above {REPEATED}; state a lemma once:")
+        for where in repeated:
+            fault("    " + ", ".join(where))
+
+
 def contract(text, name):
     """What stands between a function's name and its body, for each function of this name."""
     for found in re.finditer(rf"\bfn {re.escape(name)}\b", text):
@@ -286,6 +327,7 @@ def main():
     check_edits(files)
     check_pages(files)
     check_proof_names(files)
+    check_repeated(files)
     check_promises()
     check_trust()
     check_version()

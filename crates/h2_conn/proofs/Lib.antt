@@ -1,4 +1,5 @@
 pub mod Choice
+pub mod Walk
 pub mod Queues
 pub mod Sounds
 pub mod Results

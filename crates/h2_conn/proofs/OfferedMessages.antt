@@ -25,6 +25,7 @@ use Rattle.h2_conn.specs.Conns.{takes, with_head_on, with_trailers_on, with_mess
 use Rattle.h2_conn.specs.Sound.{Sound, SoundPhase}
 use Rattle.h2_conn.specs.Holding.{Claim, ClaimOf, ClaimOn, IsHeld, IsSilent, OpensNot, Lasts}
 use Rattle.h2_conn.proofs.Carries.{frame_carries}
+use Rattle.h2_conn.proofs.Walk.{at_cond}
 use Rattle.h2_conn.proofs.Sounds.{there_is}
 
 -- ---- one stream of an outbox is changed
@@ -68,10 +69,6 @@ nothing_claimed [] n = tt
 nothing_claimed (s ∷ ss) n = ((λ e f. tt), nothing_claimed ss n)
 
 -- ---- what is given to a connection
-
-at_cond : (P : State → Type 0) (b : Bool) (x y : State) → P x → P y → P (cond b x y)
-at_cond P true x y h k = h
-at_cond P false x y h k = k
 
 pub headed_claim : (n k : ℕ) (block : List ℕ) (claim : Claim) (p : Phase) → ClaimOn n claim p → ClaimOn n claim (on_open (with_head_on k block) p)
 unfolding with_head_on with_head
@@ -166,13 +163,9 @@ reset_claim n k code claim (OutOfMemory totals) h = tt
 
 -- ---- a flush
 
-cond_claim : (n : ℕ) (claim : Claim) (b : Bool) (x y : Turn) → ClaimOf n claim x.stream → ClaimOf n claim y.stream → ClaimOf n claim (cond b x y).stream
-cond_claim n claim true x y h k = h
-cond_claim n claim false x y h k = k
-
 data_claim : (n : ℕ) (claim : Claim) (f : Flow) (s : flow.Stream) → ClaimOf n claim s → ClaimOf n claim (data_turn f s).stream
 unfolding data_turn
-data_claim n claim f s h = cond_claim n claim (allowed_of f s.credit (length (drop s.sent s.last)) == 0) _ _ h h
+data_claim n claim f s h = at_cond (λ (x : Turn). ClaimOf n claim x.stream) (allowed_of f s.credit (length (drop s.sent s.last)) == 0) _ _ h h
 
 last_claim : (n : ℕ) (claim : Claim) (f : Flow) (s : flow.Stream) (w : Option (List ℕ)) → ClaimOf n claim s → ClaimOf n claim (last_turn f s w).stream
 unfolding last_turn headers_turn
@@ -183,12 +176,12 @@ next_claim : (n : ℕ) (claim : Claim) (f : Flow) (s : flow.Stream) (w : Option 
 unfolding next_turn
 next_claim n claim f s None lasts is h = last_claim n claim f s s.trailers h
 next_claim n claim f s (Some message) lasts is h =
-    cond_claim n claim (allowed_of f s.credit (length message) == 0) _ _ h
+    at_cond (λ (x : Turn). ClaimOf n claim x.stream) (allowed_of f s.credit (length message) == 0) _ _ h
     (data_claim n claim (record f { begun = f.begun + 1 }) (record s { last = message; sent = 0; waiting = None }) (λ e g. lasts message s.last (subst (λ (w : Option (List ℕ)). claim w s.last) is (h e g))))
 
 body_claim : (n : ℕ) (claim : Claim) (f : Flow) (s : flow.Stream) → Lasts claim → ClaimOf n claim s → ClaimOf n claim (body_turn f s).stream
 unfolding body_turn
-body_claim n claim f s lasts h = cond_claim n claim (nat_lt s.sent (length s.last)) (data_turn f s) (next_turn f s s.waiting) (data_claim n claim f s h) (next_claim n claim f s s.waiting lasts refl h)
+body_claim n claim f s lasts h = at_cond (λ (x : Turn). ClaimOf n claim x.stream) (nat_lt s.sent (length s.last)) (data_turn f s) (next_turn f s s.waiting) (data_claim n claim f s h) (next_claim n claim f s s.waiting lasts refl h)
 
 head_claim : (n : ℕ) (claim : Claim) (f : Flow) (s : flow.Stream) (w : Option (List ℕ)) → Lasts claim → ClaimOf n claim s → ClaimOf n claim (head_turn f s w).stream
 unfolding headers_turn
@@ -204,17 +197,13 @@ unfolding round
 round_claim n claim f [] lasts h = tt
 round_claim n claim f (s ∷ ss) lasts h = (turn_claim n claim f s lasts h.0, round_claim n claim (turn f s).flow ss lasts h.1)
 
-either_round : (P : List flow.Stream → Type 0) (b : Bool) (x y : Round) → P x.streams → P y.streams → P (cond b x y).streams
-either_round P true x y h k = h
-either_round P false x y h k = k
-
 rounds_claim : (n k : ℕ) (claim : Claim) (f : Flow) (ss : List flow.Stream) → Lasts claim → AllByRecursion (ClaimOf n claim) ss → AllByRecursion (ClaimOf n claim) (rounds k f ss).streams
 unfolding rounds
 rounds_claim n zero claim f ss lasts h = h
 rounds_claim n (suc k) claim f ss lasts h =
     let r = round f ss in
     let one = round_claim n claim f ss lasts h in
-    either_round (AllByRecursion (ClaimOf n claim)) (length r.sent == 0) r _ one (rounds_claim n k claim r.flow r.streams lasts one)
+    at_cond (λ (x : Round). AllByRecursion (ClaimOf n claim) x.streams) (length r.sent == 0) r _ one (rounds_claim n k claim r.flow r.streams lasts one)
 
 pulled_claim : (n : ℕ) (claim : Claim) (o : Out) → Lasts claim → AllByRecursion (ClaimOf n claim) o.streams → AllByRecursion (ClaimOf n claim) (pull_of o).left.streams
 unfolding pull_of all_rounds

@@ -24,15 +24,12 @@ use Rattle.h2_conn.specs.Kinds.{guard_rows, headers_rows, header_list_rows, bloc
 use Rattle.h2_conn.specs.Conns.{takes, with_head_on, with_trailers_on, with_message_on, without_waiting_on, after_reset, answer_ends, answers_end, ends_reset_count, after_pull}
 use Rattle.h2_conn.specs.Counts.{Step, Came, Wrote, Head, Finish, Offer, Withdraw, Refuse, is_early, Leads, Reaches, is_data, is_head, is_empty, is_arrival, is_early_reset, ends_resets, restarts, since, ContinuationsAre, HasCounts}
 use Rattle.h2_conn.proofs.Choice.{peer_is}
+use Rattle.h2_conn.proofs.Walk.{at_cond}
 
 -- ---- states with these counts
 
 abbrev Counts : ℕ → ℕ → ℕ → ℕ → State → Type 0
 Counts s e r p q = (q.settings_count ≡ s) × (q.empty_data_count ≡ e) × (q.rapid_reset_count ≡ r) × ContinuationsAre p q.open_block
-
-at_cond : (P : State → Type 0) (b : Bool) (x y : State) → P x → P y → P (cond b x y)
-at_cond P true x y h k = h
-at_cond P false x y h k = k
 
 c_closed : (s e r p n : ℕ) (q : State) → Counts s e r p q → Counts s e r p (without_live_stream n q)
 unfolding without_live_stream

@@ -26,6 +26,7 @@ use Rattle.h2_conn.specs.Naming.{NamesTold}
 use Rattle.h2_conn.specs.Sound.{Sound}
 use Rattle.h2_conn.specs.Windows.{window_step, step_on, data_written, data_written_on, initial_of, last_initial, is_head_of, opens, since_opening, stream_sum, HasWindows, HasLowStream}
 use Rattle.h2_conn.proofs.Carries.{Has, h_closed, with_credit_step, on_connection, frame_carries}
+use Rattle.h2_conn.proofs.Walk.{at_cond}
 use Rattle.h2_conn.proofs.Sounds.{s_outbox, s_closed, s_answering, s_headed_on, s_finished_on, s_offered_on, s_withdrawn_on, s_reset_by, peer_sound, peer_names}
 
 -- ---- credits as sums
@@ -89,10 +90,6 @@ credits_changed steps n f keeps (s ∷ ss) h =
       | inl here ↦ rw here (keeps s h.0, h.1)
       | inr there ↦ rw there (h.0, credits_changed steps n f keeps ss h.1)
     ]
-
-at_cond : (P : State → Type 0) (b : Bool) (x y : State) → P x → P y → P (cond b x y)
-at_cond P true x y h k = h
-at_cond P false x y h k = k
 
 has_itself : (steps : List Step) (q : State) → Holds steps q → Has (Credit steps) q.outbox.flow.connection_window q.outbox.flow.initial_window_size q.outbox
 has_itself steps q h = (h.credits, refl, refl)

@@ -30,7 +30,7 @@ use Rattle.wl_client.specs.Hearing.{fails, Hearing, silent, status_heard, first_
 use Rattle.wl_client.specs.Clients.{heard_in, heard_from, heard}
 use Rattle.wl_client.proofs.Heads.{head_fits}
 use Rattle.wl_heard.specs.Calls.{IsOfOneCall, client_bytes, bytes_fed, ClientsAreAnswered}
-use Rattle.wl_heard.proofs.Found.{Holds, holds_none, holds_both, holds_spelled, holds_ping, found_all}
+use Rattle.wl_heard.proofs.WholeFrames.{Holds, holds_none, holds_both, holds_spelled, holds_ping, found_all}
 use Rattle.wl_heard.proofs.FedFrames.{AllOfCall, all_front, all_read, more_read, moves_make}
 use Rattle.wl_heard.proofs.Hearers.{calls_are_heard}
 

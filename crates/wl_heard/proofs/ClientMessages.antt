@@ -11,6 +11,7 @@ use Rattle.h2_frame.specs.declared.frame.Body.{Body}
 use Rattle.h2_frame.specs.declared.frame.Body.TheVariants as bodies
 use Rattle.h2_frame.specs.declared.frame.Frame.{Frame}
 use Rattle.h2_frame.specs.Reading as reader
+use Rattle.h2_conn.proofs.Walk.{at_cond}
 use Rattle.grpc_wire.specs.Messages.{End, Rest, Fault, IsOpen, Reading, messages_in, messages_of, reading_from, read_on}
 use Rattle.grpc_wire.proofs.Cuts.{reads_on}
 use Rattle.workload_proto.specs.declared.limits.TheConstants.{MAX_RESPONSE_LEN}
@@ -157,10 +158,6 @@ w_fails l fault content = record { told = refl; kept = tt; content = content }
 w_silent : (l k : Listener) → k.messages ≡ l.messages → Wordless l (silent k)
 w_silent l k same = record { told = refl; kept = same; content = tt }
 
-w_if : (l : Listener) (b : Bool) (x y : Hearing) → Wordless l x → Wordless l y → Wordless l (cond b x y)
-w_if l true x y h k = h
-w_if l false x y h k = k
-
 w_status : (code : Option ℕ) (hs : List Header) (l : Listener) → Wordless l (status_heard code hs l)
 w_status None hs l = w_fails l faults.NoStatus tt
 w_status (Some code) hs l = record { told = refl; kept = refl; content = tt }
@@ -191,11 +188,11 @@ unfolding block_heard
 w_block block whole l =
     let next : Listener = record l { decoder = (decode_block l.decoder block.bytes).1; block = None } in
     let d = w_decoded block.ended (decode_block l.decoder block.bytes).0 next in
-    w_if l whole _ (silent (record l { block = Some block })) (record { told = d.told; kept = d.kept; content = d.content }) (w_silent l (record l { block = Some block }) refl)
+    at_cond (Wordless l) whole _ (silent (record l { block = Some block })) (record { told = d.told; kept = d.kept; content = d.content }) (w_silent l (record l { block = Some block }) refl)
 
 w_continued : (block : Option OpenBlock) (more : List ℕ) (whole : Bool) (l : Listener) → Wordless l (continued block more whole l)
 w_continued (Some block) more whole l =
-    w_if l _ (fails (faults.Header header_faults.ListTooLong)) (block_heard (longer block more) whole l)
+    at_cond (Wordless l) _ (fails (faults.Header header_faults.ListTooLong)) (block_heard (longer block more) whole l)
     (w_fails l (faults.Header header_faults.ListTooLong) tt) (w_block (longer block more) whole l)
 w_continued None more whole l = w_fails l (faults.Order call_stream) tt
 
@@ -264,8 +261,8 @@ none_if false = refl
 
 control_wordless : (n : ℕ) (body : Body) (l : Listener) → Wordless l (control_heard n body l)
 unfolding control_heard
-control_wordless n (bodies.Reset code) l = w_if l (n == call_stream) (fails (faults.Reset code)) (silent l) (w_fails l (faults.Reset code) tt) (w_silent l l refl)
-control_wordless n (bodies.GoAway last code) l = w_if l (code == NO_ERROR) (silent l) (fails (faults.GoAway code)) (w_silent l l refl) (w_fails l (faults.GoAway code) tt)
+control_wordless n (bodies.Reset code) l = at_cond (Wordless l) (n == call_stream) (fails (faults.Reset code)) (silent l) (w_fails l (faults.Reset code) tt) (w_silent l l refl)
+control_wordless n (bodies.GoAway last code) l = at_cond (Wordless l) (code == NO_ERROR) (silent l) (fails (faults.GoAway code)) (w_silent l l refl) (w_fails l (faults.GoAway code) tt)
 control_wordless n (bodies.Settings pairs) l = record { told = refl; kept = refl; content = tt }
 control_wordless n (bodies.Ping false word) l = record { told = refl; kept = refl; content = tt }
 control_wordless n (bodies.Ping true word) l = w_silent l l refl

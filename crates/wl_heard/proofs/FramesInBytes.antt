@@ -29,10 +29,10 @@ use Rattle.wl_responses.specs.Moves.{steps_of, bytes_of_steps}
 use Rattle.wl_responses.proofs.Bytes.{steps_write_frames}
 use Rattle.wl_responses.proofs.MoveSteps.{sessions_take_steps, steps_fit}
 use Rattle.wl_heard.specs.Written.{frame_of, IsControl, settings_frame, greeting_frames, control_frames, due_frames, step_frames, frames_written, data_of, data_on, data_in, TalksAreRead, ControlIsRead, DataIsRead, SessionsAreRead, SessionDataIsRead}
-use Rattle.wl_heard.proofs.Found.{AreFound, Holds, holds_none, found_none, found_both, found_all, found_spelled, found_sents, IsShortSent}
-use Rattle.wl_heard.proofs.Tidy.{Tidy, fresh_tidy, frame_tidy, broken_tidy, head_tidy, trailers_tidy, message_tidy, silence_tidy, reset_tidy, flush_tidy, pull_short}
+use Rattle.wl_heard.proofs.WholeFrames.{AreFound, Holds, holds_none, found_none, found_both, found_all, found_spelled, found_sents, IsShortSent}
+use Rattle.wl_heard.proofs.SoundConnections.{Tidy, fresh_tidy, frame_tidy, broken_tidy, head_tidy, trailers_tidy, message_tidy, silence_tidy, reset_tidy, flush_tidy, pull_short}
 use Rattle.wl_heard.proofs.Blocks.{head_short, last_short, refusal_short}
-use Rattle.wl_heard.proofs.ConnectionFacts.{Lasts, l_refusal, l_turns, l_names, l_gives}
+use Rattle.wl_session.proofs.PhaseWalk.{Lasts, l_refusal, l_turns, l_names, l_gives}
 
 -- ---- each connection of a talk
 

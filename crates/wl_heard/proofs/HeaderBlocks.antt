@@ -13,6 +13,7 @@ use Rattle.h2_flow.specs.Outboxes.{Out, pull_of}
 use Rattle.h2_conn.specs.declared.phase.Phase.{Phase}
 use Rattle.h2_conn.specs.declared.phase.Phase.TheVariants.{Open, Failed, OutOfMemory}
 use Rattle.h2_conn.specs.Conns.{ends_reset_count, after_pull, flush_of}
+use Rattle.h2_conn.proofs.Walk.{at_cond}
 use Rattle.grpc_wire.specs.Answers.{response_fields}
 use Rattle.wl_responses.specs.Steps.{frames_due}
 use Rattle.wl_responses.specs.Statuses.{On, OnPhase}
@@ -63,13 +64,9 @@ module _ (n : ℕ) (R : List ℕ → Type 0) where
   silent : (f : Flow) (s : Stream) → Own s → Wrote (no_turn f s)
   silent f s h = record { sent = tt; stream = h }
 
-  wrote_if : (b : Bool) (x y : Turn) → Wrote x → Wrote y → Wrote (cond b x y)
-  wrote_if true x y h k = h
-  wrote_if false x y h k = k
-
   data_wrote : (f : Flow) (s : Stream) → Own s → Wrote (data_turn f s)
   unfolding data_turn
-  data_wrote f s h = wrote_if (allowed_of f s.credit (length (drop s.sent s.last)) == 0) (no_turn f s) _ (silent f s h) (record { sent = (tt, tt); stream = h })
+  data_wrote f s h = at_cond Wrote (allowed_of f s.credit (length (drop s.sent s.last)) == 0) (no_turn f s) _ (silent f s h) (record { sent = (tt, tt); stream = h })
 
   last_wrote : (f : Flow) (s : Stream) (o : Option (List ℕ)) → o ≡ s.trailers → Own s → Wrote (last_turn f s o)
   unfolding last_turn headers_turn
@@ -83,12 +80,12 @@ module _ (n : ℕ) (R : List ℕ → Type 0) where
   unfolding next_turn
   next_wrote f s None h = last_wrote f s s.trailers refl h
   next_wrote f s (Some message) h =
-      wrote_if (allowed_of f s.credit (length message) == 0) (no_turn f s) _ (silent f s h)
+      at_cond Wrote (allowed_of f s.credit (length message) == 0) (no_turn f s) _ (silent f s h)
       (data_wrote (record f { begun = f.begun + 1 }) (record s { last = message; sent = 0; waiting = None }) h)
 
   body_wrote : (f : Flow) (s : Stream) → Own s → Wrote (body_turn f s)
   unfolding body_turn
-  body_wrote f s h = wrote_if (nat_lt s.sent (length s.last)) (data_turn f s) (next_turn f s s.waiting) (data_wrote f s h) (next_wrote f s s.waiting h)
+  body_wrote f s h = at_cond Wrote (nat_lt s.sent (length s.last)) (data_turn f s) (next_turn f s s.waiting) (data_wrote f s h) (next_wrote f s s.waiting h)
 
   head_wrote : (f : Flow) (s : Stream) (o : Option (List ℕ)) → o ≡ s.head → Own s → Wrote (head_turn f s o)
   unfolding headers_turn
@@ -117,10 +114,6 @@ module _ (n : ℕ) (R : List ℕ → Type 0) where
       let rest = round_wrote t.flow ss h.1 in
       record { sent = all_append (SentFits n R) t.sent (round t.flow ss).sent one.sent rest.sent; streams = (one.stream, rest.streams) }
 
-  all_if : (b : Bool) (x y : Round) → WroteAll x → WroteAll y → WroteAll (cond b x y)
-  all_if true x y h k = h
-  all_if false x y h k = k
-
   rounds_wrote : (k : ℕ) (f : Flow) (ss : List Stream) → On n (HasBlocks R) ss → WroteAll (rounds k f ss)
   unfolding rounds
   rounds_wrote zero f ss h = record { sent = tt; streams = h }
@@ -129,7 +122,7 @@ module _ (n : ℕ) (R : List ℕ → Type 0) where
       let one = round_wrote f ss h in
       let rest = rounds_wrote k r.flow r.streams one.streams in
       let more = rounds k r.flow r.streams in
-      all_if (length r.sent == 0) r (record { sent = r.sent ++ more.sent; flow = more.flow; streams = more.streams }) one
+      at_cond WroteAll (length r.sent == 0) r (record { sent = r.sent ++ more.sent; flow = more.flow; streams = more.streams }) one
       (record { sent = all_append (SentFits n R) r.sent more.sent one.sent rest.sent; streams = rest.streams })
 
   pull_blocks : (o : Out) → On n (HasBlocks R) o.streams → On n (HasBlocks R) (pull_of o).left.streams

@@ -25,7 +25,7 @@ use Rattle.wl_session.proofs.Sizes.{small_head, small_trailers, small_refusal}
 use Rattle.wl_heard.proofs.Lists.{IsGood, Decoded, block_decoded}
 use Rattle.wl_heard.proofs.FramesInBytes.{talks_are_read, control_is_read}
 use Rattle.wl_heard.proofs.HeaderBlocks.{IsBlockOf, SentFits}
-use Rattle.wl_heard.proofs.GivenBlocks.{Given, later_given, step_sends}
+use Rattle.wl_heard.proofs.LastBlocks.{Given, later_given, step_sends}
 
 -- ---- frames
 

@@ -32,7 +32,7 @@ use Rattle.wl_heard.proofs.FramesInBytes.{sessions_are_read}
 use Rattle.wl_heard.proofs.Marks.{Ready}
 use Rattle.wl_heard.proofs.HttpFaults.{IsNumbered, https_numbered}
 use Rattle.wl_heard.proofs.HeaderBlocks.{IsBlockOf}
-use Rattle.wl_heard.proofs.GivenBlocks.{Given}
+use Rattle.wl_heard.proofs.LastBlocks.{Given}
 use Rattle.wl_heard.proofs.HeaderFrames.{BodyFits, FrameFits, GivenBy, frames_fit, block_read}
 use Rattle.wl_heard.proofs.RefusalStatuses.{status_is, head_is, http_is}
 

@@ -20,6 +20,7 @@ use Rattle.h2_conn.proofs.WindowSums.{sound_pull}
 use Rattle.h2_conn.specs.Conns.{flush_of, after_frame_fault, after_pull, ends_reset_count, answer_ends, answers_end}
 use Rattle.h2_conn.specs.Streams.{is_remote_closed, with_local_closed}
 use Rattle.h2_conn.specs.Peer.{without_live_stream}
+use Rattle.h2_conn.proofs.Walk.{at_cond}
 use Rattle.grpc_conn.specs.declared.standing.Call.{Call}
 use Rattle.wl_snapshot.specs.Snapshots.{Publication}
 use Rattle.wl_session.specs.declared.asks.JwtOutcome.{JwtOutcome}
@@ -48,15 +49,15 @@ use Rattle.wl_heard.specs.Clients.{messages_told, whole_messages, HasHeardAll, I
 use Rattle.wl_heard.specs.Calls.{ComesOfOneCall, MakesOneCall, IsSaidOfCall, FailsAsSaid, CallsAreHeard}
 use Rattle.wl_heard.proofs.FramesInBytes.{control_is_read, data_both, sents_data, step_data, written_data}
 use Rattle.wl_heard.proofs.ClientMessages.{told_both, Knows, IfKnows, frames_go, fresh_knows, clients_hear_sessions}
-use Rattle.wl_heard.proofs.Found.{Holds, holds_none, found_all, nothing_read}
-use Rattle.wl_heard.proofs.Clean.{IsMildBody, IsMild, CleanState}
-use Rattle.wl_heard.proofs.Neat.{NeatState, Neat, unwritten_neat}
-use Rattle.wl_heard.proofs.Opens.{IsFirst}
+use Rattle.wl_heard.proofs.WholeFrames.{Holds, holds_none, found_all, nothing_read}
+use Rattle.wl_heard.proofs.ResetStreams.{IsMildBody, IsMild, CleanState}
+use Rattle.wl_heard.proofs.MildQueues.{NeatState, Neat, unwritten_neat}
+use Rattle.wl_heard.proofs.FirstStream.{IsFirst}
 use Rattle.wl_client.proofs.Hearings.{heard_two, then_ok, then_err}
-use Rattle.wl_heard.proofs.ConnectionFacts.{l_turns, l_names, l_gives}
+use Rattle.wl_session.proofs.PhaseWalk.{l_turns, l_names, l_gives}
 use Rattle.wl_heard.proofs.Marks.{Mark, Bare, Headed, Closing, Alone, At, Kept, Lands, Ready, kept_weaker, lands_kept, lands_weaker, lands_none, lands_first, lands_one, lands_both}
 use Rattle.wl_heard.proofs.Turns.{Only, next_mark, IsSilent, pull_heard, over_parts}
-use Rattle.wl_heard.proofs.Given.{OnlyOf, OnlyOn, pulled_only, FirstOn, first_lasts, CameHere, came_lasts, flush_last}
+use Rattle.wl_heard.proofs.OnlyStream.{OnlyOf, OnlyOn, pulled_only, FirstOn, first_lasts, CameHere, came_lasts, flush_last}
 use Rattle.wl_heard.proofs.OneCall.{StageAt, Owned, Before, turns_owned, names_owned, gives_owned}
 use Rattle.wl_heard.proofs.PeerFrames.{CallsAt, IsNone, none_any, Unborn, Told, after_told, break_told}
 
@@ -179,13 +180,9 @@ next_calls Alone (k ∷ l ∷ ks) cs h = absurd h
 
 -- ---- what is left of a connection
 
-control_if : (P : List ℕ → Type 0) (b : Bool) (x y : State) → P x.outbox.control → P y.outbox.control → P (cond b x y).outbox.control
-control_if P true x y h k = h
-control_if P false x y h k = k
-
 one_answer : (P : List ℕ → Type 0) (n : ℕ) (q : State) → P q.outbox.control → P (answer_ends n q).outbox.control
 unfolding answer_ends without_live_stream without_stream
-one_answer P n q h = control_if P (is_remote_closed n q.streams) (without_live_stream n q) (record q { streams = with_local_closed n q.streams }) h h
+one_answer P n q h = at_cond (λ (x : State). P x.outbox.control) (is_remote_closed n q.streams) (without_live_stream n q) (record q { streams = with_local_closed n q.streams }) h h
 
 left_control : (P : List ℕ → Type 0) (ns : List ℕ) (q : State) → P q.outbox.control → P (answers_end ns q).outbox.control
 left_control P [] q h = h

@@ -32,8 +32,8 @@ use Rattle.wl_client.specs.declared.listener.Stage as client
 use Rattle.wl_client.specs.Openings.{call_stream}
 use Rattle.wl_heard.proofs.Lists.{late_identity, late_length, late_service}
 use Rattle.wl_heard.proofs.Marks.{Mark, Bare, Headed, Closing, At}
-use Rattle.wl_heard.proofs.ConnectionFacts.{l_refusal, l_message, l_last}
-use Rattle.wl_heard.proofs.Given.{OnlyOn, sound_lasts, mark_if, mark_end, LateIf, silence_only, refusal_only, message_only, last_only}
+use Rattle.wl_session.proofs.PhaseWalk.{l_refusal, l_message, l_last}
+use Rattle.wl_heard.proofs.OnlyStream.{OnlyOn, sound_lasts, mark_if, mark_end, LateIf, silence_only, refusal_only, message_only, last_only}
 
 -- ---- how a call stands
 

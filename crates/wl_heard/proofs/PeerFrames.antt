@@ -34,9 +34,9 @@ use Rattle.wl_client.specs.declared.listener.Stage.TheVariants.{Opening}
 use Rattle.wl_client.specs.Openings.{call_stream}
 use Rattle.wl_heard.specs.Calls.{IsOfOneCall}
 use Rattle.wl_heard.proofs.Marks.{Mark, Bare, Headed, Closing, Alone, At}
-use Rattle.wl_heard.proofs.Opens.{IsFirst, frame_opens}
-use Rattle.wl_heard.proofs.Given.{OnlyOf, OnlyOn, sound_lasts, refusal_only, reset_only, FirstOn, first_lasts, CameHere, came_lasts}
-use Rattle.wl_heard.proofs.ConnectionFacts.{l_refusal}
+use Rattle.wl_heard.proofs.FirstStream.{IsFirst, frame_opens}
+use Rattle.wl_heard.proofs.OnlyStream.{OnlyOf, OnlyOn, sound_lasts, refusal_only, reset_only, FirstOn, first_lasts, CameHere, came_lasts}
+use Rattle.wl_session.proofs.PhaseWalk.{l_refusal}
 use Rattle.wl_heard.proofs.OneCall.{KeptAt}
 
 -- ---- what is known of a talk

@@ -1,5 +1,5 @@
 -- Each frame that a pull writes has a stream of 31 bits and at most 16,384 bytes.
-use Rattle.std.proofs.Common.{ℕ, zero, suc, ◌+◌, ◌<◌, ◌≤◌, ◌^◌, ◌==◌, min, nat_lt, Bool, true, false, cond, List, [], ◌∷◌, ◌++◌, length, drop, Option, Some, None, arith, length-append, length-take}
+use Rattle.std.proofs.Common.{ℕ, zero, suc, ◌+◌, ◌<◌, ◌≤◌, ◌^◌, ◌==◌, min, nat_lt, Bool, true, false, List, [], ◌∷◌, ◌++◌, length, drop, Option, Some, None, arith, length-append, length-take}
 use Rattle.std.specs.List.{AllByRecursion}
 use Rattle.list_laws.proofs.Elements.{all_append}
 use Rattle.h2_flow.specs.declared.flow.Flow.{Flow}
@@ -10,7 +10,8 @@ use Rattle.h2_flow.specs.Windows.{allowed_of, room_of, window_of}
 use Rattle.h2_flow.specs.Streams.{Turn, no_turn, size_update_bytes, headers_turn, data_turn, last_turn, next_turn, body_turn, head_turn, turn}
 use Rattle.h2_flow.specs.Pulls.{Round, round, rounds, all_work, all_rounds}
 use Rattle.h2_flow.specs.Outboxes.{Out, pull_of}
-use Rattle.wl_heard.proofs.Found.{IsShortSent}
+use Rattle.h2_conn.proofs.Walk.{at_cond}
+use Rattle.wl_heard.proofs.WholeFrames.{IsShortSent}
 
 -- a block to which a size update of one byte may be put
 abbrev pub IsShort : Option (List ℕ) → Type 0
@@ -46,17 +47,13 @@ w_headers f s block ended h short =
 allowed_short : (c r left : ℕ) → min (min c (min 16384 r)) left ≤ 16384
 allowed_short c r left = omega arith
 
-w_if : (b : Bool) (x y : Turn) → Wrote x → Wrote y → Wrote (cond b x y)
-w_if true x y h k = h
-w_if false x y h k = k
-
 w_data : (f : Flow) (s : Stream) → IsSmall s → Wrote (data_turn f s)
 unfolding data_turn
 w_data f s h =
     let left = drop s.sent s.last in
     let n = allowed_of f s.credit (length left) in
     let most : n ≤ 16384 = allowed_short f.connection_window (room_of (window_of f.initial_window_size s.credit)) (length left) in
-    w_if (n == 0) (no_turn f s) _ (silent f s h) (record { sent = ((h.0, simp length-take (omega arith)), tt); stream = h })
+    at_cond Wrote (n == 0) (no_turn f s) _ (silent f s h) (record { sent = ((h.0, simp length-take (omega arith)), tt); stream = h })
 
 w_last : (f : Flow) (s : Stream) (t : Option (List ℕ)) → IsSmall s → IsShort t → Wrote (last_turn f s t)
 unfolding last_turn
@@ -66,11 +63,11 @@ w_last f s (Some block) h short = w_headers f (record s { trailers = None }) blo
 w_next : (f : Flow) (s : Stream) (w : Option (List ℕ)) → IsSmall s → Wrote (next_turn f s w)
 unfolding next_turn
 w_next f s None h = w_last f s s.trailers h h.1.1
-w_next f s (Some message) h = w_if (allowed_of f s.credit (length message) == 0) (no_turn f s) _ (silent f s h) (w_data (record f { begun = f.begun + 1 }) (record s { last = message; sent = 0; waiting = None }) h)
+w_next f s (Some message) h = at_cond Wrote (allowed_of f s.credit (length message) == 0) (no_turn f s) _ (silent f s h) (w_data (record f { begun = f.begun + 1 }) (record s { last = message; sent = 0; waiting = None }) h)
 
 w_body : (f : Flow) (s : Stream) → IsSmall s → Wrote (body_turn f s)
 unfolding body_turn
-w_body f s h = w_if (nat_lt s.sent (length s.last)) (data_turn f s) (next_turn f s s.waiting) (w_data f s h) (w_next f s s.waiting h)
+w_body f s h = at_cond Wrote (nat_lt s.sent (length s.last)) (data_turn f s) (next_turn f s s.waiting) (w_data f s h) (w_next f s s.waiting h)
 
 w_head : (f : Flow) (s : Stream) (b : Option (List ℕ)) → IsSmall s → IsShort b → Wrote (head_turn f s b)
 w_head f s None h short = w_body f s h
@@ -94,10 +91,6 @@ w_round f (s ∷ ss) h =
     let rest = w_round t.flow ss h.1 in
     record { sent = all_append IsShortSent t.sent (round t.flow ss).sent one.sent rest.sent; streams = (one.stream, rest.streams) }
 
-w_both : (b : Bool) (x y : Round) → WroteAll x → WroteAll y → WroteAll (cond b x y)
-w_both true x y h k = h
-w_both false x y h k = k
-
 w_rounds : (k : ℕ) (f : Flow) (ss : List Stream) → AllByRecursion IsSmall ss → WroteAll (rounds k f ss)
 unfolding rounds
 w_rounds zero f ss h = record { sent = tt; streams = h }
@@ -105,7 +98,7 @@ w_rounds (suc k) f ss h =
     let r = round f ss in
     let one = w_round f ss h in
     let rest = w_rounds k r.flow r.streams one.streams in
-    w_both (length r.sent == 0) r (record { sent = r.sent ++ (rounds k r.flow r.streams).sent; flow = (rounds k r.flow r.streams).flow; streams = (rounds k r.flow r.streams).streams }) one
+    at_cond WroteAll (length r.sent == 0) r (record { sent = r.sent ++ (rounds k r.flow r.streams).sent; flow = (rounds k r.flow r.streams).flow; streams = (rounds k r.flow r.streams).streams }) one
     (record { sent = all_append IsShortSent r.sent (rounds k r.flow r.streams).sent one.sent rest.sent; streams = rest.streams })
 
 pub pull_sent : (o : Out) → AllByRecursion IsSmall o.streams → AllByRecursion IsShortSent (pull_of o).sent

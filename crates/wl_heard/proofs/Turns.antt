@@ -12,6 +12,7 @@ use Rattle.h2_flow.specs.Streams.{Sent, headers, content, Turn, no_turn, size_up
 use Rattle.h2_flow.specs.Pulls.{Round, round, rounds, all_work, all_rounds}
 use Rattle.h2_flow.specs.Outboxes.{Out, pull_of}
 use Rattle.h2_flow.proofs.Numbers.{number_turn}
+use Rattle.h2_conn.proofs.Walk.{at_cond}
 use Rattle.grpc_wire.specs.Messages.{End, Rest, Fault, reading_from}
 use Rattle.wl_client.specs.declared.reply.Heard.{Heard}
 use Rattle.wl_client.specs.declared.reply.Heard.TheVariants.{Message}
@@ -71,10 +72,6 @@ module _ (E : Type 0) where
   idle_lands : (R : Listener → Stream → Type 0) (f : Flow) (s : Stream) (l : Listener) → R l s → TurnLands R l (no_turn f s)
   idle_lands R f s l h = lands_none E (λ k. R k s) l h
 
-  turn_if : (R : Listener → Stream → Type 0) (l : Listener) (b : Bool) (x y : Turn) → TurnLands R l x → TurnLands R l y → TurnLands R l (cond b x y)
-  turn_if R l true x y h k = h
-  turn_if R l false x y h k = k
-
   own_lands : (P : Listener → Type 0) (n : ℕ) (frame : ℕ → Frame) (l : Listener) → n ≡ call_stream → Lands E P (frame_heard (frame call_stream) l).after → Lands E P (frames_heard (frame n ∷ []) l).after
   own_lands P n frame l own h = subst (λ (m : ℕ). Lands E P (frames_heard (frame m ∷ []) l).after) (sym own) (lands_one E P (frame call_stream) l h)
 
@@ -89,7 +86,7 @@ module _ (E : Type 0) where
       let n = allowed_of f s.credit (length left) in
       let t : Stream = record s { sent = s.sent + n; credit = s.credit -ℤ pos n; written = true } in
       let q : P t = more (s.sent + n) (s.credit -ℤ pos n) in
-      turn_if (Answers P) l (n == 0) (no_turn f s) _ (idle_lands (Answers P) f s l (r, h))
+      at_cond (TurnLands (Answers P) l) (n == 0) (no_turn f s) _ (idle_lands (Answers P) f s l (r, h))
       (own_lands (λ k. Answers P k t) s.number (λ m. frame_of (content m (take n left))) l own (lands_weaker E (ReadyAt Answering) (λ k. Answers P k t) (λ k a. (a, q)) _ (data_taken (take n left) l r)))
 
   headers_lands : (R : Listener → Stream → Type 0) (f : Flow) (s : Stream) (block : List ℕ) (ended : Bool) (l : Listener) → s.number ≡ call_stream
@@ -158,12 +155,12 @@ module _ (E : Type 0) where
   unfolding next_turn
   goes_next f s None l own r h = goes_last f s s.trailers l h.1 r h
   goes_next f s (Some message) l own r h =
-      turn_if (Answers Goes) l (allowed_of f s.credit (length message) == 0) (no_turn f s) _ (idle_lands (Answers Goes) f s l (r, h))
+      at_cond (TurnLands (Answers Goes) l) (allowed_of f s.credit (length message) == 0) (no_turn f s) _ (idle_lands (Answers Goes) f s l (r, h))
       (data_lands Goes (record f { begun = f.begun + 1 }) (record s { last = message; sent = 0; waiting = None }) l own r h (λ n c. h))
 
   goes_body : (f : Flow) (s : Stream) (l : Listener) → s.number ≡ call_stream → ReadyAt Answering l → Goes s → TurnLands (Answers Goes) l (body_turn f s)
   unfolding body_turn
-  goes_body f s l own r h = turn_if (Answers Goes) l (nat_lt s.sent (length s.last)) (data_turn f s) (next_turn f s s.waiting) (data_lands Goes f s l own r h (λ n c. h)) (goes_next f s s.waiting l own r h)
+  goes_body f s l own r h = at_cond (TurnLands (Answers Goes) l) (nat_lt s.sent (length s.last)) (data_turn f s) (next_turn f s s.waiting) (data_lands Goes f s l own r h (λ n c. h)) (goes_next f s s.waiting l own r h)
 
   headed_head : (f : Flow) (s : Stream) (h : Option (List ℕ)) (g : Stage) (l : Listener) → s.number ≡ call_stream → ReadyAt g l → h ≡ s.head → HeadAt g h → s.trailers ≡ None → s.finished ≡ false → TurnLands (Sits Headed) l (head_turn f s h)
   headed_head f s None Opening l own r is at none more = absurd at
@@ -195,7 +192,7 @@ module _ (E : Type 0) where
   unfolding next_turn
   ending_next f s None l own r h is all = ending_last f s s.trailers l own r h.1 (h.0, sym is, refl, all, h.2)
   ending_next f s (Some message) l own r h is all =
-      turn_if (Sits Closing) l (allowed_of f s.credit (length message) == 0) (no_turn f s) _ (idle_lands (Sits Closing) f s l (ending_sits l s (r, h)))
+      at_cond (TurnLands (Sits Closing) l) (allowed_of f s.credit (length message) == 0) (no_turn f s) _ (idle_lands (Sits Closing) f s l (ending_sits l s (r, h)))
       (turn_weaker (Answers Ending) (Sits Closing) ending_sits l (data_turn (record f { begun = f.begun + 1 }) (record s { last = message; sent = 0; waiting = None }))
       (data_lands Ending (record f { begun = f.begun + 1 }) (record s { last = message; sent = 0; waiting = None }) l own r h (λ n c. h)))
 

@@ -7,6 +7,7 @@ use Rattle.grpc_conn.specs.declared.event.CallEvent.{CallEvent}
 use Rattle.grpc_conn.specs.declared.event.CallEvent.TheVariants as events
 use Rattle.grpc_conn.specs.declared.standing.Call.{Call}
 use Rattle.grpc_conn.specs.Calls.{standing_at, without}
+use Rattle.grpc_conn.proofs.Places.{removed_there}
 use Rattle.wl_session.specs.declared.served.Stage.TheVariants.{Unnamed}
 use Rattle.wl_session.specs.declared.served.ServedCall.{ServedCall}
 use Rattle.wl_session.specs.Kinds.{kind_of}
@@ -15,7 +16,8 @@ use Rattle.wl_session.specs.Talks.{Talking, with_served, after_event}
 use Rattle.wl_session.specs.Completing.{CameOn}
 use Rattle.wl_responses.specs.Replies.{AnsweringTurn, Replies, no_replies}
 use Rattle.wl_session.proofs.Streams.{Stands, stands_itself, reset_stands, refusal_stands}
-use Rattle.wl_session.proofs.PeerAnswers.{none_without, gone_without, served_all}
+use Rattle.wl_session.proofs.CallWalk.{served_all}
+use Rattle.wl_session.proofs.PeerAnswers.{none_without}
 use Rattle.wl_responses.specs.Statuses.{OnPhase, IsUnfinished}
 use Rattle.wl_responses.proofs.OutboxStreams.{reset_on}
 use Rattle.wl_responses.proofs.StreamFlushes.{Matches}
@@ -135,12 +137,12 @@ unfolding after_event
 event_own n events.Nothing turn r t u came h = record { serves = h; decided = inr u; age = inl came }
 event_own n events.Malformed turn r t u came h = record {
   serves = record { sound = (reset_stands n 1 t.phase).sound h.sound; one = h.one; fits = h.fits; unfinished = inl u.1; there = reset_on n n 1 (Matches turn r) t.phase h.there };
-  decided = inl (gone_without n t.calls);
+  decided = inl (removed_there n t.calls);
   age = inl ((reset_stands n 1 t.phase).came n came);
 }
 event_own n (events.Refuse why) turn r t u came h = record {
   serves = record { sound = (refusal_stands n false why t.phase).sound h.sound; one = h.one; fits = h.fits; unfinished = inl u.1; there = refusal_here n false why turn turn r t.phase h.sound u.2 h.there };
-  decided = inl (gone_without n t.calls);
+  decided = inl (removed_there n t.calls);
   age = inl ((refusal_stands n false why t.phase).came n came);
 }
 event_own n (events.Ready method message request) turn r t u came h =
@@ -153,6 +155,6 @@ event_own n (events.Ready method message request) turn r t u came h =
         unfinished = inr u.2;
         there = h.there;
       };
-      decided = inl (gone_without n t.calls);
+      decided = inl (removed_there n t.calls);
       age = inl came;
     }

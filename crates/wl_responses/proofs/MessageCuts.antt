@@ -4,9 +4,10 @@ use Rattle.std.specs.List.{AllByRecursion, flat_map}
 use Rattle.std.proofs.lemmas.Grind.{flat_map-append}
 use Rattle.list_laws.proofs.Elements.{all_append}
 use Rattle.grpc_wire.specs.Messages.{framed, prefix_of, first_message, partial, End, Rest, Fault, Reading, messages_of, reading_from, read_on, IsOpen}
-use Rattle.grpc_wire.proofs.Cuts.{messages_step, messages_end, reads_on}
+use Rattle.grpc_wire.proofs.Cuts.{messages_step, messages_end}
 use Rattle.grpc_wire.proofs.MessageFrames.{read_again}
 use Rattle.workload_proto.specs.declared.limits.TheConstants.{MAX_RESPONSE_LEN}
+use Rattle.grpc_wire.proofs.Pieces.{from_start}
 use Rattle.wl_responses.proofs.Sizes.{answer_is_short}
 use Rattle.wl_responses.specs.Replies.{Response, Replies}
 use Rattle.wl_responses.specs.Responses.{IsAnswer, all_bytes, AreMessages, IsCut}
@@ -47,10 +48,6 @@ all_cut limit (m ∷ ms) small short =
     let first = read_again limit m (flat_map framed ms) (omega (arith, small, short.0)) short.0 in
     rw (messages_step limit (framed m ++ flat_map framed ms), first, all_cut limit ms small short.1) refl
 
-reads_more : (limit : ℕ) (bytes more : List ℕ) → messages_of limit (bytes ++ more) ≡ read_on limit (messages_of limit bytes) more
-unfolding reading_from
-reads_more limit bytes more = reads_on limit (Rest []) bytes more
-
 stays_open : (limit : ℕ) (e : End) (more : List ℕ) → (reading_from limit e more).ending ≡ Rest [] → IsOpen e
 unfolding reading_from
 stays_open limit (Rest rest) more is = tt
@@ -62,7 +59,7 @@ responses_cut r bytes answers =
     let all = have r.begun answers in
     let w = messages_of limit r.written in
     let whole : record { messages = all.messages; ending = Rest [] } ≡ read_on limit w r.left =
-    sym (all_cut limit all.messages (omega arith) all.short) ∙ (ap (messages_of limit) (sym (bytes ∙ all.bytes)) ∙ reads_more limit r.written r.left) in
+    sym (all_cut limit all.messages (omega arith) all.short) ∙ (ap (messages_of limit) (sym (bytes ∙ all.bytes)) ∙ from_start limit r.written r.left) in
     record {
       messages = all.messages;
       are = all.are;

@@ -20,7 +20,8 @@ use Rattle.h2_conn.specs.Streams.{is_live, is_remote_closed, with_local_closed}
 use Rattle.h2_conn.specs.Peer.{with_control_frame, without_live_stream}
 use Rattle.h2_conn.specs.Conns.{takes, with_head_on, with_trailers_on, with_message_on, without_waiting_on, after_reset, on_open, answer_ends, answers_end}
 use Rattle.h2_conn.specs.Sound.{Sound, SoundPhase}
-use Rattle.h2_conn.proofs.Sounds.{there_is, at_cond}
+use Rattle.h2_conn.proofs.Walk.{at_cond}
+use Rattle.h2_conn.proofs.Sounds.{there_is}
 use Rattle.wl_responses.specs.Statuses.{On, OnPhase, IsUnfinished}
 
 -- ---- the streams of a number
@@ -259,17 +260,13 @@ unfolding round
 finished_round n f [] h = tt
 finished_round n f (s ∷ ss) h = ((λ e. finished_turn f s ∙ h.0 (sym (number_turn f s) ∙ e)), finished_round n (turn f s).flow ss h.1)
 
-either_round : (P : List Stream → Type 0) (b : Bool) (x y : Round) → P x.streams → P y.streams → P (cond b x y).streams
-either_round P true x y h k = h
-either_round P false x y h k = k
-
 finished_rounds : (n k : ℕ) (f : Flow) (ss : List Stream) → On n IsUnfinished ss → On n IsUnfinished (rounds k f ss).streams
 unfolding rounds
 finished_rounds n zero f ss h = h
 finished_rounds n (suc k) f ss h =
     let r = round f ss in
     let one = finished_round n f ss h in
-    either_round (On n IsUnfinished) (length r.sent == 0) r _ one (finished_rounds n k r.flow r.streams one)
+    at_cond (λ (x : Round). On n IsUnfinished x.streams) (length r.sent == 0) r _ one (finished_rounds n k r.flow r.streams one)
 
 pub unfinished_pull : (n : ℕ) (o : Out) → On n IsUnfinished o.streams → On n IsUnfinished (pull_of o).left.streams
 unfolding pull_of all_rounds

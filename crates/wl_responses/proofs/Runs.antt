@@ -1,8 +1,8 @@
 -- Each session of a run has its moves, and its turns read the publications of the run in their order.
-use Rattle.std.proofs.Common.{◌≡◌, ◌≢◌, inl, inr, ℕ, zero, suc, ◌+◌, ◌≤◌, ◌<◌, ◌==◌, Bool, true, false, if◌then◌else◌, List, [], ◌∷◌, ◌++◌, length, Option, Some, None, Result, Ok, Err, slice_set, refl, sym, ap, subst, ◌∙◌, arith}
+use Rattle.std.proofs.Common.{◌≡◌, inl, inr, ℕ, zero, suc, ◌+◌, ◌≤◌, ◌<◌, ◌==◌, Bool, true, false, if◌then◌else◌, List, [], ◌∷◌, ◌++◌, length, Option, Some, None, Result, Ok, Err, slice_set, refl, sym, ap, subst, ◌∙◌, arith}
 use Rattle.std.specs.List.{AllByRecursion}
-use Rattle.std.proofs.lemmas.List.{length-replicate, get_or-set_same, get_or-set_other}
-use Rattle.std.proofs.lemmas.Bool.Decides.{nat_tests}
+use Rattle.std.proofs.lemmas.List.{get_or-set_same, get_or-set_other}
+use Rattle.std.proofs.lemmas.Bool.{eqb-true}
 use Rattle.h2_frame.specs.declared.frame.Frame.{Frame}
 use Rattle.h2_frame.specs.Reading.{End, Opening, Rest, Fault, reading_from}
 use Rattle.h2_conn.specs.declared.fault.ConnFault.{ConnFault}
@@ -24,7 +24,7 @@ use Rattle.wl_core.specs.declared.seats.Seat.{Seat}
 use Rattle.wl_core.specs.Seats.{seat_at, joined_seat, named_seat, told_seat, feed_seat, turn_seat}
 use Rattle.wl_core.specs.Tokens.{tokens_of}
 use Rattle.wl_core.specs.Moments.{Beginning, Moment, moment, moment_after, reading_of, after_reading, signed_with, failed_with, flight_in, token_seat, publication, seat}
-use Rattle.wl_core.proofs.Readiness.{room_after}
+use Rattle.wl_core.proofs.SessionTraces.{room, other_conn}
 use Rattle.wl_responses.specs.Steps.{Step, FrameCame, BytesBroke, CallAttested, TurnTaken, OutcomeCame}
 use Rattle.wl_responses.specs.Replies.{AnsweringTurn, Response}
 use Rattle.wl_responses.specs.Responses.{NoneAbove, NeverFall, WasTaken, IfTurn, AllTurns}
@@ -46,16 +46,10 @@ seat_step (events.Turn k) conn m o = if k == conn then told_seat (turn_seat m.st
 seat_step (events.Token k now given) conn m o = if k == conn then told_seat (token_seat (tokens_of m.stored m.history) now given) o else o
 seat_step (events.Close k) conn m o = if k == conn then None else o
 
-pub same_conn : (k conn : ℕ) → (k == conn) ≡ true → k ≡ conn
-same_conn k conn is = grind (arith, nat_tests, is)
-
-other_conn : (k conn : ℕ) → (k == conn) ≡ false → conn ≢ k
-other_conn k conn is = grind (arith, nat_tests, is)
-
 set_go : (seats : List (Option Seat)) (k conn : ℕ) (f : Option Seat → Option Seat) (b : Bool) → (k == conn) ≡ b → conn < length seats
     → seat_at (slice_set seats k (f (seat_at seats k))) conn ≡ (if b then f (seat_at seats conn) else seat_at seats conn)
 set_go seats k conn f true is within =
-    ap (λ (n : ℕ). seat_at (slice_set seats n (f (seat_at seats n))) conn) (same_conn k conn is) ∙ get_or-set_same seats conn (f (seat_at seats conn)) None within
+    ap (λ (n : ℕ). seat_at (slice_set seats n (f (seat_at seats n))) conn) (eqb-true k conn is) ∙ get_or-set_same seats conn (f (seat_at seats conn)) None within
 set_go seats k conn f false is within = get_or-set_other seats k conn (f (seat_at seats k)) None (other_conn k conn is)
 
 seat_after : (e : Event) (conn : ℕ) (m : Moment) → conn < length m.seats → seat_at (moment_after e m).seats conn ≡ seat_step e conn m (seat_at m.seats conn)
@@ -70,10 +64,6 @@ seat_after (events.Feed k piece) conn m within = set_go m.seats k conn (told_sea
 seat_after (events.Turn k) conn m within = set_go m.seats k conn (told_seat (turn_seat m.stored.published)) (k == conn) refl within
 seat_after (events.Token k now given) conn m within = set_go m.seats k conn (told_seat (token_seat (tokens_of m.stored m.history) now given)) (k == conn) refl within
 seat_after (events.Close k) conn m within = set_go m.seats k conn (λ o. None) (k == conn) refl within
-
-pub room : (d : Beginning) (past : List Event) → length (moment d past).seats ≡ CONNS
-room d [] = let none : Option Seat = None in length-replicate CONNS none
-room d (e ∷ past) = room_after e (moment d past) ∙ room d past
 
 pub seat_next : (d : Beginning) (e : Event) (past : List Event) (conn : ℕ) → conn < CONNS → seat d (e ∷ past) conn ≡ seat_step e conn (moment d past) (seat d past conn)
 seat_next d e past conn within = seat_after e conn (moment d past) (subst (λ (n : ℕ). conn < n) (sym (room d past)) within)

@@ -1,14 +1,14 @@
 -- What a flush writes on a stream is of the responses that began there.
-use Rattle.std.proofs.Common.{◌≡◌, inl, inr, ℕ, ◌-◌, ◌<◌, nat_lt, bytes_eq, Bool, true, false, cond, List, [], ◌++◌, length, drop, Option, Some, None, refl, sym, ap, subst, ◌∙◌, arith, append-nil, append_assoc, length-append}
+use Rattle.std.proofs.Common.{◌≡◌, inl, inr, ℕ, ◌-◌, bytes_eq, Bool, true, false, cond, List, [], ◌++◌, length, drop, Option, Some, None, refl, sym, ap, subst, ◌∙◌, arith, append-nil, append_assoc, length-append}
 use Rattle.std.specs.Cmp.Lexicographic.{bytes_decides}
 use Rattle.std.specs.List.{AllByRecursion}
-use Rattle.std.proofs.lemmas.Bool.{le-ltb, lt-ltb}
 use Rattle.std.proofs.Math.Seq.{drop-append_seam}
 use Rattle.h2_flow.specs.declared.stream.Stream.{Stream}
 use Rattle.h2_flow.specs.Outboxes.{pull_of, with_offer}
 use Rattle.h2_flow.specs.Progress.{all_data_on, find_stream, left_of}
 use Rattle.h2_flow.proofs.Messages.{Stays, Begins, GoesOn, goes_pull}
 use Rattle.h2_flow.proofs.Numbers.{numbers_pulled}
+use Rattle.h2_flow.proofs.Progress.{more, not_more}
 use Rattle.h2_conn.specs.declared.phase.Phase.{Phase}
 use Rattle.h2_conn.specs.declared.phase.Phase.TheVariants.{Open, Failed, OutOfMemory}
 use Rattle.h2_conn.specs.Conns.{ends_reset_count, after_pull, flush_of}
@@ -50,12 +50,6 @@ pub silenced : (old new : Option AnsweringTurn) (r : Replies) (s : Stream) → M
 silenced old new r s h = (h.0, h.1, tt)
 
 -- ---- a pull
-
-not_more : (l d r : List ℕ) → d ++ r ≡ l → nat_lt (length l) (length d) ≡ false
-not_more l d r e = le-ltb (length l) (length d) (omega (arith, sym (ap length e), length-append d r))
-
-more : (l b d : List ℕ) → 0 < length b → d ≡ l ++ b → nat_lt (length l) (length d) ≡ true
-more l b d some e = lt-ltb (length l) (length d) (omega (arith, some, ap length e, length-append l b))
 
 -- the replies after a pull, and what the stream is then
 record After (turn : Option AnsweringTurn) (r : Replies) (b : Option Stream) : Type 0 where

@@ -1,5 +1,6 @@
 -- Two runs: what is kept stays alike, and the sessions are attested as the same.
 use Rattle.std.proofs.Common.{◌≡◌, ℕ, ◌==◌, Bool, true, false, if◌then◌else◌, List, [], ◌∷◌, Option, Some, None, Result, Ok, Err, refl, sym, ap, subst, ◌∙◌}
+use Rattle.std.proofs.lemmas.Bool.{eqb-true}
 use Rattle.std.specs.Prelude.{find}
 use Rattle.wl_entry.specs.declared.entries.Entry.{Entry}
 use Rattle.wl_entry.specs.declared.signing.Signed.{Signed}
@@ -17,7 +18,6 @@ use Rattle.wl_secrets.specs.Sides.{Attested, joined_as, named_as, attested_after
 use Rattle.wl_secrets.specs.Foreign.{IsAsFit, Fits}
 use Rattle.wl_secrets.proofs.HiddenStores.{hidden, shade, entries_alike, claim_alike, signed_alike, install_alike, ticket_alike}
 use Rattle.wl_secrets.proofs.ViewModels.{shown_after, shown_failed, domain_after, AreAlike, published_alike}
-use Rattle.wl_responses.proofs.Runs.{same_conn}
 use Rattle.wl_secrets.proofs.Known.{side_before}
 
 -- ---- the store
@@ -125,7 +125,7 @@ pub skipped : (out : ℕ → Bool) (k conn : ℕ) → out k ≡ true → out con
 skipped out k conn there here = go (k == conn) refl
   where
     go : (b : Bool) → (k == conn) ≡ b → b ≡ false
-    go true is = absurd (cc (sym there ∙ (ap out (same_conn k conn is) ∙ here)))
+    go true is = absurd (cc (sym there ∙ (ap out (eqb-true k conn is) ∙ here)))
     go false is = refl
 
 pub skip : {X : Type 0} (out : ℕ → Bool) (k conn : ℕ) (x y : X) → out k ≡ true → out conn ≡ false → (if k == conn then x else y) ≡ y

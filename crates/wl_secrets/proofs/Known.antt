@@ -2,6 +2,7 @@
 use Rattle.std.proofs.Common.{◌≡◌, ℕ, ◌==◌, ◌<◌, ◌⊎◌, inl, inr, Bool, true, false, if◌then◌else◌, List, [], ◌∷◌, Option, Some, None, refl, sym, subst}
 use Rattle.std.specs.List.{AllByRecursion}
 use Rattle.std.proofs.lemmas.List.{get_or-replicate}
+use Rattle.h2_conn.proofs.Walk.{at_cond}
 use Rattle.wl_entry.specs.Entitled.{is_entitled}
 use Rattle.wl_entry.specs.declared.entries.Entry.{Entry}
 use Rattle.wl_entry.specs.declared.tokens.JwtToken.{JwtToken}
@@ -80,10 +81,6 @@ answer_on : (on : Bounds) (h : KeptTokens) (now : ℕ) (given : Option JwtToken)
 answer_on on h now given s None is = is
 answer_on on h now given s (Some a) is = outcome_on on (outcome_of (kept_token h a now) given now) s.session is
 
-one_of : {X : Type 0} (P : X → Type 0) (b : Bool) (x y : X) → P x → P y → P (if b then x else y)
-one_of P true x y one two = one
-one_of P false x y one two = two
-
 pair_of : {X Y : Type 0} (P : X → Y → Type 0) (b : Bool) (x z : X) (y w : Y) → P x y → P z w → P (if b then x else z) (if b then y else w)
 pair_of P true x z y w one two = one
 pair_of P false x z y w one two = two
@@ -97,11 +94,11 @@ known_step ids (events.Failed ticket) conn m o a covers is = is
 known_step ids (events.Join k selectors) conn m o a covers is = pair_of (Known ids) (k == conn) (joined_seat selectors o) o (joined_as selectors a) a (join_known ids selectors o a is) is
 known_step ids (events.Name k caller) conn m o a covers is = pair_of (Known ids) (k == conn) (named_seat caller o) o (named_as caller a) a (name_known ids caller o a is) is
 known_step ids (events.Feed k piece) conn m o a covers is =
-    one_of (λ (q : Option Seat). Known ids q a) (k == conn) (told_seat (feed_seat piece) o) o (told_known ids (feed_seat piece) (λ on s by on_s. feed_on on piece s.caller s.session by on_s) o a is) is
+    at_cond (λ (q : Option Seat). Known ids q a) (k == conn) (told_seat (feed_seat piece) o) o (told_known ids (feed_seat piece) (λ on s by on_s. feed_on on piece s.caller s.session by on_s) o a is) is
 known_step ids (events.Turn k) conn m o a covers is =
-    one_of (λ (q : Option Seat). Known ids q a) (k == conn) (told_seat (turn_seat m.stored.published) o) o (turn_known ids m.stored.published o a covers is) is
+    at_cond (λ (q : Option Seat). Known ids q a) (k == conn) (told_seat (turn_seat m.stored.published) o) o (turn_known ids m.stored.published o a covers is) is
 known_step ids (events.Token k now given) conn m o a covers is =
-    one_of (λ (q : Option Seat). Known ids q a) (k == conn) (told_seat (token_seat (tokens_of m.stored m.history) now given) o) o
+    at_cond (λ (q : Option Seat). Known ids q a) (k == conn) (told_seat (token_seat (tokens_of m.stored m.history) now given) o) o
     (told_known ids (token_seat (tokens_of m.stored m.history) now given) (λ on s by on_s. answer_on on (tokens_of m.stored m.history) now given s (asks_in s.session) on_s) o a is) is
 known_step ids (events.Close k) conn m o a covers is = pair_of (Known ids) (k == conn) None o None a tt is
 

@@ -15,7 +15,8 @@ use Rattle.wl_core.specs.Seats.{seat_at, with_session, joined_seat, named_seat, 
 use Rattle.wl_core.specs.Tokens.{KeptTokens, tokens_of, kept_token, outcome_of}
 use Rattle.wl_core.specs.Moments.{Beginning, Moment, moment, answer_ask, token_seat, ask_of_seat, seat}
 use Rattle.wl_core.specs.Traces.{ask_items, gain, joined_trace, trace_after}
-use Rattle.wl_responses.proofs.Runs.{seat_step, room}
+use Rattle.wl_core.proofs.SessionTraces.{room}
+use Rattle.wl_responses.proofs.Runs.{seat_step}
 use Rattle.wl_secrets.proofs.Calls.{Bounds, SessionOn}
 use Rattle.wl_secrets.proofs.Unshown.{unshown, feed_unshown, fed_items_unshown, turn_unshown, turn_items_unshown, outcome_unshown, asks_unshown, unshown_twice, ShowsAlike, turn_same, turn_items_same}
 

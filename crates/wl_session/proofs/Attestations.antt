@@ -1,5 +1,5 @@
 -- Calls that become ready are attested one after the other.
-use Rattle.std.proofs.Common.{◌≡◌, ℕ, zero, suc, ◌+◌, Bool, true, false, List, [], ◌∷◌, ◌++◌, length, filter, take, drop, Option, Some, None, Ok, refl, sym, ap, ◌∙◌, append_assoc, is_some}
+use Rattle.std.proofs.Common.{◌≡◌, ℕ, zero, suc, Bool, true, false, List, [], ◌∷◌, ◌++◌, length, filter, take, drop, Option, Some, None, Ok, refl, sym, ap, ◌∙◌, append_assoc, is_some}
 use Rattle.std.specs.Prelude.{IsSome}
 use Rattle.std.specs.List.{position_or_len}
 use Rattle.std.proofs.Common.{arith}
@@ -15,14 +15,9 @@ use Rattle.wl_session.specs.Tokens.{change_in, change_first, is_unnamed, name_on
 use Rattle.wl_session.specs.Talks.{Talking, Said, then_, silent, written}
 use Rattle.wl_session.specs.Sessions.{SessionState, Running, Fallen, OutOfMemory, name_said, unnamed_in, Names}
 use Rattle.wl_session.specs.Steps.{unnamed_count, names_said, names_told}
+use Rattle.wl_session.proofs.ReadyCalls.{place_here, place_later}
 
 -- ---- the first of a kind
-
-pub place_here : {X : Type 0} (test : X → Bool) (x : X) (xs : List X) → test x ≡ true → position_or_len test (x ∷ xs) ≡ 0
-place_here test x xs is = rw is refl
-
-pub place_later : {X : Type 0} (test : X → Bool) (x : X) (xs : List X) → test x ≡ false → position_or_len test (x ∷ xs) ≡ suc (position_or_len test xs)
-place_later test x xs is = let e : 1 + position_or_len test xs ≡ suc (position_or_len test xs) = omega arith in rw is e
 
 pub in_later : (change : ServedCall → Phase → Turned) (c : ServedCall) (front rest : List ServedCall) (p : Phase)
     → change_in change (c ∷ front) rest p ≡ record { phase = (change_in change front rest p).phase; kept = c ∷ (change_in change front rest p).kept }

@@ -2,6 +2,8 @@ pub mod ItemSequences
 pub mod Agreements
 pub mod ReadyCalls
 mod TurnSequences
+pub mod CallWalk
+pub mod PhaseWalk
 pub mod SessionFacts
 pub mod ViewFacts
 mod Views

@@ -15,6 +15,7 @@ use Rattle.grpc_wire.specs.Answers.{response_fields, trailer_fields, refused_fie
 use Rattle.grpc_wire.specs.declared.refusal.Refusal.{Refusal}
 use Rattle.grpc_wire.specs.declared.refusal.Refusal.TheVariants.{NoIdentity, LongResponse, UnknownService}
 use Rattle.wl_health.specs.Messages.{spell_state}
+use Rattle.h2_flow.proofs.Offers.{changed_here, changed_past}
 use Rattle.wl_snapshot.specs.Snapshots.{Publication}
 use Rattle.wl_snapshot.specs.Views.{ViewModel, view_in}
 use Rattle.wl_snapshot.specs.Answers.{answer_of, asks_of}
@@ -41,12 +42,6 @@ unlike m n k other here =
       | inl there ↦ absurd (other (sym (eqb-true m n here) ∙ eqb-true m k there))
       | inr past ↦ past
     ]
-
-changed_here : (n : ℕ) (f : Stream → Stream) (s : Stream) (ss : List Stream) → (s.number == n) ≡ true → update_stream n f (s ∷ ss) ≡ f s ∷ ss
-changed_here n f s ss here = rw here refl
-
-changed_past : (n : ℕ) (f : Stream → Stream) (s : Stream) (ss : List Stream) → (s.number == n) ≡ false → update_stream n f (s ∷ ss) ≡ s ∷ update_stream n f ss
-changed_past n f s ss past = rw past refl
 
 -- two streams are changed in either order
 both_changed : (n k : ℕ) (f g : Stream → Stream) → Renumbers f → Renumbers g → (n ≡ k → ⊥) → (ss : List Stream) → update_stream n f (update_stream k g ss) ≡ update_stream k g (update_stream n f ss)

@@ -33,6 +33,7 @@ use Rattle.grpc_conn.specs.declared.standing.Call.{Call}
 use Rattle.grpc_conn.specs.declared.standing.Standing.{Standing}
 use Rattle.grpc_conn.specs.Verdicts.{verdict}
 use Rattle.grpc_conn.specs.Calls.{standing_of_head, standing_at, event_at, calls_after, with_call, without}
+use Rattle.grpc_conn.proofs.Places.{removed_there}
 use Rattle.wl_snapshot.specs.Snapshots.{Publication}
 use Rattle.wl_snapshot.specs.Views.{ViewModel, view_in}
 use Rattle.wl_snapshot.proofs.Equalities.{view_model_is}
@@ -49,6 +50,7 @@ use Rattle.wl_session.specs.Sessions.{SessionState, Running, Fallen, OutOfMemory
 use Rattle.wl_session.specs.Agreeing.{HasSeen, HaveSeen}
 use Rattle.wl_session.specs.Completing.{HasAnswerOn, HasLastAnswer, ShowsStage, CameOn, Shows, AreApart, IsDecided, IsComplete, IsCompleteIn, IsAnsweredOn, IsAnswered, AllAnswered, FeedKeepsComplete, NameKeepsComplete, TokenKeepsComplete, TurnAnswersAll}
 use Rattle.wl_session.proofs.Agreements.{calls_seen}
+use Rattle.wl_session.proofs.CallWalk.{served_all}
 use Rattle.wl_session.proofs.Streams.{Keeps, reset_stands, reset_keeps, refusal_stands, refusal_keeps}
 use Rattle.wl_session.proofs.TurnAnswers.{all_kept, Any, any_all, flip, written_complete, turn_complete, named_complete, given_complete}
 
@@ -69,14 +71,6 @@ none_without n k (c ∷ calls) h =
   where
     wrong : Some c.standing ≡ None → ⊥
     wrong e = absurd (cc e)
-
-pub gone_without : (n : ℕ) (calls : List Call) → standing_at n (without n calls) ≡ None
-gone_without n [] = refl
-gone_without n (c ∷ calls) =
-    elim (cases_Bool (c.stream == n)) [
-      | inl here ↦ rw here (gone_without n calls)
-      | inr there ↦ rw there (rw there (gone_without n calls))
-    ]
 
 pub none_with : (n k : ℕ) (s : Standing) (calls : List Call) → (n ≡ k → ⊥) → standing_at n calls ≡ None → standing_at n (with_call k s calls) ≡ None
 none_with n k s [] other h = rw (ne_eqb k n (λ e. absurd (other (sym e)))) refl
@@ -127,14 +121,6 @@ undecided n s calls (c ∷ cs) is h = ((λ e. wrong (sym (subst (λ (m : ℕ). s
 
 -- ---- an event
 
-pub served_all : (P : ServedCall → Type 0) (c : ServedCall) (cs : List ServedCall) → P c → AllByRecursion P cs → AllByRecursion P (with_served c cs)
-served_all P c [] p h = (p, tt)
-served_all P c (d ∷ ds) p h = go (nat_lt c.stream d.stream) (served_all P c ds p h.1)
-  where
-    go : (b : Bool) → AllByRecursion P (with_served c ds) → AllByRecursion P (if b then c ∷ d ∷ ds else d ∷ with_served c ds)
-    go true rest = (p, h)
-    go false rest = (h.0, rest)
-
 served_apart : (c : ServedCall) (cs : List ServedCall) → AllByRecursion (λ d. d.stream ≡ c.stream → ⊥) cs → AreApart cs → AreApart (with_served c cs)
 served_apart c [] new h = (tt, tt)
 served_apart c (d ∷ ds) new h = go (nat_lt c.stream d.stream) (served_apart c ds new.1 h.1)
@@ -171,7 +157,7 @@ event_complete n (events.Ready method message request) t new came h =
     record {
       sound = h.sound;
       apart = served_apart call t.served new h.apart;
-      decided = served_all (IsDecided (without n t.calls)) call t.served (gone_without n t.calls) (decided_without n t.calls t.served h.decided);
+      decided = served_all (IsDecided (without n t.calls)) call t.served (removed_there n t.calls) (decided_without n t.calls t.served h.decided);
       shows = served_all (Shows t.phase) call t.served (came, tt) h.shows;
     }
 

@@ -1,6 +1,6 @@
 -- Which calls are refused on a view, and what the others are offered.
-use Rattle.std.specs.Prelude.{◌≡◌, ◌↔◌, ◌<◌, ℕ, ◌==◌, nat_lt, Bool, true, false, if◌then◌else◌, List, [], ◌∷◌, length, Option, Some, None}
-use Rattle.std.proofs.Common.{refl, sym, ◌∙◌, ap, subst, arith}
+use Rattle.std.specs.Prelude.{◌≡◌, ℕ, ◌==◌, nat_lt, Bool, true, false, if◌then◌else◌, List, [], ◌∷◌, length, Some, None}
+use Rattle.std.proofs.Common.{refl, ◌∙◌, ap, arith}
 use Rattle.std.proofs.lemmas.Bool.Decides.{nat_tests}
 use Rattle.h2_conn.specs.declared.phase.Phase.{Phase}
 use Rattle.grpc_wire.specs.declared.refusal.Refusal.{Refusal}
@@ -13,11 +13,10 @@ use Rattle.wl_snapshot.specs.declared.answers.Answer.{Answer}
 use Rattle.wl_snapshot.specs.declared.answers.Answer.TheVariants.{Denied, Wait, TooLong, Message}
 use Rattle.wl_snapshot.specs.declared.answers.Method3.{Method3}
 use Rattle.wl_snapshot.specs.declared.token_asks.Wanted.{Wanted}
-use Rattle.wl_session.specs.declared.served.CallKind.{CallKind}
 use Rattle.wl_session.specs.declared.served.CallKind.TheVariants.{Stream, Tokens, Check, Watch}
-use Rattle.wl_session.specs.Answering.{Turned, call_answer, stream_answer, token_answer, check_answer, has_ended, with_refusal, with_last_message, health_of}
+use Rattle.wl_session.specs.Answering.{call_answer, stream_answer, token_answer, has_ended, with_refusal, with_last_message, health_of}
 use Rattle.wl_health.specs.Messages.{spell_state}
-use Rattle.wl_session.specs.Refusing.{stream_refusal, token_refusal, refusal_on, RefusedCallEnds, NoIdentityExactly, UnknownServiceExactly, MessageIsOfView, HealthIsOfView}
+use Rattle.wl_session.specs.Refusing.{stream_refusal, token_refusal, RefusedCallEnds, NoIdentityExactly, UnknownServiceExactly, MessageIsOfView, HealthIsOfView}
 
 -- ---- a call that is refused ends so
 

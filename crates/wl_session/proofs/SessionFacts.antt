@@ -1,86 +1,52 @@
 -- What holds of a session between its calls is kept by each.
-use Rattle.std.proofs.Common.{◌≡◌, ℕ, ◌==◌, ◌||◌, Bool, true, false, not, nat_lt, if◌then◌else◌, List, [], ◌∷◌, ◌++◌, filter, take, drop, length, Option, Some, None, Ok, zero, suc, refl, sym, ap, subst, arith}
+use Rattle.std.proofs.Common.{◌≡◌, ℕ, ◌||◌, Bool, true, false, List, [], ◌∷◌, Option, Some, None, Ok, refl, sym, ap, subst, arith}
 use Rattle.std.proofs.lemmas.List.{append-nil}
-use Rattle.std.specs.List.{list_any, position_or_len}
+use Rattle.std.specs.List.{list_any}
 use Rattle.h2_frame.specs.Reading.{End, Opening, Rest, Fault, Reading}
-use Rattle.grpc_wire.specs.declared.refusal.Refusal.TheVariants.{LongResponse}
-use Rattle.workload_proto.specs.declared.message.JwtItem.{JwtItem}
-use Rattle.workload_proto.specs.Spelling.{spell_jwt, capped}
-use Rattle.wl_snapshot.specs.declared.token_asks.Wanted.{Wanted}
-use Rattle.wl_session.specs.declared.asks.JwtAsk.{JwtAsk}
 use Rattle.wl_session.specs.declared.asks.JwtOutcome.{JwtOutcome}
-use Rattle.wl_session.specs.declared.asks.JwtOutcome.TheVariants as outcomes
-use Rattle.wl_session.specs.declared.served.CallKind.{CallKind}
-use Rattle.wl_session.specs.Answering.{Turned, has_ended, with_refusal, with_last_message, calls_turn}
-use Rattle.wl_session.specs.Tokens.{change_in, change_first, is_unnamed, name_call, name_stage, name_on, name_first, is_asking, item_for, token_message, next_ask, give_call, give_stage, give_on, give_first}
+use Rattle.wl_session.specs.Answering.{Turned, calls_turn}
+use Rattle.wl_session.specs.Tokens.{change_in, change_first, name_stage, name_on, name_first, give_first}
 use Rattle.wl_session.specs.Sessions.{ended_by, feed_said, with_turned, turn_said, name_said, given_said, SessionState, Running, state_by, Turns}
 use Rattle.wl_session.specs.declared.asks.SessionFault.{SessionFault}
 use Rattle.std.proofs.lemmas.Bool.Decides.{nat_tests}
 use Rattle.h2_frame.specs.declared.fault.FrameFault.{FrameFault}
 use Rattle.h2_frame.specs.declared.frame.Frame.{Frame}
 use Rattle.h2_conn.specs.declared.fault.ConnFault.{ConnFault}
-use Rattle.h2_conn.specs.declared.happening.Happening.{Happening}
-use Rattle.h2_conn.specs.declared.happening.Happening.TheVariants as happening
 use Rattle.h2_conn.specs.declared.phase.Phase.{Phase}
 use Rattle.h2_conn.specs.declared.phase.Phase.TheVariants.{Open}
 use Rattle.h2_flow.specs.Outboxes.{pull_of}
 use Rattle.h2_flow.specs.Pulls.{all_rounds, rounds, round}
 use Rattle.h2_conn.specs.Conns.{new_state, frame_result, flush_of, after_pull, frame_fault_on, after_frame_fault}
-use Rattle.grpc_conn.specs.declared.event.CallEvent.{CallEvent}
-use Rattle.grpc_conn.specs.declared.event.CallEvent.TheVariants.{Nothing, Malformed, Refuse}
-use Rattle.grpc_conn.specs.declared.event.CallEvent.TheVariants as events
-use Rattle.grpc_conn.specs.Verdicts.{verdict}
-use Rattle.grpc_conn.specs.Calls.{standing_of_head, standing_at, event_at, calls_after, with_call}
 use Rattle.wl_snapshot.specs.Snapshots.{Publication}
 use Rattle.wl_session.specs.declared.served.Stage.{Stage}
 use Rattle.wl_session.specs.declared.served.Stage.TheVariants.{Unnamed, Ready, Asking}
 use Rattle.wl_session.specs.declared.served.ServedCall.{ServedCall}
-use Rattle.wl_session.specs.Talks.{Talking, fresh_talk, silent, written, with_served, after_event, after_body, after_happening, after_happenings, after_frame, frame_said, frames_said, break_said}
+use Rattle.wl_session.specs.Talks.{Talking, fresh_talk, silent, written, after_frame, frame_said, frames_said, break_said}
 use Rattle.wl_session.specs.Agreeing.{HasSeen, HaveSeen}
 use Rattle.wl_session.specs.Settled.{is_new, is_new_stage, WasSeen, WereSeen, SettledOn, IsSettled, is_number, MayFollow, MayTurn}
 use Rattle.wl_session.proofs.Agreements.{written_quiet, again, calls_seen}
+use Rattle.wl_session.proofs.CallWalk.{CallRule, Each, IsKept, came_each, first_named, first_given}
 
 -- ---- the ready calls
 
-were_filtered : (x : Publication) (test : ServedCall → Bool) (cs : List ServedCall) → WereSeen x cs → WereSeen x (filter test cs)
-were_filtered x test [] were = tt
-were_filtered x test (c ∷ cs) were = go (test c) (were_filtered x test cs were.1)
-  where
-    go : (b : Bool) → WereSeen x (filter test cs) → WereSeen x (if b then c ∷ filter test cs else filter test cs)
-    go true rest = (were.0, rest)
-    go false rest = rest
+abbrev seen_on : Publication → CallRule
+seen_on x n s = WasSeen x s
 
-were_served : (x : Publication) (c : ServedCall) (cs : List ServedCall) → WasSeen x c.stage → WereSeen x cs → WereSeen x (with_served c cs)
-were_served x c [] was were = (was, tt)
-were_served x c (d ∷ ds) was were = go (nat_lt c.stream d.stream) (were_served x c ds was were.1)
-  where
-    go : (b : Bool) → WereSeen x (with_served c ds) → WereSeen x (if b then c ∷ d ∷ ds else d ∷ with_served c ds)
-    go true rest = (was, were)
-    go false rest = (were.0, rest)
+were_each : (x : Publication) (cs : List ServedCall) → WereSeen x cs → Each (seen_on x) cs
+were_each x [] were = tt
+were_each x (c ∷ cs) were = (were.0, were_each x cs were.1)
+
+each_were : (x : Publication) (cs : List ServedCall) → Each (seen_on x) cs → WereSeen x cs
+each_were x [] each = tt
+each_were x (c ∷ cs) each = (each.0, each_were x cs each.1)
+
+seen_kept : (x : Publication) → IsKept (seen_on x)
+seen_kept x = record { fresh = λ n kind. tt; next = λ n first w ws got more was. tt }
 
 -- ---- a frame
 
-event_were : (x : Publication) (n : ℕ) (e : CallEvent) (t : Talking) → WereSeen x t.served → WereSeen x (after_event n e t).served
-unfolding after_event
-event_were x n Nothing t were = were
-event_were x n Malformed t were = were
-event_were x n (Refuse r) t were = were
-event_were x n (events.Ready method message request) t were = were_served x _ t.served tt were
-
-happening_were : (x : Publication) (h : Happening) (t : Talking) → WereSeen x t.served → WereSeen x (after_happening h t).served
-unfolding after_happening after_body
-happening_were x (happening.Head n headers ended) t were = event_were x n (verdict headers [] ended) (record t { calls = with_call n (standing_of_head headers ended) t.calls }) were
-happening_were x (happening.Body n bytes ended) t were = event_were x n (event_at (standing_at n t.calls) bytes ended) (record t { calls = calls_after n bytes ended t.calls }) were
-happening_were x (happening.End n) t were = event_were x n (event_at (standing_at n t.calls) [] true) (record t { calls = calls_after n [] true t.calls }) were
-happening_were x (happening.Gone n) t were = were_filtered x (λ c. not (c.stream == n)) t.served were
-
-happenings_were : (x : Publication) (hs : List Happening) (t : Talking) → WereSeen x t.served → WereSeen x (after_happenings hs t).served
-happenings_were x [] t were = were
-happenings_were x (h ∷ hs) t were = happenings_were x hs (after_happening h t) (happening_were x h t were)
-
 frame_were : (x : Publication) (f : Frame) (t : Talking) → WereSeen x t.served → WereSeen x (after_frame f t).served
-unfolding after_frame
-frame_were x f t were = happenings_were x (frame_result t.phase f).told (record t { phase = (frame_result t.phase f).after }) were
+frame_were x f t were = each_were x (after_frame f t).served (came_each (seen_on x) (seen_kept x) f t (were_each x t.served were))
 
 -- what is written after an item leaves nothing to be written
 pub settled_writing : (shown : Option Publication) (number : Option ℕ) (fault : Option ConnFault) (old t : Talking) → SettledOn shown number old → ((x : Publication) → WereSeen x old.served → WereSeen x t.served) → SettledOn shown number (written fault t).after
@@ -130,47 +96,10 @@ were_have x (c ∷ cs) were old =
     let parts = none_new (is_new c) (list_any is_new cs) old in
     (was_has x c.stage were.0 parts.0, were_have x cs were.1 parts.1)
 
--- ---- the first of a kind
-
-were_take : (x : Publication) (n : ℕ) (cs : List ServedCall) → WereSeen x cs → WereSeen x (take n cs)
-were_take x zero cs were = tt
-were_take x (suc n) [] were = tt
-were_take x (suc n) (c ∷ cs) were = (were.0, were_take x n cs were.1)
-
-were_drop : (x : Publication) (n : ℕ) (cs : List ServedCall) → WereSeen x cs → WereSeen x (drop n cs)
-were_drop x zero cs were = were
-were_drop x (suc n) [] were = tt
-were_drop x (suc n) (c ∷ cs) were = were_drop x n cs were.1
-
-were_append : (x : Publication) (cs ds : List ServedCall) → WereSeen x cs → WereSeen x ds → WereSeen x (cs ++ ds)
-were_append x [] ds a b = b
-were_append x (c ∷ cs) ds a b = (a.0, were_append x cs ds a.1 b)
-
-were_changed : (x : Publication) (change : ServedCall → Phase → Turned) (front rest : List ServedCall) (p : Phase) → ((c : ServedCall) (q : Phase) → WasSeen x c.stage → WereSeen x (change c q).kept)
-    → WereSeen x front → WereSeen x rest → WereSeen x (change_in change front rest p).kept
-were_changed x change front [] p keeps a b = a
-were_changed x change front (c ∷ rest) p keeps a b = were_append x front ((change c p).kept ++ rest) a (were_append x (change c p).kept rest (keeps c p b.0) b.1)
-
-were_first : (x : Publication) (test : ServedCall → Bool) (change : ServedCall → Phase → Turned) (cs : List ServedCall) (p : Phase) → ((c : ServedCall) (q : Phase) → WasSeen x c.stage → WereSeen x (change c q).kept)
-    → WereSeen x cs → WereSeen x (change_first test change cs p).kept
-unfolding change_first
-were_first x test change cs p keeps were =
-    let n = position_or_len test cs in were_changed x change (take n cs) (drop n cs) p keeps (were_take x n cs were) (were_drop x n cs were)
-
 -- ---- names
 
-call_named : (x : Publication) (n : ℕ) (kind : CallKind) (sel : Option (List (List ℕ))) (p : Phase) → WereSeen x (name_call n kind sel p).kept
-call_named x n kind (Some sel) p = (tt, tt)
-call_named x n kind None p = tt
-
-stage_named : (x : Publication) (sel : Option (List (List ℕ))) (n : ℕ) (s : Stage) (p : Phase) → WasSeen x s → WereSeen x (name_stage sel n s p).kept
-stage_named x sel n (Unnamed kind) p was = call_named x n kind sel p
-stage_named x sel n (Ready kind own seen headed) p was = (was, tt)
-stage_named x sel n (Asking first rest got) p was = (tt, tt)
-
 were_named : (x : Publication) (sel : Option (List (List ℕ))) (cs : List ServedCall) (p : Phase) → WereSeen x cs → WereSeen x (name_first sel cs p).kept
-unfolding name_first
-were_named x sel cs p were = were_first x is_unnamed (name_on sel) cs p (λ c q was. stage_named x sel c.stream c.stage q was) were
+were_named x sel cs p were = each_were x (name_first sel cs p).kept (first_named (seen_on x) sel cs p (λ n kind named is same. tt) (were_each x cs were))
 
 -- a name does nothing to the connection
 stage_phase : (sel : List (List ℕ)) (n : ℕ) (s : Stage) (p : Phase) → (name_stage (Some sel) n s p).phase ≡ p
@@ -197,31 +126,8 @@ settled_name shown number None t settled = settled_writing shown number None t (
 
 -- ---- tokens
 
-message_given : (x : Publication) (n : ℕ) (m : List ℕ) (p : Phase) → WereSeen x (token_message n m p).kept
-message_given x n m p = go (nat_lt 4194304 (capped (length m)))
-  where
-    go : (b : Bool) → WereSeen x (if b then has_ended (with_refusal n false LongResponse p) else has_ended (with_last_message n false m p)).kept
-    go true = tt
-    go false = tt
-
-next_given : (x : Publication) (n : ℕ) (audience : List (List ℕ)) (ws : List Wanted) (got : List JwtItem) (p : Phase) → WereSeen x (next_ask n audience ws got p).kept
-next_given x n audience [] got p = message_given x n (spell_jwt (record { svids = got })) p
-next_given x n audience (w ∷ ws) got p = (tt, tt)
-
-call_given : (x : Publication) (n : ℕ) (first : JwtAsk) (rest : List Wanted) (got : List JwtItem) (o : JwtOutcome) (p : Phase) → WereSeen x (give_call n first rest got o p).kept
-unfolding give_call
-call_given x n first rest got (outcomes.Token t) p = next_given x n first.audience rest (got ++ item_for first t ∷ []) p
-call_given x n first rest got outcomes.Failed p = tt
-call_given x n first rest got (outcomes.Unfit u) p = tt
-
-stage_given : (x : Publication) (o : JwtOutcome) (n : ℕ) (s : Stage) (p : Phase) → WasSeen x s → WereSeen x (give_stage o n s p).kept
-stage_given x o n (Unnamed kind) p was = (tt, tt)
-stage_given x o n (Ready kind sel seen headed) p was = (was, tt)
-stage_given x o n (Asking first rest got) p was = call_given x n first rest got o p
-
 were_given : (x : Publication) (o : JwtOutcome) (cs : List ServedCall) (p : Phase) → WereSeen x cs → WereSeen x (give_first o cs p).kept
-unfolding give_first
-were_given x o cs p were = were_first x is_asking (give_on o) cs p (λ c q was. stage_given x o c.stream c.stage q was) were
+were_given x o cs p were = each_were x (give_first o cs p).kept (first_given (seen_on x) (seen_kept x) o cs p (were_each x cs were))
 
 pub settled_given : (shown : Option Publication) (number : Option ℕ) (o : JwtOutcome) (t : Talking) → SettledOn shown number t → SettledOn shown number (given_said o t).after
 unfolding given_said

@@ -1,10 +1,9 @@
 -- Each ready streaming call has its answer on its stream, and a turn answers all.
-use Rattle.std.proofs.Common.{◌≡◌, ℕ, ◌+◌, ◌==◌, length, Bool, true, false, nat_lt, if◌then◌else◌, List, [], ◌∷◌, ◌++◌, take, drop, Option, Some, None, refl, sym, ◌∙◌, subst, inl, inr}
-use Rattle.std.specs.List.{AllByRecursion, position_or_len}
+use Rattle.std.proofs.Common.{◌≡◌, ℕ, ◌==◌, length, Bool, true, false, nat_lt, if◌then◌else◌, List, [], ◌∷◌, ◌++◌, Option, Some, None, refl, sym, ◌∙◌, subst, inl, inr}
+use Rattle.std.specs.List.{AllByRecursion}
 use Rattle.std.proofs.lemmas.Bool.{cases_Bool}
 use Rattle.h2_conn.specs.declared.fault.ConnFault.{ConnFault}
 use Rattle.h2_conn.specs.declared.phase.Phase.{Phase}
-use Rattle.h2_conn.specs.Peer.{goes}
 use Rattle.h2_conn.specs.Conns.{withdraws, flush_of}
 use Rattle.h2_conn.specs.Sound.{SoundPhase}
 use Rattle.h2_conn.specs.Holding.{IsHeld, IsSilent}
@@ -33,12 +32,12 @@ use Rattle.wl_session.specs.declared.served.Stage.TheVariants.{Unnamed, Ready, A
 use Rattle.wl_session.specs.declared.served.ServedCall.{ServedCall}
 use Rattle.wl_session.specs.Kinds.{was_seen}
 use Rattle.wl_session.specs.Answering.{Turned, goes_on, has_ended, with_refusal, with_message, with_last_message, stream_answer, health_of, token_answer, call_answer, stage_turn, call_turn, turn_before, calls_turn}
-use Rattle.wl_session.specs.Tokens.{change_in, change_first, is_unnamed, name_call, name_stage, name_on, name_first, is_asking, item_for, token_message, next_ask, give_call, give_stage, give_on, give_first}
-use Rattle.wl_session.specs.Talks.{Talking, others, written}
+use Rattle.wl_session.specs.Tokens.{change_first, is_unnamed, name_call, name_stage, name_on, name_first, is_asking, item_for, token_message, next_ask, give_call, give_stage, give_on, give_first}
+use Rattle.wl_session.specs.Talks.{Talking, written}
 use Rattle.wl_session.specs.Sessions.{with_turned, turn_said, name_said, given_said}
 use Rattle.wl_session.specs.Completing.{HasAnswer, HasAnswerOn, HasLastAnswer, ShowsStage, CameOn, Shows, AreApart, IsComplete}
-use Rattle.wl_session.proofs.ReadyCalls.{place_here, place_later}
 use Rattle.wl_session.proofs.Streams.{Keeps, keeps_itself, keeps_both, Stands, stands_itself, stands_both, flush_stands, flush_keeps, withdrawal_stands, withdrawal_keeps, refusal_stands, refusal_keeps, answer_stands, answer_keeps, answer_held, last_answer_stands, last_answer_keeps}
+use Rattle.wl_session.proofs.Attestations.{first_here, first_later}
 
 -- ---- what a stream has, where nothing is done on it
 
@@ -224,19 +223,6 @@ calls_done x (c ∷ cs) p sound apart h =
     (calls_done x cs first.phase ((done_stands c.stream p first done).sound sound) apart.1 (rest_shows c.stream p first.phase cs (done_keeps c.stream p first done) apart.0 h.1))
 
 -- ---- the first of a kind
-
-in_cons : (change : ServedCall → Phase → Turned) (c : ServedCall) (front rest : List ServedCall) (p : Phase) → change_in change (c ∷ front) rest p ≡ record { phase = (change_in change front rest p).phase; kept = c ∷ (change_in change front rest p).kept }
-in_cons change c front [] p = refl
-in_cons change c front (d ∷ rest) p = refl
-
-first_here : (test : ServedCall → Bool) (change : ServedCall → Phase → Turned) (c : ServedCall) (cs : List ServedCall) (p : Phase) → test c ≡ true → change_first test change (c ∷ cs) p ≡ record { phase = (change c p).phase; kept = (change c p).kept ++ cs }
-unfolding change_first
-first_here test change c cs p is = rw (place_here test c cs is) refl
-
-first_later : (test : ServedCall → Bool) (change : ServedCall → Phase → Turned) (c : ServedCall) (cs : List ServedCall) (p : Phase) → test c ≡ false
-    → change_first test change (c ∷ cs) p ≡ record { phase = (change_first test change cs p).phase; kept = c ∷ (change_first test change cs p).kept }
-unfolding change_first
-first_later test change c cs p is = rw (place_later test c cs is) (in_cons change c (take (position_or_len test cs) cs) (drop (position_or_len test cs) cs) p)
 
 -- the others stay as they are
 rest_done : (cs : List ServedCall) (q : Phase) → AreApart cs → AllByRecursion (Shows q) cs → AllDone cs q (record { phase = q; kept = cs })

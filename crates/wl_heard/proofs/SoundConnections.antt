@@ -18,11 +18,12 @@ use Rattle.h2_conn.specs.Peer.{Outcome, goes, fails, with_control_frame, without
 use Rattle.h2_conn.specs.Sound.{Sound, SoundAfter}
 use Rattle.h2_conn.specs.Conns.{new_state, result_of, frame_result, after_frame_fault, takes, with_head_on, with_trailers_on, with_message_on, without_waiting_on, after_reset, on_open, answer_ends, answers_end, ends_reset_count, after_pull, flush_of}
 use Rattle.h2_conn.proofs.Carries.{CarriesAfter, frame_carries}
-use Rattle.h2_conn.proofs.Sounds.{peer_sound, s_closed, s_headed_on, s_finished_on, s_offered_on, s_withdrawn_on, s_reset_by, at_cond}
+use Rattle.h2_conn.proofs.Walk.{at_cond}
+use Rattle.h2_conn.proofs.Sounds.{peer_sound, s_closed, s_headed_on, s_finished_on, s_offered_on, s_withdrawn_on, s_reset_by}
 use Rattle.h2_conn.proofs.WindowSums.{sound_pull}
 use Rattle.wl_session.proofs.PeerAnswers.{live_below}
 use Rattle.wl_heard.specs.Written.{IsControl}
-use Rattle.wl_heard.proofs.Found.{Holds, holds_none, IsShortSent}
+use Rattle.wl_heard.proofs.WholeFrames.{Holds, holds_none, IsShortSent}
 use Rattle.wl_heard.proofs.Rounds.{HasShortBlocks, IsSmall, pull_sent, pull_streams}
 use Rattle.wl_heard.proofs.Queues.{Queued, Queues, q_reset, q_closed, q_fails, frame_queues}
 

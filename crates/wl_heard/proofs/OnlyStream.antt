@@ -11,7 +11,8 @@ use Rattle.h2_conn.specs.Streams.{is_live, is_remote_closed, with_local_closed}
 use Rattle.h2_conn.specs.Peer.{with_control_frame, without_live_stream}
 use Rattle.h2_conn.specs.Sound.{Sound, SoundPhase}
 use Rattle.h2_conn.specs.Conns.{takes, with_head_on, with_trailers_on, with_message_on, without_waiting_on, after_reset, on_open, offers, withdraws, answer_ends, answers_end, ends_reset_count, after_pull, flush_of}
-use Rattle.h2_conn.proofs.Sounds.{there_is, s_headed_on, s_finished_on, s_offered_on, s_withdrawn_on, s_reset_by, at_cond}
+use Rattle.h2_conn.proofs.Walk.{at_cond}
+use Rattle.h2_conn.proofs.Sounds.{there_is, s_headed_on, s_finished_on, s_offered_on, s_withdrawn_on, s_reset_by}
 use Rattle.grpc_wire.specs.Messages.{framed}
 use Rattle.grpc_wire.specs.Answers.{response_fields, trailer_fields, refused_fields}
 use Rattle.grpc_wire.specs.declared.refusal.Refusal.{Refusal}
@@ -20,7 +21,7 @@ use Rattle.wl_client.specs.declared.listener.Stage.{Stage}
 use Rattle.wl_client.specs.Openings.{call_stream}
 use Rattle.wl_heard.proofs.Lists.{IsLate, head_block, last_block, late_block, whole_block}
 use Rattle.wl_heard.proofs.Marks.{Mark, Bare, Headed, Closing, Alone, At}
-use Rattle.wl_heard.proofs.ConnectionFacts.{Lasts, l_head, l_message}
+use Rattle.wl_session.proofs.PhaseWalk.{Lasts, l_head, l_message}
 
 -- ---- the one stream
 

@@ -41,8 +41,8 @@ use Rattle.wl_responses.proofs.Endings.{turns_give, names_give, tokens_give, cal
 use Rattle.wl_responses.proofs.Verdicts.{verdicts_give}
 use Rattle.wl_responses.proofs.Peers.{IsFree, frame_any}
 use Rattle.wl_heard.specs.Statuses.{IsGivenAt, by_verdict, by_attestor, by_view, by_token, Closes, ClosesCall}
-use Rattle.wl_heard.proofs.ConnectionFacts.{Lasts, l_refusal, l_turns, l_names, l_gives}
-use Rattle.wl_heard.proofs.Tidy.{Tidy}
+use Rattle.wl_session.proofs.PhaseWalk.{Lasts, l_refusal, l_turns, l_names, l_gives}
+use Rattle.wl_heard.proofs.SoundConnections.{Tidy}
 use Rattle.wl_heard.proofs.FramesInBytes.{steps_tidy}
 use Rattle.wl_heard.proofs.HeaderBlocks.{LastFits, HasHead, IsClear, HasLast, HasBlocks, SentFits, flush_blocks, due_fits}
 

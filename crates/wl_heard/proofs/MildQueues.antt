@@ -31,12 +31,12 @@ use Rattle.wl_session.proofs.PeerAnswers.{live_below}
 use Rattle.wl_client.specs.Openings.{call_stream}
 use Rattle.wl_responses.specs.Steps.{Step, FrameCame, BytesBroke, CallAttested, TurnTaken, OutcomeCame, FitsStep, unwritten}
 use Rattle.wl_heard.specs.Calls.{ComesOfOneCall, IsOfOneCall}
-use Rattle.wl_heard.proofs.Found.{Holds, holds_both, holds_spelled}
-use Rattle.wl_heard.proofs.Opens.{IsFirst, frame_opens}
-use Rattle.wl_heard.proofs.Given.{OnlyOf, only_filter, sound_lasts, FirstOn, first_lasts}
-use Rattle.wl_heard.proofs.ConnectionFacts.{Lasts, l_refusal, l_turns, l_names, l_gives}
+use Rattle.wl_heard.proofs.WholeFrames.{Holds, holds_both, holds_spelled}
+use Rattle.wl_heard.proofs.FirstStream.{IsFirst, frame_opens}
+use Rattle.wl_heard.proofs.OnlyStream.{OnlyOf, only_filter, sound_lasts, FirstOn, first_lasts}
+use Rattle.wl_session.proofs.PhaseWalk.{Lasts, l_refusal, l_turns, l_names, l_gives}
 use Rattle.wl_heard.proofs.PeerFrames.{IsNone, Kind, head, other, kind_of, only_of, old_streams}
-use Rattle.wl_heard.proofs.Clean.{IsMild, IsAny, Tame, CleanState, none_left, frame_clean}
+use Rattle.wl_heard.proofs.ResetStreams.{IsMild, IsAny, Tame, CleanState, none_left, frame_clean}
 
 -- ---- a connection
 
