@@ -1,16 +1,21 @@
 -- What is escaped is printed, and so is each line before its newline.
-use Rattle.std.proofs.Common.{ℕ, ◌+◌, ◌/◌, ◌%◌, ◌≤◌, ◌<◌, ◌^◌, ◌≡◌, ◌==◌, ◌&&◌, Bool, nat_lt, nat_le, true, false, if◌then◌else◌, List, [], ◌∷◌, ◌++◌, arith, refl, codes}
+use Rattle.std.proofs.Common.{ℕ, ◌+◌, ◌/◌, ◌%◌, ◌≤◌, ◌<◌, ◌^◌, ◌≡◌, ◌==◌, ◌&&◌, Bool, nat_lt, nat_le, true, false, if◌then◌else◌, List, [], ◌∷◌, ◌++◌, arith, refl, codes, Option, Some, None}
 use Rattle.std.specs.Fmt.{decimal}
 use Rattle.std.proofs.lemmas.Fmt.{decimal_by_steps}
 use Rattle.fault_lines.specs.Explanations.{explained_text}
 use Rattle.event_log.specs.Texts.{escaped, escaped_byte, hex_digit, is_printed, are_printed, word_field, number_field, text_field}
+use Rattle.call_counts.specs.Names.{method_name, status_name}
+use Rattle.call_counts.specs.declared.labels.CallMethod.{CallMethod}
+use Rattle.call_counts.specs.declared.labels.CallMethod.TheVariants as method
+use Rattle.call_counts.specs.declared.labels.CallStatus.{CallStatus}
+use Rattle.call_counts.specs.declared.labels.CallStatus.TheVariants as status
 use Rattle.figures.specs.Labels.{link_name, late_name}
 use Rattle.figures.specs.declared.labels.LinkCause.{LinkCause}
 use Rattle.figures.specs.declared.labels.LinkCause.TheVariants.{ReceiveFailed, SendFailed}
 use Rattle.figures.specs.declared.labels.LateCause.{LateCause}
 use Rattle.figures.specs.declared.labels.LateCause.TheVariants.{Stalled, Silent}
 use Rattle.event_log.specs.Events.{level_of, level_name, event_name, bind_name, reason_name, pull_name, sign_name, unfit_name, error_name}
-use Rattle.event_log.specs.Lines.{bind_fields, sign_fields, fault_fields, taken_fields, counts_fit, fields, repeated, said, line, fits}
+use Rattle.event_log.specs.Lines.{bind_fields, sign_fields, fault_fields, count_fields, taken_fields, uid_field, call_fields, counts_fit, uid_fits, call_fits, fields, repeated, said, line, fits}
 use Rattle.event_log.specs.declared.level.Level.{Level}
 use Rattle.event_log.specs.declared.level.Level.TheVariants.{Error, Warn, Info, Debug}
 use Rattle.event_log.specs.declared.causes.BindCause.{BindCause}
@@ -26,8 +31,9 @@ use Rattle.event_log.specs.declared.causes.UnfitCause.TheVariants as unfit
 use Rattle.event_log.specs.declared.causes.ErrorCode.{ErrorCode}
 use Rattle.event_log.specs.declared.causes.ErrorCode.TheVariants as error
 use Rattle.event_log.specs.declared.event.DocumentCounts.{DocumentCounts}
+use Rattle.event_log.specs.declared.event.EndedCall.{EndedCall}
 use Rattle.event_log.specs.declared.event.Event.{Event}
-use Rattle.event_log.specs.declared.event.Event.TheVariants.{BindFailed, ConfigurationUnread, ConfigurationRefused, FirstDocumentRefused, NoFirstDocument, NoThread, ListenFailed, HostFailed, OutputFailed, OutOfMemory, DocumentRefused, DocumentTaken, AuthorityFailed, AuthorityBack, SigningFailed, TokenFailed, IdentityEnded, IdentityNotYetValid, CallerWaits, ConnectionBroken, LinkLate, ConnectionFailed, AttestationFailed, ConnectionsOfUidFull, SocketBoundAnew, Signed, SignerBack, Serving, Stopping, Connected, Closed}
+use Rattle.event_log.specs.declared.event.Event.TheVariants.{BindFailed, ConfigurationUnread, ConfigurationRefused, FirstDocumentRefused, NoFirstDocument, NoThread, ListenFailed, HostFailed, OutputFailed, OutOfMemory, DocumentRefused, DocumentTaken, AuthorityFailed, AuthorityBack, SigningFailed, TokenFailed, IdentityEnded, IdentityNotYetValid, CallerWaits, ConnectionBroken, LinkLate, ConnectionFailed, AttestationFailed, ConnectionsOfUidFull, SocketBoundAnew, Signed, SignerBack, Serving, Stopping, Connected, Closed, Call}
 
 pub printed_append : (xs ys : List ℕ) → are_printed xs ≡ true → are_printed ys ≡ true → are_printed (xs ++ ys) ≡ true
 printed_append [] ys h k = k
@@ -120,7 +126,7 @@ name_printed HostFailed = refl
 name_printed OutputFailed = refl
 name_printed OutOfMemory = refl
 name_printed (DocumentRefused _) = refl
-name_printed (DocumentTaken _) = refl
+name_printed (DocumentTaken _ _) = refl
 name_printed (AuthorityFailed _ _) = refl
 name_printed AuthorityBack = refl
 name_printed (SigningFailed _ _) = refl
@@ -140,6 +146,7 @@ name_printed (Serving _) = refl
 name_printed (Stopping _) = refl
 name_printed (Connected _) = refl
 name_printed (Closed _) = refl
+name_printed (Call _) = refl
 
 reason_printed : (reason : Reason) → are_printed (reason_name reason) ≡ true
 unfolding reason_name
@@ -206,6 +213,29 @@ error_printed error.InadequateSecurity = refl
 error_printed error.Http11Required = refl
 error_printed error.Unnamed = refl
 
+method_printed : (m : CallMethod) → are_printed (method_name m) ≡ true
+unfolding method_name
+method_printed method.FetchX509Svid = refl
+method_printed method.FetchX509Bundles = refl
+method_printed method.FetchJwtSvid = refl
+method_printed method.FetchJwtBundles = refl
+method_printed method.Check = refl
+method_printed method.Watch = refl
+method_printed method.Unread = refl
+
+status_printed : (s : CallStatus) → are_printed (status_name s) ≡ true
+unfolding status_name
+status_printed status.Ok = refl
+status_printed status.Cancelled = refl
+status_printed status.InvalidArgument = refl
+status_printed status.NotFound = refl
+status_printed status.PermissionDenied = refl
+status_printed status.ResourceExhausted = refl
+status_printed status.Unimplemented = refl
+status_printed status.Internal = refl
+status_printed status.Unavailable = refl
+status_printed status.Http = refl
+
 bind_printed : (cause : BindCause) → are_printed (bind_name cause) ≡ true
 unfolding bind_name
 bind_printed Taken = refl
@@ -267,14 +297,36 @@ two_numbers_printed key other n m k o h =
     printed_append (number_field key n) (number_field other m)
     (number_below key n k (first_true _ _ h)) (number_below other m o (second_true _ _ h))
 
-taken_printed : (counts : DocumentCounts) → counts_fit counts ≡ true → are_printed (taken_fields counts) ≡ true
-unfolding taken_fields counts_fit
-taken_printed c h =
+counts_printed : (counts : DocumentCounts) → counts_fit counts ≡ true → are_printed (count_fields counts) ≡ true
+unfolding count_fields counts_fit
+counts_printed c h =
     printed_append (number_field (codes "entries") c.entries ++ number_field (codes "bundles") c.bundles ++ number_field (codes "changed") c.changed) (number_field (codes "removed") c.removed)
     (printed_append (number_field (codes "entries") c.entries ++ number_field (codes "bundles") c.bundles) (number_field (codes "changed") c.changed)
     (two_numbers_printed (codes "entries") (codes "bundles") c.entries c.bundles refl refl (first_true _ _ h))
     (number_below (codes "changed") c.changed refl (first_true _ _ (second_true _ _ h))))
     (number_below (codes "removed") c.removed refl (second_true _ _ (second_true _ _ h)))
+
+taken_printed : (publication : ℕ) (counts : DocumentCounts) → (nat_lt publication (2 ^ 64) && counts_fit counts) ≡ true → are_printed (taken_fields publication counts) ≡ true
+unfolding taken_fields
+taken_printed publication counts h =
+    printed_append (number_field (codes "publication") publication) (count_fields counts)
+    (number_below (codes "publication") publication refl (first_true (nat_lt publication (2 ^ 64)) (counts_fit counts) h))
+    (counts_printed counts (second_true (nat_lt publication (2 ^ 64)) (counts_fit counts) h))
+
+uid_printed : (uid : Option ℕ) → uid_fits uid ≡ true → are_printed (uid_field uid) ≡ true
+unfolding uid_field uid_fits
+uid_printed (Some uid) h = number_below (codes "uid") uid refl h
+uid_printed None h = refl
+
+call_printed : (c : EndedCall) → call_fits c ≡ true → are_printed (call_fields c) ≡ true
+unfolding call_fields call_fits
+call_printed c h =
+    printed_append (number_field (codes "socket") c.socket ++ word_field (codes "method") (method_name c.method) ++ word_field (codes "status") (status_name c.status)) (uid_field c.uid)
+    (printed_append (number_field (codes "socket") c.socket ++ word_field (codes "method") (method_name c.method)) (word_field (codes "status") (status_name c.status))
+    (printed_append (number_field (codes "socket") c.socket) (word_field (codes "method") (method_name c.method))
+    (number_below (codes "socket") c.socket refl (first_true _ _ h)) (word_printed (codes "method") (method_name c.method) refl (method_printed c.method)))
+    (word_printed (codes "status") (status_name c.status) refl (status_printed c.status)))
+    (uid_printed c.uid (second_true _ _ h))
 
 fields_printed : (event : Event) → fits event ≡ true → are_printed (fields event) ≡ true
 unfolding fields fits
@@ -290,7 +342,7 @@ fields_printed HostFailed h = refl
 fields_printed OutputFailed h = refl
 fields_printed OutOfMemory h = refl
 fields_printed (DocumentRefused fault) h = fault_printed fault.now
-fields_printed (DocumentTaken counts) h = taken_printed counts h
+fields_printed (DocumentTaken publication counts) h = taken_printed publication counts h
 fields_printed (AuthorityFailed cause since) h =
     printed_append (word_field (codes "cause") (pull_name cause)) (text_field (codes "since") since.now)
     (word_printed (codes "cause") (pull_name cause) refl (pull_printed cause)) (text_field_printed (codes "since") since.now refl)
@@ -324,6 +376,7 @@ fields_printed (Serving sockets) h = number_below (codes "sockets") sockets refl
 fields_printed (Stopping status) h = number_below (codes "status") status refl h
 fields_printed (Connected socket) h = number_below (codes "socket") socket refl h
 fields_printed (Closed socket) h = number_below (codes "socket") socket refl h
+fields_printed (Call call) h = call_printed call h
 
 repeated_printed : (n : ℕ) → n < 2 ^ 64 → are_printed (repeated n) ≡ true
 unfolding repeated

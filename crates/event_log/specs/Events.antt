@@ -15,7 +15,7 @@ use Rattle.event_log.specs.declared.causes.UnfitCause.TheVariants as unfit
 use Rattle.event_log.specs.declared.causes.ErrorCode.{ErrorCode}
 use Rattle.event_log.specs.declared.causes.ErrorCode.TheVariants as error
 use Rattle.event_log.specs.declared.event.Event.{Event}
-use Rattle.event_log.specs.declared.event.Event.TheVariants.{BindFailed, ConfigurationUnread, ConfigurationRefused, FirstDocumentRefused, NoFirstDocument, NoThread, ListenFailed, HostFailed, OutputFailed, OutOfMemory, DocumentRefused, DocumentTaken, AuthorityFailed, AuthorityBack, SigningFailed, TokenFailed, IdentityEnded, IdentityNotYetValid, CallerWaits, ConnectionBroken, LinkLate, ConnectionFailed, AttestationFailed, ConnectionsOfUidFull, SocketBoundAnew, Signed, SignerBack, Serving, Stopping, Connected, Closed}
+use Rattle.event_log.specs.declared.event.Event.TheVariants.{BindFailed, ConfigurationUnread, ConfigurationRefused, FirstDocumentRefused, NoFirstDocument, NoThread, ListenFailed, HostFailed, OutputFailed, OutOfMemory, DocumentRefused, DocumentTaken, AuthorityFailed, AuthorityBack, SigningFailed, TokenFailed, IdentityEnded, IdentityNotYetValid, CallerWaits, ConnectionBroken, LinkLate, ConnectionFailed, AttestationFailed, ConnectionsOfUidFull, SocketBoundAnew, Signed, SignerBack, Serving, Stopping, Connected, Closed, Call}
 
 unfoldable pub level_name : Level → List ℕ
 level_name Error = codes "error"
@@ -42,7 +42,7 @@ level_of HostFailed = Error
 level_of OutputFailed = Error
 level_of OutOfMemory = Error
 level_of (DocumentRefused _) = Warn
-level_of (DocumentTaken _) = Info
+level_of (DocumentTaken _ _) = Info
 level_of (AuthorityFailed _ _) = Warn
 level_of AuthorityBack = Info
 level_of (SigningFailed _ _) = Warn
@@ -62,6 +62,7 @@ level_of (Serving _) = Info
 level_of (Stopping _) = Info
 level_of (Connected _) = Debug
 level_of (Closed _) = Debug
+level_of (Call _) = Debug
 
 unfoldable pub event_name : Event → List ℕ
 event_name (BindFailed _ _) = codes "bind_failed"
@@ -75,7 +76,7 @@ event_name HostFailed = codes "host_failed"
 event_name OutputFailed = codes "output_failed"
 event_name OutOfMemory = codes "out_of_memory"
 event_name (DocumentRefused _) = codes "document_refused"
-event_name (DocumentTaken _) = codes "document_taken"
+event_name (DocumentTaken _ _) = codes "document_taken"
 event_name (AuthorityFailed _ _) = codes "authority_failed"
 event_name AuthorityBack = codes "authority_back"
 event_name (SigningFailed _ _) = codes "signing_failed"
@@ -95,6 +96,7 @@ event_name (Serving _) = codes "serving"
 event_name (Stopping _) = codes "stopping"
 event_name (Connected _) = codes "connected"
 event_name (Closed _) = codes "closed"
+event_name (Call _) = codes "call"
 
 unfoldable pub bind_name : BindCause → List ℕ
 bind_name Taken = codes "taken"

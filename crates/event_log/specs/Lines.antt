@@ -1,7 +1,8 @@
 -- The line of an event, in logfmt: ts, level and event first, then what the event says. Own rule.
-use Rattle.std.specs.Prelude.{ℕ, true, ◌==◌, ◌&&◌, ◌^◌, Bool, nat_lt, if◌then◌else◌, List, [], ◌++◌, codes}
+use Rattle.std.specs.Prelude.{ℕ, true, ◌==◌, ◌&&◌, ◌^◌, Bool, nat_lt, if◌then◌else◌, List, [], ◌++◌, codes, Option, Some, None}
 use Rattle.fault_lines.specs.Explanations.{explained_text}
 use Rattle.event_log.specs.Texts.{escaped, word_field, number_field, text_field}
+use Rattle.call_counts.specs.Names.{method_name, status_name}
 use Rattle.figures.specs.Labels.{link_name, late_name}
 use Rattle.event_log.specs.Events.{level_of, level_name, event_name, bind_name, reason_name, pull_name, sign_name, unfit_name, error_name}
 use Rattle.event_log.specs.declared.causes.BindCause.{BindCause}
@@ -9,8 +10,9 @@ use Rattle.event_log.specs.declared.causes.BindCause.TheVariants.{Taken, NotASoc
 use Rattle.event_log.specs.declared.causes.SignCause.{SignCause}
 use Rattle.event_log.specs.declared.causes.SignCause.TheVariants.{NotReached, TimedOut, NotAnAnswer, NotInDocument, Unfit}
 use Rattle.event_log.specs.declared.event.DocumentCounts.{DocumentCounts}
+use Rattle.event_log.specs.declared.event.EndedCall.{EndedCall}
 use Rattle.event_log.specs.declared.event.Event.{Event}
-use Rattle.event_log.specs.declared.event.Event.TheVariants.{BindFailed, ConfigurationUnread, ConfigurationRefused, FirstDocumentRefused, NoFirstDocument, NoThread, ListenFailed, HostFailed, OutputFailed, OutOfMemory, DocumentRefused, DocumentTaken, AuthorityFailed, AuthorityBack, SigningFailed, TokenFailed, IdentityEnded, IdentityNotYetValid, CallerWaits, ConnectionBroken, LinkLate, ConnectionFailed, AttestationFailed, ConnectionsOfUidFull, SocketBoundAnew, Signed, SignerBack, Serving, Stopping, Connected, Closed}
+use Rattle.event_log.specs.declared.event.Event.TheVariants.{BindFailed, ConfigurationUnread, ConfigurationRefused, FirstDocumentRefused, NoFirstDocument, NoThread, ListenFailed, HostFailed, OutputFailed, OutOfMemory, DocumentRefused, DocumentTaken, AuthorityFailed, AuthorityBack, SigningFailed, TokenFailed, IdentityEnded, IdentityNotYetValid, CallerWaits, ConnectionBroken, LinkLate, ConnectionFailed, AttestationFailed, ConnectionsOfUidFull, SocketBoundAnew, Signed, SignerBack, Serving, Stopping, Connected, Closed, Call}
 
 -- why a path could not be bound; with the system's reason where it refused
 unfoldable pub bind_fields : BindCause → List ℕ
@@ -28,10 +30,25 @@ sign_fields NotInDocument = word_field (codes "cause") (sign_name NotInDocument)
 sign_fields (Unfit fault) = word_field (codes "cause") (sign_name (Unfit fault)) ++ word_field (codes "fault") (unfit_name fault)
 
 -- what a document has, and in what it differs from the one before
-unfoldable pub taken_fields : DocumentCounts → List ℕ
-taken_fields c =
+unfoldable pub count_fields : DocumentCounts → List ℕ
+count_fields c =
     number_field (codes "entries") c.entries ++ number_field (codes "bundles") c.bundles
     ++ number_field (codes "changed") c.changed ++ number_field (codes "removed") c.removed
+
+-- and the publication that shows it
+unfoldable pub taken_fields : ℕ → DocumentCounts → List ℕ
+taken_fields publication c = number_field (codes "publication") publication ++ count_fields c
+
+-- the user of a caller, where it is known
+unfoldable pub uid_field : Option ℕ → List ℕ
+uid_field (Some uid) = number_field (codes "uid") uid
+uid_field None = []
+
+-- a call that ended
+unfoldable pub call_fields : EndedCall → List ℕ
+call_fields c =
+    number_field (codes "socket") c.socket ++ word_field (codes "method") (method_name c.method)
+    ++ word_field (codes "status") (status_name c.status) ++ uid_field c.uid
 
 -- a fault line and its sentence
 unfoldable pub fault_fields : List ℕ → List ℕ
@@ -50,7 +67,7 @@ fields HostFailed = []
 fields OutputFailed = []
 fields OutOfMemory = []
 fields (DocumentRefused fault) = fault_fields fault.now
-fields (DocumentTaken counts) = taken_fields counts
+fields (DocumentTaken publication counts) = taken_fields publication counts
 fields (AuthorityFailed cause since) = word_field (codes "cause") (pull_name cause) ++ text_field (codes "since") since.now
 fields AuthorityBack = []
 fields (SigningFailed ask cause) = text_field (codes "entry") ask.now.entry_id ++ sign_fields cause
@@ -70,6 +87,7 @@ fields (Serving sockets) = number_field (codes "sockets") sockets
 fields (Stopping status) = number_field (codes "status") status
 fields (Connected socket) = number_field (codes "socket") socket
 fields (Closed socket) = number_field (codes "socket") socket
+fields (Call call) = call_fields call
 
 -- how many lines like it were held back before it, where there are any
 unfoldable pub repeated : ℕ → List ℕ
@@ -88,10 +106,18 @@ line time event n = said time event n ++ codes "\n"
 unfoldable pub counts_fit : DocumentCounts → Bool
 counts_fit c = (nat_lt c.entries (2 ^ 64) && nat_lt c.bundles (2 ^ 64)) && (nat_lt c.changed (2 ^ 64) && nat_lt c.removed (2 ^ 64))
 
+unfoldable pub uid_fits : Option ℕ → Bool
+uid_fits (Some uid) = nat_lt uid (2 ^ 64)
+uid_fits None = true
+
+-- whether each number of a call has 64 bits
+unfoldable pub call_fits : EndedCall → Bool
+call_fits c = nat_lt c.socket (2 ^ 64) && uid_fits c.uid
+
 -- whether each number of an event has 64 bits
 unfoldable pub fits : Event → Bool
 fits (ListenFailed socket) = nat_lt socket (2 ^ 64)
-fits (DocumentTaken counts) = counts_fit counts
+fits (DocumentTaken publication counts) = nat_lt publication (2 ^ 64) && counts_fit counts
 fits (IdentityNotYetValid _ not_before) = nat_lt not_before (2 ^ 64)
 fits (CallerWaits socket _) = nat_lt socket (2 ^ 64)
 fits (ConnectionBroken socket _) = nat_lt socket (2 ^ 64)
@@ -104,4 +130,5 @@ fits (Serving sockets) = nat_lt sockets (2 ^ 64)
 fits (Stopping status) = nat_lt status (2 ^ 64)
 fits (Connected socket) = nat_lt socket (2 ^ 64)
 fits (Closed socket) = nat_lt socket (2 ^ 64)
+fits (Call call) = call_fits call
 fits _ = true

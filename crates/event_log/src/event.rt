@@ -4,6 +4,7 @@ use crate::causes::{BindCause, ErrorCode, PullCause, SignCause};
 use crate::fault_line::FaultLine;
 use crate::path_text::PathText;
 use crate::time_text::TimeText;
+use call_counts::{CallMethod, CallStatus};
 use figures::{LateCause, LinkCause};
 use wl_entry::Ask;
 
@@ -16,6 +17,17 @@ pub struct DocumentCounts {
     pub changed: u64,
     /// How many entries are gone.
     pub removed: u64,
+}
+
+/// A call that ended.
+#[derive(Clone, Copy, Debug, Drop, PartialEq, Eq)]
+pub struct EndedCall {
+    /// The number of its socket in the configuration, from 0.
+    pub socket: u32,
+    /// The user of its caller, where the kernel names it.
+    pub uid: Option<u32>,
+    pub method: CallMethod,
+    pub status: CallStatus,
 }
 
 /// An event: ids, causes, numbers and paths. A socket is named by its number in the configuration, from 0; of an ask the
@@ -44,8 +56,8 @@ pub enum Event<'a> {
     OutOfMemory,
     /// A later document has this fault, and nothing of it is taken.
     DocumentRefused(&'a FaultLine),
-    /// Another document than the last was taken.
-    DocumentTaken(DocumentCounts),
+    /// Another document than the last was taken, and the publication of this number shows it.
+    DocumentTaken(u64, DocumentCounts),
     /// No document came, for the first time at this time.
     AuthorityFailed(PullCause, &'a TimeText),
     /// A document came again.
@@ -84,4 +96,6 @@ pub enum Event<'a> {
     Connected(u32),
     /// A connection of this socket was closed.
     Closed(u32),
+    /// A call ended.
+    Call(EndedCall),
 }

@@ -12,12 +12,12 @@ pub enum Level {
     Warn,
     /// What an operator wants to know on a day without trouble.
     Info,
-    /// Each connection.
+    /// Each connection and each call.
     Debug,
 }
 
 impl Level {
-    /// 0 for errors, 3 for each connection.
+    /// 0 for errors, 3 for each connection and each call.
     #[tactic(auto, unfolding(crate::specs::Events::rank))]
     pub fn rank(self) -> u8
         ensures { result ≡ rank self }

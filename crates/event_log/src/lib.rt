@@ -17,7 +17,7 @@ pub mod texts;
 mod time_text;
 
 pub use causes::{BindCause, ErrorCode, PullCause, Reason, SignCause, UnfitCause};
-pub use event::{DocumentCounts, Event};
+pub use event::{DocumentCounts, EndedCall, Event};
 pub use fault_line::FaultLine;
 pub use laws::{lines_are_one, texts_are_printed};
 pub use level::Level;

@@ -4,10 +4,10 @@ ghost use Rattle.std.specs.Prelude.{◌≡◌, ◌++◌, OnOk, codes};
 ghost use Rattle.event_log.specs.Texts.{word_field, number_field, text_field};
 ghost use Rattle.figures.specs.Labels.{link_name, late_name};
 ghost use Rattle.event_log.specs.Events.{error_name};
-ghost use Rattle.event_log.specs.Lines.{bind_fields, sign_fields, fault_fields, taken_fields, fields, repeated, said, line};
+ghost use Rattle.event_log.specs.Lines.{bind_fields, sign_fields, fault_fields, count_fields, taken_fields, uid_field, call_fields, fields, repeated, said, line};
 
 use crate::causes::{BindCause, ErrorCode, SignCause};
-use crate::event::{DocumentCounts, Event};
+use crate::event::{DocumentCounts, EndedCall, Event};
 use crate::fault_line::FaultLine;
 use crate::path_text::PathText;
 use crate::texts::{put_escaped, put_number, put_text, put_word};
@@ -127,14 +127,28 @@ fn put_failed(alloc: Global, out: &mut Octets, socket: u32, cause: LinkCause) ->
 }
 
 /// Writes what a document has.
-#[tactic(auto, unfolding(crate::specs::Lines::taken_fields))]
-fn put_taken(alloc: Global, out: &mut Octets, counts: DocumentCounts) -> Result<(), Memory>
-    ensures { OnOk result (out.new ≡ out.old ++ taken_fields counts) }
+#[tactic(auto, unfolding(crate::specs::Lines::count_fields))]
+fn put_counts(alloc: Global, out: &mut Octets, counts: DocumentCounts) -> Result<(), Memory>
+    ensures { OnOk result (out.new ≡ out.old ++ count_fields counts) }
 {
     put_number(alloc, out, b"entries", counts.entries)?;
     put_number(alloc, out, b"bundles", counts.bundles)?;
     put_number(alloc, out, b"changed", counts.changed)?;
     put_number(alloc, out, b"removed", counts.removed)
+}
+
+/// Writes the publication that shows a document, and what the document has.
+#[tactic(auto, unfolding(crate::specs::Lines::taken_fields))]
+fn put_taken(
+    alloc: Global,
+    out: &mut Octets,
+    publication: u64,
+    counts: DocumentCounts,
+) -> Result<(), Memory>
+    ensures { OnOk result (out.new ≡ out.old ++ taken_fields publication counts) }
+{
+    put_number(alloc, out, b"publication", publication)?;
+    put_counts(alloc, out, counts)
 }
 
 /// Writes the socket of a caller, and its user.
@@ -144,6 +158,28 @@ fn put_user(alloc: Global, out: &mut Octets, socket: u32, uid: u32) -> Result<()
 {
     put_number(alloc, out, b"socket", u64::from(socket))?;
     put_number(alloc, out, b"uid", u64::from(uid))
+}
+
+/// Writes the user of a caller, where it is known.
+#[tactic(auto, unfolding(crate::specs::Lines::uid_field))]
+fn put_uid(alloc: Global, out: &mut Octets, uid: Option<u32>) -> Result<(), Memory>
+    ensures { OnOk result (out.new ≡ out.old ++ uid_field uid) }
+{
+    match uid {
+        Some(uid) => put_number(alloc, out, b"uid", u64::from(uid)),
+        None => Ok(()),
+    }
+}
+
+/// Writes a call that ended.
+#[tactic(auto, unfolding(crate::specs::Lines::call_fields))]
+fn put_call(alloc: Global, out: &mut Octets, call: EndedCall) -> Result<(), Memory>
+    ensures { OnOk result (out.new ≡ out.old ++ call_fields call) }
+{
+    put_number(alloc, out, b"socket", u64::from(call.socket))?;
+    put_word(out, b"method", call.method.name())?;
+    put_word(out, b"status", call.status.name())?;
+    put_uid(alloc, out, call.uid)
 }
 
 /// Writes the socket of a caller, and the entry of an ask.
@@ -165,7 +201,7 @@ fn put_fields(alloc: Global, out: &mut Octets, event: &Event<'_>) -> Result<(), 
         Event::ConfigurationRefused(fault)
         | Event::FirstDocumentRefused(fault)
         | Event::DocumentRefused(fault) => put_fault(alloc, out, fault),
-        Event::DocumentTaken(counts) => put_taken(alloc, out, *counts),
+        Event::DocumentTaken(publication, counts) => put_taken(alloc, out, *publication, *counts),
         Event::ListenFailed(socket)
         | Event::AttestationFailed(socket)
         | Event::Connected(socket)
@@ -189,6 +225,7 @@ fn put_fields(alloc: Global, out: &mut Octets, event: &Event<'_>) -> Result<(), 
         Event::SocketBoundAnew(path) => put_text(out, b"path", path.as_slice()),
         Event::Signed(ask, not_after) => put_moment(alloc, out, ask, b"not_after", *not_after),
         Event::Serving(sockets) => put_number(alloc, out, b"sockets", u64::from(*sockets)),
+        Event::Call(call) => put_call(alloc, out, *call),
         Event::Stopping(status) => put_number(alloc, out, b"status", u64::from(*status)),
         Event::ConfigurationUnread
         | Event::NoFirstDocument

@@ -140,13 +140,16 @@ impl<'a> Event<'a> {
             | Event::AttestationFailed(_)
             | Event::ConnectionsOfUidFull(_, _)
             | Event::SocketBoundAnew(_) => Level::Warn,
-            Event::DocumentTaken(_)
+            Event::DocumentTaken(_, _)
             | Event::AuthorityBack
             | Event::Signed(_, _)
             | Event::SignerBack
             | Event::Serving(_)
             | Event::Stopping(_) => Level::Info,
-            Event::Connected(_) | Event::ConnectionFailed(_, _) | Event::Closed(_) => Level::Debug,
+            Event::Connected(_)
+            | Event::ConnectionFailed(_, _)
+            | Event::Closed(_)
+            | Event::Call(_) => Level::Debug,
         }
     }
 
@@ -167,7 +170,7 @@ impl<'a> Event<'a> {
             Event::OutputFailed => b"output_failed",
             Event::OutOfMemory => b"out_of_memory",
             Event::DocumentRefused(_) => b"document_refused",
-            Event::DocumentTaken(_) => b"document_taken",
+            Event::DocumentTaken(_, _) => b"document_taken",
             Event::AuthorityFailed(_, _) => b"authority_failed",
             Event::AuthorityBack => b"authority_back",
             Event::SigningFailed(_, _) => b"signing_failed",
@@ -187,6 +190,7 @@ impl<'a> Event<'a> {
             Event::Stopping(_) => b"stopping",
             Event::Connected(_) => b"connected",
             Event::Closed(_) => b"closed",
+            Event::Call(_) => b"call",
         }
     }
 }

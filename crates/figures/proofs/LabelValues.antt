@@ -1,5 +1,5 @@
 -- An escaped value stands within quotes.
-use Rattle.std.proofs.Common.{ℕ, ◌≡◌, ◌==◌, Bool, true, false, if◌then◌else◌, List, [], ◌∷◌, ◌++◌, arith, refl, codes}
+use Rattle.std.proofs.Common.{ℕ, ◌≡◌, ◌==◌, Bool, true, false, if◌then◌else◌, List, [], ◌∷◌, ◌++◌, refl}
 use Rattle.figures.specs.Labels.{escaped, escaped_byte, is_within_quotes}
 
 if_within : (c : Bool) (xs ys rest : List ℕ) → (c ≡ true → is_within_quotes false (xs ++ rest) ≡ true) → (c ≡ false → is_within_quotes false (ys ++ rest) ≡ true) → is_within_quotes false ((if c then xs else ys) ++ rest) ≡ true

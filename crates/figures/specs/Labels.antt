@@ -1,5 +1,5 @@
 -- The values of labels, and how a value stands within its quotes (Prometheus, 'Text-based format', 0.0.4).
-use Rattle.std.specs.Prelude.{ℕ, ◌==◌, ◌&&◌, Bool, true, false, if◌then◌else◌, List, [], ◌∷◌, ◌++◌, codes}
+use Rattle.std.specs.Prelude.{ℕ, ◌==◌, Bool, true, false, if◌then◌else◌, List, [], ◌∷◌, ◌++◌, codes}
 use Rattle.figures.specs.declared.labels.DocumentResult.{DocumentResult}
 use Rattle.figures.specs.declared.labels.DocumentResult.TheVariants.{Taken, Refused, Failed}
 use Rattle.figures.specs.declared.labels.SigningKind.{SigningKind}

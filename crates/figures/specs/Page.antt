@@ -1,9 +1,10 @@
 -- The page of figures (Prometheus, 'Text-based format', 0.0.4): of each family its help, its type and then its samples.
 use Rattle.std.specs.Prelude.{ℕ, ◌+◌, ◌/◌, ◌%◌, List, [], ◌∷◌, ◌++◌, codes, Option, Some, None}
 use Rattle.std.specs.Fmt.{decimal}
-use Rattle.figures.specs.Families.{name_of, help_of, kind_of, kind_name}
-use Rattle.figures.specs.Labels.{document_result, signing_kind, signing_result, identity_state, bound_name, fault_name, direction_name, escaped}
-use Rattle.figures.specs.declared.family.Family.{Family}
+use Rattle.figures.specs.Families.{name_of}
+use Rattle.figures.specs.Labels.{signing_kind, signing_result, bound_name}
+use Rattle.figures.specs.Samples.{head, number_end, single, label_end, sample, socket_line}
+use Rattle.figures.specs.Calls.{calls_part}
 use Rattle.figures.specs.declared.family.Family.TheVariants as family
 use Rattle.figures.specs.declared.labels.DocumentResult.TheVariants as document
 use Rattle.figures.specs.declared.labels.SigningKind.{SigningKind}
@@ -17,7 +18,6 @@ use Rattle.figures.specs.declared.labels.RefusedCause.TheVariants.{Unattested, U
 use Rattle.figures.specs.declared.labels.FaultCause.{FaultCause}
 use Rattle.figures.specs.declared.labels.FaultCause.TheVariants as causes
 use Rattle.figures.specs.declared.labels.Direction.TheVariants as directions
-use Rattle.figures.specs.declared.sample.Counted.{Counted}
 use Rattle.figures.specs.declared.sample.Counted.TheVariants as counted
 use Rattle.figures.specs.declared.labels.Bound.{Bound}
 use Rattle.figures.specs.declared.labels.Bound.TheVariants as bounds
@@ -30,53 +30,6 @@ use Rattle.figures.specs.declared.figures.LinkFaults.{LinkFaults}
 use Rattle.figures.specs.declared.figures.Traffic.{Traffic}
 use Rattle.figures.specs.declared.figures.Figures.{Figures}
 
--- the two lines above a family's samples
-unfoldable pub head : Family → List ℕ
-head f = codes "# HELP " ++ name_of f ++ codes " " ++ help_of f ++ codes "\n# TYPE " ++ name_of f ++ codes " " ++ kind_name (kind_of f) ++ codes "\n"
-
--- what ends each sample: its number
-unfoldable pub number_end : ℕ → List ℕ
-number_end n = codes " " ++ decimal n ++ codes "\n"
-
--- a sample with no label
-unfoldable pub plain : Family → ℕ → List ℕ
-plain f n = name_of f ++ number_end n
-
--- a family that is one number
-unfoldable pub single : Family → ℕ → List ℕ
-single f n = head f ++ plain f n
-
--- one label, with its key and its value, which stands within the quotes already, and the number
-unfoldable pub label_end : List ℕ → List ℕ → ℕ → List ℕ
-label_end key value n = codes "{" ++ key ++ codes "=\"" ++ value ++ codes "\"}" ++ number_end n
-
--- a sample with one label
-unfoldable pub labelled : Family → List ℕ → List ℕ → ℕ → List ℕ
-labelled f key value n = name_of f ++ label_end key value n
-
--- the family of what is counted, and the key and the word of its one label
-unfoldable pub family_of : Counted → Family
-family_of (counted.Document _) = family.Documents
-family_of (counted.Identity _) = family.Identities
-family_of (counted.Fault _) = family.ConnectionFaults
-family_of (counted.Bytes _) = family.Bytes
-
-unfoldable pub key_of : Counted → List ℕ
-key_of (counted.Document _) = codes "result"
-key_of (counted.Identity _) = codes "state"
-key_of (counted.Fault _) = codes "cause"
-key_of (counted.Bytes _) = codes "direction"
-
-unfoldable pub word_of : Counted → List ℕ
-word_of (counted.Document outcome) = document_result outcome
-word_of (counted.Identity state) = identity_state state
-word_of (counted.Fault cause) = fault_name cause
-word_of (counted.Bytes direction) = direction_name direction
-
--- its sample
-unfoldable pub sample : Counted → ℕ → List ℕ
-sample c n = labelled (family_of c) (key_of c) (word_of c) n
-
 -- ---- documents
 
 unfoldable pub documents_part : Documents → List ℕ
@@ -88,6 +41,11 @@ documents_part d =
 unfoldable pub age_part : Option ℕ → List ℕ
 age_part (Some seconds) = single family.DocumentAge seconds
 age_part None = []
+
+-- nothing before the first publication
+unfoldable pub publication_part : Option ℕ → List ℕ
+publication_part (Some number) = single family.Publication number
+publication_part None = []
 
 -- ---- identities
 
@@ -141,9 +99,6 @@ seconds_part s = head family.SigningSeconds ++ buckets s ++ sum_line s.milliseco
 
 -- ---- connections
 
-unfoldable pub socket_line : Family → SocketFigures → ℕ → List ℕ
-socket_line f s n = labelled f (codes "socket") (escaped s.path) n
-
 -- one line for each socket, in the order of the configuration
 abbrev pub open_lines : List SocketFigures → List ℕ
 open_lines [] = []
@@ -178,12 +133,14 @@ traffic_part t =
     head family.Bytes ++ sample (counted.Bytes directions.Received) t.received ++ sample (counted.Bytes directions.Sent) t.sent
 
 unfoldable pub links_part : Figures → List ℕ
-links_part f = sockets_part f.sockets ++ faults_part f.faults ++ traffic_part f.traffic
+links_part f = sockets_part f.sockets ++ calls_part f.sockets ++ faults_part f.faults ++ traffic_part f.traffic
 
 -- ---- the whole
 
 unfoldable pub document_part : Figures → List ℕ
-document_part f = documents_part f.documents ++ age_part f.document_age ++ single family.Entries f.entries ++ single family.Bundles f.bundles
+document_part f =
+    documents_part f.documents ++ age_part f.document_age ++ publication_part f.publication
+    ++ single family.Entries f.entries ++ single family.Bundles f.bundles
 
 unfoldable pub process_part : Figures → List ℕ
 process_part f = single family.LinesDropped f.lines_dropped ++ single family.StartTime f.started

@@ -1,5 +1,7 @@
 //! Counters that threads add to.
 
+use crate::atomics::{add, read, zero};
+use crate::call_counters::CallCounters;
 use crate::figures::{
     Documents, Figures, Identities, LinkFaults, Seconds, Signings, SocketFigures, Traffic,
 };
@@ -8,6 +10,7 @@ use crate::labels::{
     SigningResult,
 };
 use crate::socket_path::SocketPath;
+use call_counts::CallCounts;
 use std::alloc::Global;
 use std::sync::atomic::{AtomicBool, AtomicU64, Ordering};
 use wl_octets::{Memory, Octets, Row};
@@ -24,6 +27,7 @@ struct SocketCounters {
     path: SocketPath,
     opened: AtomicU64,
     closed: AtomicU64,
+    calls: CallCounters,
 }
 
 /// How many connections failed, by cause.
@@ -49,6 +53,10 @@ pub struct Counters {
     came: AtomicU64,
     /// Whether one came.
     has_come: AtomicBool,
+    /// The number of the last publication.
+    publication: AtomicU64,
+    /// Whether there was one.
+    has_published: AtomicBool,
     entries: AtomicU64,
     bundles: AtomicU64,
     x509_signed: AtomicU64,
@@ -65,19 +73,21 @@ pub struct Counters {
     sent: AtomicU64,
 }
 
-/// Adds to a counter.
-fn add(counter: &AtomicU64, number: u64) {
-    counter.fetch_add(number, Ordering::SeqCst);
-}
-
-/// What stands in a counter.
-fn read(counter: &AtomicU64) -> u64 {
-    counter.load(Ordering::SeqCst)
-}
-
-/// A counter at 0.
-fn zero() -> AtomicU64 {
-    AtomicU64::new(0)
+impl SocketCounters {
+    /// What stands in the counters. What ended is read before what began.
+    fn figures(&self, alloc: Global) -> Result<SocketFigures, Memory> {
+        let closed = read(&self.closed);
+        let accepted = read(&self.opened);
+        let calls = self.calls.figures();
+        let begun = self.calls.begun();
+        Ok(SocketFigures {
+            path: self.path.copy(alloc)?,
+            open: accepted.saturating_sub(closed),
+            accepted,
+            streams: begun.saturating_sub(calls.all_ended()),
+            calls,
+        })
+    }
 }
 
 impl Counters {
@@ -89,6 +99,8 @@ impl Counters {
             failed: zero(),
             came: zero(),
             has_come: AtomicBool::new(false),
+            publication: zero(),
+            has_published: AtomicBool::new(false),
             entries: zero(),
             bundles: zero(),
             x509_signed: zero(),
@@ -120,6 +132,7 @@ impl Counters {
             path,
             opened: zero(),
             closed: zero(),
+            calls: CallCounters::start(),
         })?;
         Ok(())
     }
@@ -137,6 +150,12 @@ impl Counters {
     pub fn note_came(&self, now: u64) {
         self.came.store(now, Ordering::SeqCst);
         self.has_come.store(true, Ordering::SeqCst);
+    }
+
+    /// Notes the number of a publication. One with a higher number may have been noted before: then that stays.
+    pub fn note_publication(&self, number: u64) {
+        self.publication.fetch_max(number, Ordering::SeqCst);
+        self.has_published.store(true, Ordering::SeqCst);
     }
 
     /// Notes what the document in use has.
@@ -174,6 +193,16 @@ impl Counters {
     pub fn count_closed(&self, socket: u32) {
         if let Some(counters) = self.sockets.get(socket as usize) {
             add(&counters.closed, 1);
+        }
+    }
+
+    /// Counts what became of calls of a connection of the socket of this number.
+    pub fn count_calls(&self, socket: u32, calls: &CallCounts) {
+        if calls.is_empty() {
+            return;
+        }
+        if let Some(counters) = self.sockets.get(socket as usize) {
+            counters.calls.count(calls);
         }
     }
 
@@ -220,17 +249,19 @@ impl Counters {
         Some(now.saturating_sub(read(&self.came)) / SECOND)
     }
 
+    /// The number of the last publication; nothing before the first.
+    fn last_publication(&self) -> Option<u64> {
+        if !self.has_published.load(Ordering::SeqCst) {
+            return None;
+        }
+        Some(read(&self.publication))
+    }
+
     /// The figures of the sockets.
     fn socket_figures(&self, alloc: Global) -> Result<Row<SocketFigures>, Memory> {
         let mut sockets = Row::empty(alloc);
         for counters in self.sockets.iter() {
-            let closed = read(&counters.closed);
-            let accepted = read(&counters.opened);
-            let figures = SocketFigures {
-                path: counters.path.copy(alloc)?,
-                open: accepted.saturating_sub(closed),
-                accepted,
-            };
+            let figures = counters.figures(alloc)?;
             sockets.push(figures).map_err(|_| Memory)?;
         }
         Ok(sockets)
@@ -267,6 +298,7 @@ impl Counters {
                 failed: read(&self.failed),
             },
             document_age: self.document_age(now),
+            publication: self.last_publication(),
             entries: read(&self.entries),
             bundles: read(&self.bundles),
             identities,

@@ -8,6 +8,7 @@ ghost use Rattle.figures.specs.Families.{name_of, help_of, kind_of, kind_name};
 pub enum Family {
     Documents,
     DocumentAge,
+    Publication,
     Entries,
     Bundles,
     Identities,
@@ -16,6 +17,9 @@ pub enum Family {
     SigningSeconds,
     Connections,
     ConnectionsTotal,
+    Streams,
+    Calls,
+    Messages,
     ConnectionFaults,
     Bytes,
     LinesDropped,
@@ -42,6 +46,7 @@ impl Family {
         match self {
             Family::Documents => b"agentd_documents_total",
             Family::DocumentAge => b"agentd_document_age_seconds",
+            Family::Publication => b"agentd_publication",
             Family::Entries => b"agentd_entries",
             Family::Bundles => b"agentd_bundles",
             Family::Identities => b"agentd_identities",
@@ -50,6 +55,9 @@ impl Family {
             Family::SigningSeconds => b"agentd_signing_seconds",
             Family::Connections => b"agentd_connections",
             Family::ConnectionsTotal => b"agentd_connections_total",
+            Family::Streams => b"agentd_streams",
+            Family::Calls => b"agentd_calls_total",
+            Family::Messages => b"agentd_messages_total",
             Family::ConnectionFaults => b"agentd_connection_faults_total",
             Family::Bytes => b"agentd_bytes_total",
             Family::LinesDropped => b"agentd_log_lines_dropped_total",
@@ -65,6 +73,7 @@ impl Family {
         match self {
             Family::Documents => b"Pulls of the document, by result.",
             Family::DocumentAge => b"Seconds since a document that was taken came last.",
+            Family::Publication => b"Number of the last publication.",
             Family::Entries => b"Entries of the document in use.",
             Family::Bundles => b"Bundles of the document in use.",
             Family::Identities =>
@@ -74,6 +83,9 @@ impl Family {
             Family::SigningSeconds => b"Seconds that asks of the signer took.",
             Family::Connections => b"Open connections, by socket.",
             Family::ConnectionsTotal => b"Accepted connections, by socket.",
+            Family::Streams => b"Calls that have not ended, by socket.",
+            Family::Calls => b"Calls that ended, by socket, method and status.",
+            Family::Messages => b"Messages that answered calls, by socket and method.",
             Family::ConnectionFaults => b"Connections that failed, by cause.",
             Family::Bytes => b"Bytes of connections, by direction.",
             Family::LinesDropped => b"Lines of the log that could not be written at once.",
@@ -90,15 +102,19 @@ impl Family {
             Family::Documents
             | Family::Signings
             | Family::ConnectionsTotal
+            | Family::Calls
+            | Family::Messages
             | Family::ConnectionFaults
             | Family::Bytes
             | Family::LinesDropped => Kind::Counter,
             Family::DocumentAge
+            | Family::Publication
             | Family::Entries
             | Family::Bundles
             | Family::Identities
             | Family::NextEnd
             | Family::Connections
+            | Family::Streams
             | Family::StartTime => Kind::Gauge,
             Family::SigningSeconds => Kind::Histogram,
         }

@@ -1,5 +1,6 @@
 //! What the page of figures says.
 
+use crate::call_figures::CallFigures;
 use crate::socket_path::SocketPath;
 use wl_octets::Row;
 
@@ -44,7 +45,7 @@ pub struct Seconds {
     pub milliseconds: u64,
 }
 
-/// The connections of a socket.
+/// The connections of a socket, and their calls.
 #[derive(Drop)]
 pub struct SocketFigures {
     pub path: SocketPath,
@@ -52,6 +53,9 @@ pub struct SocketFigures {
     pub open: u64,
     /// How many were accepted since the process started.
     pub accepted: u64,
+    /// How many of their calls have not ended.
+    pub streams: u64,
+    pub calls: CallFigures,
 }
 
 /// How many connections failed, by cause.
@@ -84,6 +88,8 @@ pub struct Figures {
     pub documents: Documents,
     /// How many seconds ago a document that was taken came last; nothing before the first.
     pub document_age: Option<u64>,
+    /// The number of the last publication; nothing before the first.
+    pub publication: Option<u64>,
     /// Entries of the document in use.
     pub entries: u64,
     /// Bundles of the document in use.

@@ -4,6 +4,10 @@
 //! these. No figure can hold the bytes of a key, a token or a message, and no label has a value that a caller chooses.
 #![tactic(auto)]
 
+mod atomics;
+mod call_counters;
+mod call_figures;
+mod call_text;
 mod counters;
 mod escapes;
 mod family;
@@ -11,11 +15,13 @@ mod figures;
 mod health;
 mod labels;
 mod laws;
+mod lines;
 mod sample;
 mod shows;
 mod socket_path;
 mod text;
 
+pub use call_figures::{CallFigures, MethodFigures};
 pub use counters::Counters;
 pub use family::{Family, Kind};
 pub use figures::{

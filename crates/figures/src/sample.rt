@@ -1,7 +1,7 @@
 //! Samples with one label whose value is a word.
 
 ghost use Rattle.std.specs.Prelude.{◌≡◌};
-ghost use Rattle.figures.specs.Page.{family_of, key_of, word_of};
+ghost use Rattle.figures.specs.Samples.{family_of, key_of, word_of};
 
 use crate::family::Family;
 use crate::labels::{Direction, DocumentResult, FaultCause, IdentityState};
@@ -17,7 +17,7 @@ pub(crate) enum Counted {
 
 impl Counted {
     /// The family of the sample.
-    #[tactic(auto, unfolding(crate::specs::Page::family_of))]
+    #[tactic(auto, unfolding(crate::specs::Samples::family_of))]
     pub(crate) fn family(self) -> Family
         ensures { result ≡ family_of self }
     {
@@ -30,7 +30,7 @@ impl Counted {
     }
 
     /// The key of its label.
-    #[tactic(auto, unfolding(crate::specs::Page::key_of))]
+    #[tactic(auto, unfolding(crate::specs::Samples::key_of))]
     pub(crate) fn key(self) -> &'static [u8]
         ensures { result.now ≡ key_of self }
     {
@@ -43,7 +43,7 @@ impl Counted {
     }
 
     /// The value of its label.
-    #[tactic(auto, unfolding(crate::specs::Page::word_of))]
+    #[tactic(auto, unfolding(crate::specs::Samples::word_of))]
     pub(crate) fn word(self) -> &'static [u8]
         ensures { result.now ≡ word_of self }
     {

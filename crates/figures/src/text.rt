@@ -1,9 +1,9 @@
 //! The page of figures, as text.
 
 ghost use Rattle.std.specs.Prelude.{◌≡◌, ◌++◌, OnOk, IfOk};
-ghost use Rattle.figures.specs.Page.{head, number_end, plain, single, label_end, labelled, sample, documents_part, age_part, end_part, identities_part, signing_line, kind_lines, signings_part, bucket, buckets, in_seconds, sum_line, count_line, seconds_part, socket_line, open_lines, accepted_lines, sockets_part, fault_line, failed_lines, closed_lines, faults_part, traffic_part, links_part, document_part, process_part, page};
+ghost use Rattle.figures.specs.Page.{documents_part, age_part, publication_part, end_part, identities_part, signing_line, kind_lines, signings_part, bucket, buckets, in_seconds, sum_line, count_line, seconds_part, open_lines, accepted_lines, sockets_part, fault_line, failed_lines, closed_lines, faults_part, traffic_part, links_part, document_part, process_part, page};
 
-use crate::escapes::put_escaped;
+use crate::call_text::put_calls;
 use crate::family::Family;
 use crate::figures::{
     Documents, Figures, Identities, LinkFaults, Seconds, Signings, SocketFigures, Traffic,
@@ -12,6 +12,9 @@ use crate::labels::{
     Bound, Direction, DocumentResult, FaultCause, IdentityState, LateCause, LinkCause,
     RefusedCause, SigningKind, SigningResult,
 };
+use crate::lines::{
+    put_head, put_label_end, put_number_end, put_sample, put_single, put_socket_line,
+};
 use crate::sample::Counted;
 use std::alloc::Global;
 use std::string::ToString;
@@ -19,86 +22,6 @@ use wl_octets::{Memory, Octets};
 
 /// How many milliseconds a second has.
 const SECOND: u64 = 1_000;
-
-#[tactic(auto, unfolding(crate::specs::Page::head))]
-fn put_head(out: &mut Octets, family: Family) -> Result<(), Memory>
-    ensures { OnOk result (out.new ≡ out.old ++ head family) }
-{
-    out.push_slice(b"# HELP ")?;
-    out.push_slice(family.name())?;
-    out.push_slice(b" ")?;
-    out.push_slice(family.help())?;
-    out.push_slice(b"\n# TYPE ")?;
-    out.push_slice(family.name())?;
-    out.push_slice(b" ")?;
-    out.push_slice(family.kind().name())?;
-    out.push_slice(b"\n")
-}
-
-/// Writes what ends a sample.
-#[tactic(auto, unfolding(crate::specs::Page::number_end))]
-fn put_number_end(alloc: Global, out: &mut Octets, number: u64) -> Result<(), Memory>
-    ensures { OnOk result (out.new ≡ out.old ++ number_end number) }
-{
-    out.push_slice(b" ")?;
-    let text = number.to_string(alloc)?;
-    out.push_slice(text.as_bytes())?;
-    out.push_slice(b"\n")
-}
-
-/// Writes a family that is one number.
-#[tactic(auto, unfolding(crate::specs::Page::single, crate::specs::Page::plain))]
-fn put_single(alloc: Global, out: &mut Octets, family: Family, number: u64) -> Result<(), Memory>
-    ensures { OnOk result (out.new ≡ out.old ++ single family number) }
-{
-    put_head(out, family)?;
-    out.push_slice(family.name())?;
-    put_number_end(alloc, out, number)
-}
-
-/// Writes one label, whose value stands within the quotes already, and the number.
-#[tactic(auto, unfolding(crate::specs::Page::label_end))]
-fn put_label_end(
-    alloc: Global,
-    out: &mut Octets,
-    key: &[u8],
-    value: &[u8],
-    number: u64,
-) -> Result<(), Memory>
-    ensures { OnOk result (out.new ≡ out.old ++ label_end key.now value.now number) }
-{
-    out.push_slice(b"{")?;
-    out.push_slice(key)?;
-    out.push_slice(b"=\"")?;
-    out.push_slice(value)?;
-    out.push_slice(b"\"}")?;
-    put_number_end(alloc, out, number)
-}
-
-/// Writes a sample with one label, whose value stands within the quotes already.
-#[tactic(auto, unfolding(crate::specs::Page::labelled))]
-fn put_labelled(
-    alloc: Global,
-    out: &mut Octets,
-    family: Family,
-    key: &[u8],
-    value: &[u8],
-    number: u64,
-) -> Result<(), Memory>
-    ensures { OnOk result (out.new ≡ out.old ++ labelled family key.now value.now number) }
-{
-    out.push_slice(family.name())?;
-    put_label_end(alloc, out, key, value, number)
-}
-
-/// Writes a sample of what is counted.
-#[tactic(auto, unfolding(crate::specs::Page::sample))]
-fn put_sample(alloc: Global, out: &mut Octets, counted: Counted, number: u64) -> Result<(), Memory>
-    ensures { OnOk result (out.new ≡ out.old ++ sample counted number) }
-{
-    let (family, key) = (counted.family(), counted.key());
-    put_labelled(alloc, out, family, key, counted.word(), number)
-}
 
 #[tactic(auto, unfolding(crate::specs::Page::documents_part))]
 fn put_documents(alloc: Global, out: &mut Octets, documents: Documents) -> Result<(), Memory>
@@ -135,12 +58,23 @@ fn put_age(alloc: Global, out: &mut Octets, age: Option<u64>) -> Result<(), Memo
     }
 }
 
+#[tactic(auto, unfolding(crate::specs::Page::publication_part))]
+fn put_publication(alloc: Global, out: &mut Octets, publication: Option<u64>) -> Result<(), Memory>
+    ensures { OnOk result (out.new ≡ out.old ++ publication_part publication) }
+{
+    match publication {
+        Some(number) => put_single(alloc, out, Family::Publication, number),
+        None => Ok(()),
+    }
+}
+
 #[tactic(auto, unfolding(crate::specs::Page::document_part))]
 fn put_document_part(alloc: Global, out: &mut Octets, figures: &Figures) -> Result<(), Memory>
     ensures { OnOk result (out.new ≡ out.old ++ document_part figures.now) }
 {
     put_documents(alloc, out, figures.documents)?;
     put_age(alloc, out, figures.document_age)?;
+    put_publication(alloc, out, figures.publication)?;
     put_single(alloc, out, Family::Entries, figures.entries)?;
     put_single(alloc, out, Family::Bundles, figures.bundles)
 }
@@ -294,22 +228,6 @@ fn put_seconds(alloc: Global, out: &mut Octets, seconds: &Seconds) -> Result<(),
     put_count_line(alloc, out, seconds.count)
 }
 
-/// Writes a sample of a socket.
-#[tactic(auto, unfolding(crate::specs::Page::socket_line))]
-fn put_socket_line(
-    alloc: Global,
-    out: &mut Octets,
-    family: Family,
-    socket: &SocketFigures,
-    number: u64,
-) -> Result<(), Memory>
-    ensures { OnOk result (out.new ≡ out.old ++ socket_line family socket.now number) }
-{
-    let mut value = Octets::empty(alloc);
-    put_escaped(&mut value, socket.path.as_slice())?;
-    put_labelled(alloc, out, family, b"socket", value.as_slice(), number)
-}
-
 fn put_open_lines(alloc: Global, out: &mut Octets, sockets: &[SocketFigures]) -> Result<(), Memory>
     ensures { OnOk result (out.new ≡ out.old ++ open_lines sockets.now) }
 {
@@ -433,6 +351,7 @@ fn put_links(alloc: Global, out: &mut Octets, figures: &Figures) -> Result<(), M
     ensures { OnOk result (out.new ≡ out.old ++ links_part figures.now) }
 {
     put_sockets(alloc, out, figures.sockets.as_slice())?;
+    put_calls(alloc, out, figures.sockets.as_slice())?;
     put_faults(alloc, out, figures.faults)?;
     put_traffic(alloc, out, figures.traffic)
 }

@@ -55,6 +55,11 @@ impl Log {
         self.rank.store(level.rank(), Ordering::SeqCst);
     }
 
+    /// Whether it says events of this level. A warning or graver one goes to a supervisor whatever the level is.
+    pub fn says(&self, level: Level) -> bool {
+        level.rank() <= self.rank.load(Ordering::SeqCst)
+    }
+
     /// The runtime that it has.
     pub fn runtime(&self) -> &HostRuntime {
         &self.rt
@@ -101,9 +106,9 @@ impl Log {
 
     /// Writes an event of this time as a line, and tells a supervisor the last one that is a warning or graver.
     fn say_line(&self, now: u64, event: &Event<'_>, held: u64) -> Result<(), Memory> {
-        let rank = event.level().rank();
-        let is_said = rank <= self.rank.load(Ordering::SeqCst);
-        let is_state = rank <= Level::Warn.rank() && self.supervisor.is_some();
+        let level = event.level();
+        let is_said = self.says(level);
+        let is_state = level.rank() <= Level::Warn.rank() && self.supervisor.is_some();
         if !is_said && !is_state {
             return Ok(());
         }

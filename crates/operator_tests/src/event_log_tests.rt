@@ -1,5 +1,6 @@
 //! Lines of events, as an operator reads them.
 
+use call_counts::{CallMethod, CallStatus};
 use event_log::*;
 use figures::LateCause;
 use spiffe_id::SpiffeId;
@@ -141,6 +142,50 @@ fn refused_callers_are_named_by_socket_and_user(rt: HostRuntime) {
         &Event::ConnectionsOfUidFull(0, 1_000),
         9,
         b"level=warn event=connections_of_uid_full socket=0 uid=1000 repeated=9\n",
+    );
+}
+
+#[test]
+fn calls_are_named_by_method_and_status(rt: HostRuntime) {
+    let call = EndedCall {
+        socket: 0,
+        uid: None,
+        method: CallMethod::FetchX509Svid,
+        status: CallStatus::Ok,
+    };
+    let answered = Event::Call(call);
+    says(
+        &rt,
+        &answered,
+        0,
+        b"level=debug event=call socket=0 method=FetchX509SVID status=OK\n",
+    );
+    let gone = Event::Call(EndedCall {
+        uid: Some(1_000),
+        status: CallStatus::Cancelled,
+        ..call
+    });
+    ends(
+        &rt,
+        &gone,
+        b" socket=0 method=FetchX509SVID status=CANCELLED uid=1000\n",
+    );
+}
+
+#[test]
+fn documents_are_named_by_their_publication(rt: HostRuntime) {
+    let counts = DocumentCounts {
+        entries: 7,
+        bundles: 2,
+        changed: 1,
+        removed: 0,
+    };
+    let taken = Event::DocumentTaken(3, counts);
+    says(
+        &rt,
+        &taken,
+        0,
+        b"level=info event=document_taken publication=3 entries=7 bundles=2 changed=1 removed=0\n",
     );
 }
 

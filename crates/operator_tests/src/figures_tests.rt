@@ -1,5 +1,6 @@
 //! A page of figures, as Prometheus reads it.
 
+use call_counts::{CallCounts, CallMethod, CallStatus};
 use figures::*;
 use std::alloc::AllocGlobal;
 use std::process::Abort;
@@ -14,6 +15,9 @@ agentd_documents_total{result=\"failed\"} 1
 # HELP agentd_document_age_seconds Seconds since a document that was taken came last.
 # TYPE agentd_document_age_seconds gauge
 agentd_document_age_seconds 4
+# HELP agentd_publication Number of the last publication.
+# TYPE agentd_publication gauge
+agentd_publication 12
 # HELP agentd_entries Entries of the document in use.
 # TYPE agentd_entries gauge
 agentd_entries 7
@@ -46,9 +50,25 @@ agentd_signing_seconds_count 2
 # HELP agentd_connections Open connections, by socket.
 # TYPE agentd_connections gauge
 agentd_connections{socket=\"/run/a\\\"b\"} 1
+agentd_connections{socket=\"/run/c\"} 0
 # HELP agentd_connections_total Accepted connections, by socket.
 # TYPE agentd_connections_total counter
 agentd_connections_total{socket=\"/run/a\\\"b\"} 2
+agentd_connections_total{socket=\"/run/c\"} 0
+# HELP agentd_streams Calls that have not ended, by socket.
+# TYPE agentd_streams gauge
+agentd_streams{socket=\"/run/a\\\"b\"} 1
+agentd_streams{socket=\"/run/c\"} 0
+# HELP agentd_calls_total Calls that ended, by socket, method and status.
+# TYPE agentd_calls_total counter
+agentd_calls_total{socket=\"/run/a\\\"b\",method=\"FetchX509SVID\",status=\"CANCELLED\"} 1
+agentd_calls_total{socket=\"/run/a\\\"b\",method=\"FetchX509SVID\",status=\"PERMISSION_DENIED\"} 2
+agentd_calls_total{socket=\"/run/c\",method=\"Check\",status=\"OK\"} 1
+agentd_calls_total{socket=\"/run/c\",method=\"unread\",status=\"HTTP\"} 1
+# HELP agentd_messages_total Messages that answered calls, by socket and method.
+# TYPE agentd_messages_total counter
+agentd_messages_total{socket=\"/run/a\\\"b\",method=\"FetchX509SVID\"} 3
+agentd_messages_total{socket=\"/run/c\",method=\"Check\"} 1
 # HELP agentd_connection_faults_total Connections that failed, by cause.
 # TYPE agentd_connection_faults_total counter
 agentd_connection_faults_total{cause=\"receive_failed\"} 1
@@ -88,12 +108,54 @@ fn count_failures(counters: &Counters) {
     }
 }
 
+/// Counts of so many calls of this method that began, of messages for them, and of ends with this status.
+fn calls(
+    method: CallMethod,
+    begun: u32,
+    messages: u32,
+    status: CallStatus,
+    ended: u32,
+) -> CallCounts {
+    let mut counts = CallCounts::zero();
+    for _ in 0..begun {
+        counts.count_begin(method);
+    }
+    for _ in 0..messages {
+        counts.count_message(method);
+    }
+    for _ in 0..ended {
+        counts.count_end(method, status);
+    }
+    counts
+}
+
+/// Counts some calls of two sockets, and of one that isn't there.
+fn count_calls(counters: &Counters) {
+    let (svid, check, unread) = (
+        CallMethod::FetchX509Svid,
+        CallMethod::Check,
+        CallMethod::Unread,
+    );
+    for (socket, counts) in [
+        (0, calls(svid, 3, 3, CallStatus::PermissionDenied, 2)),
+        (0, calls(svid, 1, 0, CallStatus::Cancelled, 1)),
+        (1, calls(check, 1, 1, CallStatus::Ok, 1)),
+        (1, calls(unread, 1, 0, CallStatus::Http, 1)),
+        (1, CallCounts::zero()),
+        (2, calls(check, 1, 1, CallStatus::Ok, 1)),
+    ] {
+        counters.count_calls(socket, &counts);
+    }
+}
+
 #[test]
 fn page_has_what_was_counted(rt: HostRuntime) {
     let alloc = rt.alloc();
     let mut counters = Counters::start(alloc);
     let socket = octets(&rt, b"/run/a\"b");
     counters.add_socket(alloc, &socket).expect(&rt, "memory");
+    let other = octets(&rt, b"/run/c");
+    counters.add_socket(alloc, &other).expect(&rt, "memory");
     counters.count_document(DocumentResult::Failed);
     counters.count_document(DocumentResult::Taken);
     counters.note_came(1_000);
@@ -104,6 +166,9 @@ fn page_has_what_was_counted(rt: HostRuntime) {
     counters.count_opened(0);
     counters.count_closed(0);
     counters.count_opened(9);
+    count_calls(&counters);
+    counters.note_publication(12);
+    counters.note_publication(11);
     count_failures(&counters);
     counters.count_bytes(Direction::Received, 70);
     counters.count_bytes(Direction::Sent, 900);
@@ -152,4 +217,54 @@ fn health_is_written_in_lines(rt: HostRuntime) {
     says(&rt, &health, b"ready\n");
     assert_eq!(rt; live_text(health.is_live), b"live\n".as_slice());
     drop(health);
+}
+
+/// The figures of no sockets, and before the first document.
+#[test]
+fn figures_begin_with_nothing(rt: HostRuntime) {
+    let alloc = rt.alloc();
+    let counters = Counters::start(alloc);
+    counters.count_calls(0, &CallCounts::zero());
+    let identities = Identities {
+        kept: 0,
+        missing: 0,
+        next_end: None,
+    };
+    let figures = counters.figures(alloc, 0, 0, 0, identities);
+    let figures = figures.expect(&rt, "memory");
+    assert_eq!(rt; (figures.publication, figures.sockets.len()), (None, 0));
+    counters.note_publication(0);
+    drop(figures);
+    let figures = counters.figures(alloc, 0, 0, 0, identities);
+    let figures = figures.expect(&rt, "memory");
+    assert_eq!(rt; figures.publication, Some(0));
+    drop(figures);
+}
+
+/// A socket's line of streams stands always, and its lines of calls and messages only where there are any.
+#[test]
+fn sockets_without_calls_have_a_line_of_streams(rt: HostRuntime) {
+    let alloc = rt.alloc();
+    let mut counters = Counters::start(alloc);
+    let socket = octets(&rt, b"/run/c");
+    counters.add_socket(alloc, &socket).expect(&rt, "memory");
+    let identities = Identities {
+        kept: 0,
+        missing: 0,
+        next_end: None,
+    };
+    let figures = counters.figures(alloc, 0, 0, 0, identities);
+    let figures = figures.expect(&rt, "memory");
+    let text = metrics_text(alloc, &figures).expect(&rt, "memory");
+    let text = str::from_utf8(text.as_slice()).expect(&rt, "text");
+    assert!(rt; text.contains("\nagentd_streams{socket=\"/run/c\"} 0\n"));
+    assert!(rt;
+        text.contains("\n# TYPE agentd_calls_total counter\n# HELP agentd_messages_total ")
+    );
+    assert!(rt;
+        text.contains(
+            "\n# TYPE agentd_messages_total counter\n# HELP agentd_connection_faults_total "
+        )
+    );
+    drop(figures);
 }

@@ -2,6 +2,8 @@
 #![tactic(auto)]
 
 #[cfg(test)]
+mod call_counts_tests;
+#[cfg(test)]
 mod event_log_tests;
 #[cfg(test)]
 mod fault_lines_tests;

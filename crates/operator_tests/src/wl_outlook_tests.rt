@@ -1,5 +1,6 @@
 //! What is said and counted of documents, and which entries lack an identity.
 
+use call_counts::{CallCounts, CallMethod, CallStatus};
 use event_log::{FaultLine, Level};
 use figures::{Counters, Shows, SigningKind, SigningResult};
 use log_output::{Log, LogOutput};
@@ -107,11 +108,15 @@ fn is_ready(rt: &(impl AllocGlobal + Abort), outlook: &Outlook) -> bool {
 fn documents_are_counted_and_judged_once(rt: HostRuntime) {
     let (outlook, _ours, mut theirs) = watched(&rt, &rt);
     assert!(rt; !is_ready(&rt, &outlook));
+    outlook.note_taken(1);
     judge_four(&rt, &outlook);
+    outlook.note_taken(2);
+    outlook.note_taken(3);
     counts_four(&rt, &outlook);
     assert!(rt; is_ready(&rt, &outlook) && is_shared(&outlook));
     let said = text_of(&rt, &mut theirs);
-    let taken = "level=info event=document_taken entries=0 bundles=1 changed=0 removed=0\n";
+    let taken =
+        "level=info event=document_taken publication=2 entries=0 bundles=1 changed=0 removed=0\n";
     let refused =
         "level=warn event=document_refused fault=\"fault document 2\" text=\"version: is neither 1 nor 2\"\n";
     assert!(rt; said.lines().count() == 2 && said.contains(taken) && said.contains(refused));
@@ -121,18 +126,20 @@ fn documents_are_counted_and_judged_once(rt: HostRuntime) {
 #[test]
 fn documents_are_compared_with_the_one_before(rt: HostRuntime) {
     let (outlook, _ours, mut theirs) = watched(&rt, &rt);
-    let mut judge = DocumentJudge::start(rt.alloc(), outlook, OneName);
-    for document in [TWO, BAD, OTHERS, TWO] {
+    let owner = Arc::try_clone(&outlook).expect(&rt, "owner");
+    let mut judge = DocumentJudge::start(rt.alloc(), owner, OneName);
+    for (publication, document) in [(4, TWO), (5, BAD), (6, OTHERS), (9, TWO)] {
         judge.note_document(document);
+        outlook.note_taken(publication);
     }
     let said = text_of(&rt, &mut theirs);
     let mut counts = said
         .lines()
         .filter_map(|line| line.split_once("document_taken "));
     for expected in [
-        "entries=2 bundles=1 changed=2 removed=0",
-        "entries=2 bundles=1 changed=2 removed=1",
-        "entries=2 bundles=1 changed=2 removed=1",
+        "publication=4 entries=2 bundles=1 changed=2 removed=0",
+        "publication=6 entries=2 bundles=1 changed=2 removed=1",
+        "publication=9 entries=2 bundles=1 changed=2 removed=1",
     ] {
         let found = counts.next().map(|parts| parts.1);
         assert_eq!(rt; found, Some(expected));
@@ -154,6 +161,49 @@ fn what_is_noted_is_counted(rt: HostRuntime) {
     let health = outlook.health().expect(&rt, "health");
     assert!(rt; health.is_live);
     drop(health);
+}
+
+/// Counts of three calls: one is answered by a message, one is refused, and one's caller went away.
+fn three_calls() -> CallCounts {
+    let mut calls = CallCounts::zero();
+    for (method, status) in [
+        (CallMethod::FetchX509Svid, CallStatus::PermissionDenied),
+        (CallMethod::FetchX509Svid, CallStatus::Cancelled),
+        (CallMethod::Check, CallStatus::Ok),
+    ] {
+        calls.count_begin(method);
+        calls.count_end(method, status);
+    }
+    calls.count_message(CallMethod::Check);
+    calls
+}
+
+/// Calls that ended are said where the log says each connection, and nowhere else.
+#[test]
+fn calls_are_said_at_the_last_level(rt: HostRuntime) {
+    let (outlook, _ours, mut theirs) = watched(&rt, &rt);
+    let calls = three_calls();
+    outlook.note_calls(0, None, &calls);
+    outlook.log().set_level(Level::Debug);
+    outlook.note_calls(1, Some(7), &calls);
+    outlook.note_calls(1, None, &CallCounts::zero());
+    outlook.note_publication(4);
+    let said = text_of(&rt, &mut theirs);
+    let mut calls = said
+        .lines()
+        .filter_map(|line| line.split_once("event=call "));
+    for expected in [
+        "socket=1 method=FetchX509SVID status=CANCELLED uid=7",
+        "socket=1 method=FetchX509SVID status=PERMISSION_DENIED uid=7",
+        "socket=1 method=Check status=OK uid=7",
+    ] {
+        let found = calls.next().map(|parts| parts.1);
+        assert_eq!(rt; found, Some(expected));
+    }
+    assert!(rt; calls.next().is_none());
+    let figures = outlook.figures().expect(&rt, "figures");
+    assert_eq!(rt; figures.publication, Some(4));
+    drop(figures);
 }
 
 fn octets(rt: &(impl AllocGlobal + Abort), bytes: &[u8]) -> Octets {

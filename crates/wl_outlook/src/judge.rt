@@ -82,15 +82,13 @@ impl<F: FaultLines + Drop> DocumentJudge<F> {
         }
     }
 
-    /// Notes a document that was taken.
-    fn note_taken(&mut self, state: &AuthorityState, document: Octets) -> Result<(), Memory> {
+    /// Notes a document without a fault, which the store takes next.
+    fn note_good(&mut self, state: &AuthorityState, document: Octets) -> Result<(), Memory> {
         let counts = self.counts_of(state)?;
         if self.domain.is_none() {
             self.domain = Some(state.domain.copy(self.alloc)?);
         }
-        self.outlook
-            .note_entries(state.entries.as_slice(), counts.bundles);
-        self.outlook.log().say(&Event::DocumentTaken(counts));
+        self.outlook.note_document(state.entries.as_slice(), counts);
         self.taken = document;
         self.verdict = Verdict::Taken;
         Ok(())
@@ -111,7 +109,7 @@ impl<F: FaultLines + Drop> DocumentJudge<F> {
     fn judge(&mut self, document: &[u8]) -> Result<(), Memory> {
         let copy = Octets::from_slice(self.alloc, document)?;
         match read_state(self.alloc, document, self.domain.as_ref()) {
-            Ok(state) => self.note_taken(&state, copy),
+            Ok(state) => self.note_good(&state, copy),
             Err(DocFault::Memory) => Err(Memory),
             Err(fault) => self.note_refused(fault, copy),
         }
@@ -136,7 +134,8 @@ impl<F: FaultLines + Drop> DocumentJudge<F> {
         }
     }
 
-    /// Notes a document, and says what comes of it. That of a first document is said by whoever ends then.
+    /// Notes a document, and says where it is refused: of a first document whoever ends then says it. That one is taken is said by
+    /// [`Outlook::note_taken`], once the store has it.
     pub fn note_document(&mut self, document: &[u8]) {
         if !self.is_last(document) && self.judge(document).is_err() {
             return;

@@ -4,6 +4,7 @@
 #![tactic(auto)]
 
 mod callers;
+mod calls;
 mod changes;
 mod judge;
 mod outlook;

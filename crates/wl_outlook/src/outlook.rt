@@ -1,8 +1,10 @@
 //! What threads note, and pages show.
 
 use crate::callers::Callers;
+use crate::calls::say_calls;
 use crate::standing::Standing;
-use event_log::Event;
+use call_counts::CallCounts;
+use event_log::{DocumentCounts, Event, Level};
 use figures::{
     Counters, Direction, DocumentResult, FaultCause, Figures, Health, Shows, SigningKind,
     SigningResult,
@@ -98,14 +100,31 @@ impl Outlook {
         self.counters.count_document(outcome);
     }
 
-    /// Another document than before was taken, with these entries and so many bundles. Where memory runs out the entries stay as
-    /// they were known.
-    pub fn note_entries(&self, entries: &[Entry], bundles: u64) {
-        self.counters.note_document(entries.len() as u64, bundles);
+    /// The store takes another document than before next, with these entries, of which this is to be said then. Where memory
+    /// runs out the entries stay as they were known.
+    pub fn note_document(&self, entries: &[Entry], counts: DocumentCounts) {
+        self.counters.note_document(counts.entries, counts.bundles);
         let now = self.log.now();
         if let Some(mut standing) = self.standing() {
             let _ = standing.take_document(entries, now);
+            standing.keep_unsaid(counts);
         }
+    }
+
+    /// The store took the document that was noted last, and the publication of this number shows it. That is said once of each.
+    pub fn note_taken(&self, publication: u64) {
+        let counts = match self.standing() {
+            Some(mut standing) => standing.take_unsaid(),
+            None => None,
+        };
+        if let Some(counts) = counts {
+            self.log.say(&Event::DocumentTaken(publication, counts));
+        }
+    }
+
+    /// There is a publication of this number.
+    pub fn note_publication(&self, number: u64) {
+        self.counters.note_publication(number);
     }
 
     /// An ask ended so, which began when the process had run so many milliseconds.
@@ -133,6 +152,15 @@ impl Outlook {
         self.counters.count_closed(socket);
         self.callers.note_closed(socket);
         self.log.say(&Event::Closed(socket));
+    }
+
+    /// This became of calls of a connection of the socket of this number, whose caller is this user where the kernel names it. Each
+    /// that ended is said.
+    pub fn note_calls(&self, socket: u32, uid: Option<u32>, calls: &CallCounts) {
+        self.counters.count_calls(socket, calls);
+        if !calls.is_empty() && self.log.says(Level::Debug) {
+            say_calls(&self.log, socket, uid, calls);
+        }
     }
 
     /// A connection failed.

@@ -1,7 +1,7 @@
 //! Which entries have an identity, as far as documents and signers show.
 
 use crate::callers::Callers;
-use event_log::Event;
+use event_log::{DocumentCounts, Event};
 use figures::{EntryId, Identities, Lacking};
 use log_output::Log;
 use std::alloc::Global;
@@ -53,6 +53,8 @@ pub struct Standing {
     alloc: Global,
     stands: Vec<Stand>,
     has_document: bool,
+    /// What is to be said of it once the store has it.
+    unsaid: Option<DocumentCounts>,
     /// Where the next look for entries without an identity begins.
     next: usize,
 }
@@ -79,6 +81,7 @@ impl Standing {
             alloc,
             stands: Vec::new(alloc),
             has_document: false,
+            unsaid: None,
             next: 0,
         }
     }
@@ -121,6 +124,16 @@ impl Standing {
         self.stands = stands;
         self.has_document = true;
         Ok(())
+    }
+
+    /// Keeps what is to be said of the document once the store has it.
+    pub fn keep_unsaid(&mut self, counts: DocumentCounts) {
+        self.unsaid = Some(counts);
+    }
+
+    /// What is to be said of the document, once.
+    pub fn take_unsaid(&mut self) -> Option<DocumentCounts> {
+        self.unsaid.take()
     }
 
     /// An identity was signed for an ask, which ends at this time. One for an ask that no entry has any more is nobody's.
