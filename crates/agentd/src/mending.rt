@@ -46,4 +46,8 @@ impl<G: Gate + Drop, R: Files + Net + Drop> Gate for MendingGate<G, R> {
             self.doors.mend(&self.rt, alloc, &self.log);
         }
     }
+
+    fn note_publication(&self, number: u64) {
+        self.inner.note_publication(number);
+    }
 }

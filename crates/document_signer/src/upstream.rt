@@ -70,4 +70,8 @@ impl<U: Upstream> Upstream for SharingUpstream<U> {
         let _ = self.share(into.as_slice().split_at(before).1);
         Ok(())
     }
+
+    fn note_taken(&self, publication: u64) {
+        self.inner.note_taken(publication);
+    }
 }

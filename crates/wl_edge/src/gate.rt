@@ -16,6 +16,9 @@ pub const BEFORE_SIGNING: u32 = 4;
 pub trait Gate {
     /// Passes a point. It may wait, answers nothing and has no fault.
     fn pass(&self, point: u32);
+
+    /// Notes the number of the last publication. It does not wait, and nothing hangs on it.
+    fn note_publication(&self, _number: u64) {}
 }
 
 /// A gate that holds nobody.

@@ -5,6 +5,8 @@ ghost use Rattle.wl_edge.specs.Links.{IsFresh};
 ghost use Rattle.wl_edge.specs.Listeners.{ListenerLog, BoundSocket, CameOver, Accepts, IfLink, HasOpenLink, Finishes};
 
 use crate::link::Link;
+use crate::origin::Origin;
+use call_counts::CallCounts;
 
 /// The answer of an accept.
 #[derive(Drop)]
@@ -61,4 +63,7 @@ pub trait Listener {
         }) }
         ensures count { faults self.new ≡ faults self.old }
         ensures sockets { sockets self.new ≡ sockets self.old };
+
+    /// Notes what became of calls of a link that came from there. It answers nothing, and nothing hangs on it.
+    fn note_calls(&self, _origin: &Origin, _calls: &CallCounts) {}
 }

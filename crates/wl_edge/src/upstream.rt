@@ -27,4 +27,8 @@ pub trait Upstream {
     /// Appends one document, at most 16,777,217 bytes of it. Where it gives none, what was lent is as it was.
     fn pull(&mut self, into: &mut Octets) -> Result<(), EdgeFault>
         ensures { Pulls (told self.old) (told self.new) (faults self.old) (faults self.new) into.old into.new result };
+
+    /// Notes that the document of the last pull was taken, and is shown by the publication of this number. Nothing hangs
+    /// on it.
+    fn note_taken(&self, _publication: u64) {}
 }

@@ -62,4 +62,9 @@ impl<G: Gate + Drop> Gate for SayingGate<G> {
         }
         self.inner.pass(point);
     }
+
+    fn note_publication(&self, number: u64) {
+        self.outlook.note_publication(number);
+        self.inner.note_publication(number);
+    }
 }

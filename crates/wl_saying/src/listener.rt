@@ -3,10 +3,11 @@
 ghost use Rattle.std.specs.Prelude.{◌≡◌};
 
 use crate::repeats::Repeats;
+use call_counts::CallCounts;
 use event_log::{ErrorCode, Event};
 use figures::{Direction, FaultCause, LateCause, LinkCause, RefusedCause};
 use std::sync::Arc;
-use wl_edge::{Accepted, Link, Listener};
+use wl_edge::{Accepted, Link, Listener, Origin};
 use wl_edge_real::{BoundAt, Lateness, LinkFailures, Refusal};
 use wl_outlook::Outlook;
 
@@ -206,5 +207,12 @@ where
         self.said.note_end(socket, &link);
         self.inner.finish(link);
         self.said.outlook.note_closed(socket);
+    }
+
+    fn note_calls(&self, origin: &Origin, calls: &CallCounts) {
+        self.said
+            .outlook
+            .note_calls(origin.socket, origin.uid, calls);
+        self.inner.note_calls(origin, calls);
     }
 }

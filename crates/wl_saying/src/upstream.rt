@@ -112,4 +112,9 @@ impl<U: Upstream + Drop, F: FaultLines + Drop> Upstream for SayingUpstream<U, F>
         }
         pulled
     }
+
+    fn note_taken(&self, publication: u64) {
+        self.said.outlook.note_taken(publication);
+        self.inner.note_taken(publication);
+    }
 }

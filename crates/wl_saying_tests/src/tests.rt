@@ -195,11 +195,12 @@ fn failed_pulls_are_said_once(rt: HostRuntime) {
     let mut into = Octets::empty(alloc);
     let pulled = [(); 4].map(|()| saying.pull(&mut into).is_ok());
     assert_eq!(rt; pulled, [false, false, true, true]);
+    outlook.note_taken(1);
     let said = lines_of(&rt, &mut theirs);
     assert!(rt; said.starts_with("level=warn event=authority_failed cause=file since=\"20"));
     assert!(rt;
         said.ends_with(
-            "Z\";level=info event=authority_back;level=info event=document_taken entries=0 bundles=1 changed=0 removed=0;"
+            "Z\";level=info event=authority_back;level=info event=document_taken publication=1 entries=0 bundles=1 changed=0 removed=0;"
         )
     );
     assert_eq!(rt; numbers(&rt, &outlook), [2, 0, 0, 0]);

@@ -6,11 +6,11 @@ ghost use Rattle.wl_session.specs.Answering.{Gives};
 ghost use Rattle.wl_session.specs.Tokens.{is_asking, ask_of_stage, first_ask, token_message, next_ask, give_call, give_stage, give_first};
 
 use crate::asks::{JwtAsk, JwtOutcome};
+use crate::counted::CountedConn;
 use crate::queue::Queue;
 use crate::replies::{last_message, refuse};
 use crate::served::{Parted, ServedCall, Stage, join_at, part_at};
 use grpc_wire::Refusal;
-use h2_conn::Conn;
 use std::alloc::Global;
 use wl_octets::{Memory, Octets, Row};
 use wl_snapshot::Wanted;
@@ -55,7 +55,7 @@ pub fn first_ask(served: &[ServedCall]) -> Option<&JwtAsk>
 /// The message of all tokens, and status 0; or a refusal where it is too long.
 fn send_tokens(
     alloc: Global,
-    conn: &mut Conn,
+    conn: &mut CountedConn,
     stream: u32,
     got: Row<JwtItem>,
 ) -> Result<Option<Stage>, Memory>
@@ -75,7 +75,7 @@ fn send_tokens(
 /// The next ask, or the message where none is left.
 fn next_ask(
     alloc: Global,
-    conn: &mut Conn,
+    conn: &mut CountedConn,
     stream: u32,
     audience: Row<Octets>,
     mut rest: Queue,
@@ -102,7 +102,7 @@ fn next_ask(
 #[tactic(auto, unfolding(crate::specs::Tokens::give_call))]
 fn give_call(
     alloc: Global,
-    conn: &mut Conn,
+    conn: &mut CountedConn,
     stream: u32,
     first: JwtAsk,
     rest: Queue,
@@ -135,7 +135,7 @@ fn give_call(
 
 fn give_stage(
     alloc: Global,
-    conn: &mut Conn,
+    conn: &mut CountedConn,
     stream: u32,
     stage: Stage,
     outcome: JwtOutcome,
@@ -161,7 +161,7 @@ fn place_of(served: &[ServedCall]) -> Option<usize>
 #[tactic(auto, using(crate::proofs::ReadyCalls::first_found, crate::proofs::ReadyCalls::first_none), unfolding(crate::specs::Tokens::give_first))]
 pub fn give_first(
     alloc: Global,
-    conn: &mut Conn,
+    conn: &mut CountedConn,
     served: Row<ServedCall>,
     outcome: JwtOutcome,
 ) -> Result<Row<ServedCall>, Memory>

@@ -6,6 +6,7 @@
 #![tactic(auto)]
 
 mod asks;
+mod counted;
 mod giving;
 mod laws;
 mod making;

@@ -4,10 +4,10 @@ ghost use Rattle.std.specs.Prelude.{◌≡◌, find, position, IfOk};
 ghost use Rattle.wl_session.specs.Answering.{Gives};
 ghost use Rattle.wl_session.specs.Tokens.{is_unnamed, is_unnamed_stage, first_unnamed, name_call, name_stage, name_first};
 
+use crate::counted::CountedConn;
 use crate::replies::refuse;
 use crate::served::{CallKind, Parted, ServedCall, Stage, join_at, part_at};
 use grpc_wire::Refusal;
-use h2_conn::Conn;
 use std::alloc::Global;
 use wl_octets::{Memory, Row};
 use wl_selector::Selectors;
@@ -31,7 +31,7 @@ pub fn unnamed_stream(served: &[ServedCall]) -> Option<u32>
 /// A call takes these selectors, or ends where its caller was not attested.
 fn name_call(
     alloc: Global,
-    conn: &mut Conn,
+    conn: &mut CountedConn,
     stream: u32,
     kind: CallKind,
     selectors: Option<Selectors>,
@@ -54,7 +54,7 @@ fn name_call(
 
 fn name_stage(
     alloc: Global,
-    conn: &mut Conn,
+    conn: &mut CountedConn,
     stream: u32,
     stage: Stage,
     selectors: Option<Selectors>,
@@ -78,7 +78,7 @@ fn place_of(served: &[ServedCall]) -> Option<usize>
 #[tactic(auto, using(crate::proofs::ReadyCalls::first_found, crate::proofs::ReadyCalls::first_none), unfolding(crate::specs::Tokens::name_first))]
 pub fn name_first(
     alloc: Global,
-    conn: &mut Conn,
+    conn: &mut CountedConn,
     served: Row<ServedCall>,
     selectors: Option<Selectors>,
 ) -> Result<Row<ServedCall>, Memory>

@@ -4,28 +4,29 @@ ghost use Rattle.std.specs.Prelude.{◌≡◌, ◌<◌, ◌^◌, ℕ, List, leng
 ghost use Rattle.grpc_wire.specs.Messages.{framed};
 ghost use Rattle.wl_session.specs.Answering.{with_head, with_message, with_last_message, with_refusal};
 
+use crate::counted::{CountedConn, refused_status};
+use call_counts::CallStatus;
 use grpc_wire::{Refusal, put_message, refusal_fields, response_head, status, trailers};
-use h2_conn::Conn;
 use std::alloc::Global;
 use wl_octets::{Memory, Octets, Shared};
 
 /// The response head, where it was not given before.
 #[tactic(auto, unfolding(crate::specs::Answering::with_head), using(crate::proofs::Sizes::small_head))]
-fn head(alloc: Global, conn: &mut Conn, stream: u32, headed: bool) -> Result<(), Memory>
+fn head(alloc: Global, conn: &mut CountedConn, stream: u32, headed: bool) -> Result<(), Memory>
     ensures { OnOk result (conn.new ≡ with_head stream headed conn.old) }
 {
     if headed {
         return Ok(());
     }
     let fields = response_head(alloc)?;
-    conn.head(stream, fields.as_slice())
+    conn.inner.head(stream, fields.as_slice())
 }
 
 /// A message that stands after its gRPC prefix already.
 #[tactic(auto, unfolding(crate::specs::Answering::with_message))]
 pub fn framed_message(
     alloc: Global,
-    conn: &mut Conn,
+    conn: &mut CountedConn,
     stream: u32,
     headed: bool,
     message: Shared<Octets>,
@@ -35,7 +36,8 @@ pub fn framed_message(
         ((bare : List ℕ) → message ≡ framed bare → conn.new ≡ with_message stream headed bare conn.old) }
 {
     head(alloc, conn, stream, headed)?;
-    conn.offer_shared(stream, message);
+    conn.inner.offer_shared(stream, message);
+    conn.calls.note_message(stream);
     Ok(())
 }
 
@@ -43,7 +45,7 @@ pub fn framed_message(
 #[tactic(auto, using(crate::proofs::FramedMessages::framed_some), unfolding(crate::specs::Answering::with_message))]
 pub fn message(
     alloc: Global,
-    conn: &mut Conn,
+    conn: &mut CountedConn,
     stream: u32,
     headed: bool,
     bare: &[u8],
@@ -54,7 +56,8 @@ pub fn message(
     let mut message = Octets::empty(alloc);
     put_message(&mut message, bare)?;
     head(alloc, conn, stream, headed)?;
-    conn.offer(stream, message);
+    conn.inner.offer(stream, message);
+    conn.calls.note_message(stream);
     Ok(())
 }
 
@@ -62,7 +65,7 @@ pub fn message(
 #[tactic(auto, unfolding(crate::specs::Answering::with_last_message), using(crate::proofs::Sizes::small_trailers))]
 pub fn last_message(
     alloc: Global,
-    conn: &mut Conn,
+    conn: &mut CountedConn,
     stream: u32,
     headed: bool,
     bare: &[u8],
@@ -72,21 +75,25 @@ pub fn last_message(
 {
     message(alloc, conn, stream, headed, bare)?;
     let fields = trailers(alloc, status::OK, &[], false)?;
-    conn.finish(stream, fields.as_slice())
+    conn.inner.finish(stream, fields.as_slice())?;
+    conn.calls.end(stream, CallStatus::Ok);
+    Ok(())
 }
 
 /// The stream ends with a refusal, in one frame where its response head was not given.
 #[tactic(auto, unfolding(crate::specs::Answering::with_refusal), using(crate::proofs::Sizes::small_refusal))]
 pub fn refuse(
     alloc: Global,
-    conn: &mut Conn,
+    conn: &mut CountedConn,
     stream: u32,
     headed: bool,
     refusal: Refusal,
 ) -> Result<(), Memory>
     ensures { OnOk result (conn.new ≡ with_refusal stream headed refusal conn.old) }
 {
-    conn.withdraw(stream);
+    conn.inner.withdraw(stream);
     let fields = refusal_fields(alloc, refusal, !headed)?;
-    conn.finish(stream, fields.as_slice())
+    conn.inner.finish(stream, fields.as_slice())?;
+    conn.calls.end(stream, refused_status(refusal));
+    Ok(())
 }

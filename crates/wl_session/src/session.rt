@@ -9,6 +9,7 @@ ghost use Rattle.wl_session.specs.Settled.{MayTurn, IsShown, is_number};
 
 use crate::asks::{JwtAsk, JwtOutcome, SessionFault};
 use crate::talk::{Talk, first_of};
+use call_counts::CallCounts;
 use h2_conn::ConnFault;
 use h2_frame::{Frame, FrameFault, Parser};
 use std::alloc::Global;
@@ -250,6 +251,20 @@ impl Session {
     /// several streams share counts for each. It takes no memory.
     pub fn held(&self) -> usize {
         self.talk.held()
+    }
+
+    /// What became of its calls since this was asked last, in numbers. It takes no memory.
+    pub fn take_calls(&mut self) -> CallCounts
+        ensures { self.new ≡ self.old }
+    {
+        self.talk.take_calls()
+    }
+
+    /// The same, where its connection is over: the calls that are left end with it. It takes no memory.
+    pub fn end_calls(&mut self) -> CallCounts
+        ensures { self.new ≡ self.old }
+    {
+        self.talk.end_calls()
     }
 }
 

@@ -14,11 +14,13 @@ ghost use Rattle.wl_session.specs.Talks.{fresh_talk, after_event, after_body, af
 ghost use Rattle.wl_session.specs.Tokens.{first_unnamed, first_ask, name_first, give_first};
 
 use crate::asks::{JwtAsk, JwtOutcome};
+use crate::counted::{CountedConn, call_method};
 use crate::giving::{first_ask, give_first};
 use crate::naming::{name_first, unnamed_stream};
 use crate::replies::refuse;
 use crate::served::{CallKind, ServedCall, Stage, others, with_served};
 use crate::turn::turn_all;
+use call_counts::{CallCounts, CallTally};
 use grpc_conn::{CallEvent, Calls};
 use h2_conn::{Conn, ConnError, ConnFault, Happening};
 use h2_frame::{Body, Frame, FrameFault, Setting, put_frame};
@@ -42,7 +44,7 @@ const MAX_HEADER_LIST: u32 = 16_384;
 pub struct Talk {
     alloc: Global,
     greeted: bool,
-    conn: Conn,
+    conn: CountedConn,
     calls: Calls,
     served: Row<ServedCall>,
 }
@@ -110,7 +112,10 @@ impl Talk {
         Ok(Talk {
             alloc,
             greeted: false,
-            conn: Conn::start(alloc)?,
+            conn: CountedConn {
+                inner: Conn::start(alloc)?,
+                calls: CallTally::start(alloc),
+            },
             calls: Calls::start(alloc)?,
             served: Row::empty(alloc),
         })
@@ -141,7 +146,7 @@ impl Talk {
         match event {
             CallEvent::Nothing => Ok(()),
             CallEvent::Malformed => {
-                self.conn.reset(stream, error_code::PROTOCOL_ERROR)?;
+                self.conn.inner.reset(stream, error_code::PROTOCOL_ERROR)?;
                 self.calls.gone(stream);
                 Ok(())
             }
@@ -156,6 +161,7 @@ impl Talk {
                 ..
             } => {
                 self.calls.gone(stream);
+                self.conn.calls.begin(stream, call_method(method))?;
                 self.serve(ServedCall {
                     stream,
                     stage: Stage::Unnamed(CallKind::new(method, request)),
@@ -194,6 +200,7 @@ impl Talk {
             } => self.body(stream, bytes.as_slice(), ended),
             Happening::End { stream } => self.body(stream, &[], true),
             Happening::Gone { stream } => {
+                self.conn.calls.cancel(stream);
                 self.calls.gone(stream);
                 self.leave(stream);
                 Ok(())
@@ -219,7 +226,7 @@ impl Talk {
         ensures fault { IfOk result (λ fault. fault ≡ (frame_result self.old.phase frame).fault) }
     {
         let mut told = Row::empty(self.alloc);
-        match self.conn.frame(frame, &mut told) {
+        match self.conn.inner.frame(frame, &mut told) {
             Ok(()) => {
                 self.happenings(told)?;
                 Ok(None)
@@ -239,7 +246,7 @@ impl Talk {
             → GainsFront (written fault self.old).bytes out.old out.new }
     {
         self.greet(out)?;
-        self.conn.flush(out)
+        self.conn.inner.flush(out)
     }
 
     fn greet(&mut self, out: &mut Octets) -> Result<(), Memory>
@@ -296,7 +303,7 @@ impl Talk {
             (self.new ≡ record self.old { phase = after_frame_fault why self.old.phase }) }
         ensures fault { IfOk result (λ fault. frame_fault_on why self.old.phase ≡ Some fault) }
     {
-        self.conn.fail(why)
+        self.conn.inner.fail(why)
     }
 
     /// Bytes that aren't frames, and what is written after them.
@@ -407,17 +414,32 @@ impl Talk {
     pub fn is_done(&self) -> bool
         ensures { result ≡ (is_going self.now.phase && (live_on self.now.phase == 0)) }
     {
-        self.conn.is_going() && self.conn.live() == 0
+        self.conn.inner.is_going() && self.conn.inner.live() == 0
     }
 
     pub fn begun(&self) -> u64
         ensures { result ≡ begun_on self.now.phase }
     {
-        self.conn.begun()
+        self.conn.inner.begun()
     }
 
     /// How many bytes its connection holds.
     pub fn held(&self) -> usize {
-        self.conn.held()
+        self.conn.inner.held()
+    }
+
+    /// What became of its calls since this was asked last.
+    pub fn take_calls(&mut self) -> CallCounts
+        ensures { self.new ≡ self.old }
+    {
+        self.conn.calls.take()
+    }
+
+    /// The same, at its end: the calls that are left end with it.
+    pub fn end_calls(&mut self) -> CallCounts
+        ensures { self.new ≡ self.old }
+    {
+        self.conn.calls.cancel_all();
+        self.conn.calls.take()
     }
 }

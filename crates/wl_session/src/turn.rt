@@ -10,12 +10,12 @@ ghost use Rattle.wl_session.specs.Agreeing.{HaveSeen};
 ghost use Rattle.wl_session.specs.Making.{IsMessageOf};
 
 use crate::asks::JwtAsk;
+use crate::counted::CountedConn;
 use crate::making::{MadeMessage, find_message, keep_message};
 use crate::queue::Queue;
 use crate::replies::{framed_message, last_message, message, refuse};
 use crate::served::{CallKind, ServedCall, Stage, seen_with};
 use grpc_wire::Refusal;
-use h2_conn::Conn;
 use std::alloc::Global;
 use wl_health::{SERVICE_UNKNOWN, encode_health, state};
 use wl_match::Index;
@@ -80,7 +80,7 @@ fn was_seen(seen: &Option<Shared<View>>, view: &View) -> bool
 #[tactic(auto, using(crate::proofs::FramedMessages::message_some, crate::proofs::FramedMessages::offered_message))]
 fn answer_message(
     alloc: Global,
-    conn: &mut Conn,
+    conn: &mut CountedConn,
     stream: u32,
     method: Method3,
     selectors: Selectors,
@@ -104,7 +104,7 @@ fn answer_message(
 /// A streaming call of the Workload API is answered on a view. A message that the turn made before is not made again.
 fn answer_stream(
     alloc: Global,
-    conn: &mut Conn,
+    conn: &mut CountedConn,
     made: &mut Row<MadeMessage>,
     stream: u32,
     method: Method3,
@@ -130,7 +130,7 @@ fn answer_stream(
             Ok(None)
         }
         Answer::Wait => {
-            conn.withdraw(stream);
+            conn.inner.withdraw(stream);
             Ok(Some(Stage::Ready {
                 kind: CallKind::Stream(method),
                 selectors,
@@ -150,7 +150,7 @@ fn answer_stream(
 /// A FetchJWTSVID call asks for its tokens, or is refused where it is entitled to none.
 fn answer_tokens(
     alloc: Global,
-    conn: &mut Conn,
+    conn: &mut CountedConn,
     stream: u32,
     audience: Row<Octets>,
     wanted: Row<Wanted>,
@@ -189,7 +189,7 @@ fn health(service: &[u8], view: &View) -> u32
 /// A Check is answered by the state of its service.
 fn answer_check(
     alloc: Global,
-    conn: &mut Conn,
+    conn: &mut CountedConn,
     stream: u32,
     headed: bool,
     state: u32,
@@ -210,7 +210,7 @@ fn answer_check(
 /// A Watch is answered by the state of its service, and goes on.
 fn answer_watch(
     alloc: Global,
-    conn: &mut Conn,
+    conn: &mut CountedConn,
     stream: u32,
     service: Octets,
     selectors: Selectors,
@@ -233,7 +233,7 @@ fn answer_watch(
 #[tactic(auto, unfolding(crate::specs::Answering::call_answer))]
 fn answer_call(
     alloc: Global,
-    conn: &mut Conn,
+    conn: &mut CountedConn,
     made: &mut Row<MadeMessage>,
     stream: u32,
     kind: CallKind,
@@ -264,7 +264,7 @@ fn answer_call(
 /// A call takes its turn: it is answered where its view is not the one that answered it last.
 fn turn_stage(
     alloc: Global,
-    conn: &mut Conn,
+    conn: &mut CountedConn,
     made: &mut Row<MadeMessage>,
     kept: &[ServedCall],
     stream: u32,
@@ -311,7 +311,7 @@ fn add_kept(kept: &mut Row<ServedCall>, stream: u32, stage: Option<Stage>) -> Re
 /// Each ready call takes its turn, by ascending stream. Those that go on are left.
 pub fn turn_all(
     alloc: Global,
-    conn: &mut Conn,
+    conn: &mut CountedConn,
     served: Row<ServedCall>,
     snapshot: &Snapshot,
     index: Option<&Index>,

@@ -116,3 +116,18 @@ pub(crate) fn end_link<L: Listener, P: Ready<L::L>>(
     note_end(&mut link, ended);
     release(listener, ready, number, link);
 }
+
+/// Hands on what became of the calls of a link in its last round.
+pub(crate) fn note_calls<L: Listener>(listener: &L, link: &L::L, served: &mut Served)
+    ensures { served.new ≡ served.old }
+{
+    let calls = served.take_calls();
+    listener.note_calls(link.origin(), &calls);
+}
+
+/// Hands on what became of the calls of a link that is over, and of those that end with it.
+pub(crate) fn note_last_calls<L: Listener>(listener: &L, link: &L::L, served: Served) {
+    let mut served = served;
+    let calls = served.end_calls();
+    listener.note_calls(link.origin(), &calls);
+}

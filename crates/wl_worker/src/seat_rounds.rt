@@ -13,7 +13,7 @@ ghost use Rattle.wl_worker.specs.Seating.{KeepsTending, turn_step};
 ghost use Rattle.wl_worker.specs.declared.step.Step.TheVariants.{On};
 
 use crate::ended::{Ended, RoundEnd, starved_after};
-use crate::places::{Connection, Places, end_link, greatest, release};
+use crate::places::{Connection, Places, end_link, greatest, note_calls, note_last_calls, release};
 use crate::seat::Seat;
 use ask_mail::TokenAsks;
 use std::alloc::Global;
@@ -93,11 +93,13 @@ fn serve_one<L: Listener, T: TokenAsks, A: Attestor, C: Clock, P: Ready<L::L>, G
         &mut places.buffer,
     );
     if let RoundEnd::Ended(ended) = end {
+        note_last_calls(&seat.listener, &link, served);
         seat.asks.forget(rt, asker);
         seat.starved = starved_after(seat.starved, ended);
         end_link(&mut seat.listener, &mut seat.ready, number, link, ended);
         return;
     }
+    note_calls(&seat.listener, &link, &mut served);
     let held = served.held();
     places.held = places.held.saturating_add(held);
     places.links.insert_reserved(Connection {
@@ -165,9 +167,10 @@ fn starve<L: Listener, T: TokenAsks, A: Attestor, C: Clock, P: Ready<L::L>, R: W
         number,
         asker,
         link,
-        served: _served,
+        served,
         held,
     } = connection;
+    note_last_calls(&seat.listener, &link, served);
     places.held = places.held.saturating_sub(held);
     seat.asks.forget(rt, asker);
     seat.starved = starved_after(seat.starved, Ended::Memory);

@@ -10,7 +10,7 @@ ghost use Rattle.wl_worker.specs.Slots.{links_of};
 ghost use Rattle.wl_worker.specs.Tended.{Tends};
 
 use crate::ended::{Ended, starved_after};
-use crate::places::{Connection, Places, release};
+use crate::places::{Connection, Places, note_last_calls, release};
 use crate::seat::{Seat, SeatEnd};
 use crate::seat_rounds::{LinkShown, SeatShown, serve_turn};
 use crate::served::Served;
@@ -252,9 +252,10 @@ fn finish_one<L: Listener, T: TokenAsks, A: Attestor, C: Clock, P: Ready<L::L>, 
         number,
         asker,
         link,
-        served: _served,
+        served,
         held: _held,
     } = connection;
+    note_last_calls(&seat.listener, &link, served);
     seat.asks.forget(rt, asker);
     release(&mut seat.listener, &mut seat.ready, number, link);
 }

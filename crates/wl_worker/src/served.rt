@@ -12,6 +12,7 @@ use crate::flush::{Flushed, flush};
 use crate::outside::{Caller, Outside};
 use crate::stepping::hear_and_step;
 use ask_mail::TokenAsks;
+use call_counts::CallCounts;
 use std::alloc::Global;
 use std::marker::Model;
 use std::mem;
@@ -107,6 +108,20 @@ impl Served {
             return held;
         }
         held.saturating_add(self.written.len())
+    }
+
+    /// What became of its calls since this was asked last.
+    pub(crate) fn take_calls(&mut self) -> CallCounts
+        ensures { self.new ≡ self.old }
+    {
+        self.session.take_calls()
+    }
+
+    /// The same, where it is over: the calls that are left end with it.
+    pub(crate) fn end_calls(&mut self) -> CallCounts
+        ensures { self.new ≡ self.old }
+    {
+        self.session.end_calls()
     }
 
     /// Sends what is unsent, as far as the link takes it: the end that is due then, or `Later`, or that a

@@ -36,6 +36,7 @@ pub fn keep_time<V: Voucher, C: Clock, G: Gate, B: Bell, R: Wait>(
     for _ in rt.forever() {
         gate.pass(BEFORE_KEEPING);
         rung = keep_round(rt, alloc, desk, queue, clock, bells, rung);
+        note_last(gate, rung);
         if desk.lock(rt).seats() == 0 {
             queue.close(rt);
             return;
@@ -65,8 +66,10 @@ pub fn pull_documents<V: Voucher, U: Upstream, C: Clock, G: Gate, B: Bell, R: Wa
     for _ in rt.forever() {
         gate.pass(BEFORE_UPKEEP);
         let synced = sync_once(rt, alloc, desk, upstream, &mut last);
+        note_taken(upstream, &synced);
         rung = ring_synced(bells, rung, synced);
         rung = keep_round(rt, alloc, desk, queue, clock, bells, rung);
+        note_last(gate, rung);
         if desk.lock(rt).seats() == 0 {
             return;
         }
@@ -319,6 +322,20 @@ fn ring_news<V: Voucher, B: Bell>(bells: &[B], rung: Option<u64>, note: &Note<V>
         ring_all(bells);
     }
     last
+}
+
+/// Hands on the number of the last publication, where one is known.
+fn note_last<G: Gate>(gate: &G, last: Option<u64>) {
+    if let Some(number) = last {
+        gate.note_publication(number);
+    }
+}
+
+/// Hands on the number of the publication that shows a document that was taken.
+fn note_taken<V: Voucher, U: Upstream>(upstream: &U, synced: &Synced<V>) {
+    if let Synced::Done(note) = synced {
+        upstream.note_taken(note.number());
+    }
 }
 
 /// Rings the bell of a seat.

@@ -10,5 +10,5 @@ returns-in_err-greet-clause-prefix c fault = greet_front fault c.args.self.now c
 
 pub returns-clause-prefix : goal.returns-clause-prefix
 returns-clause-prefix c fault =
-    let same = ap (λ t. t.phase) c.self.view_is ∙ c.greet.ensures.phase in
+    let same = ap (λ i. i.conn) c.self-inside.view_is ∙ (ap (λ t. t.phase) c.self.view_is ∙ c.greet.ensures.phase) in
     flush_front fault c.args.self.now c.args.out.now c.greet.new.out c.flush.new.out c.in_ok-greet.ensures.bytes (subst (λ (p : Phase). GainsFront (flush_of p).bytes c.greet.new.out c.flush.new.out) same c.flush.ensures.prefix)
