@@ -29,6 +29,11 @@ impl Arrivals {
         self.is_watched.store(true, Ordering::SeqCst);
     }
 
+    /// Whether a watcher reports what comes.
+    pub(crate) fn is_watched(&self) -> bool {
+        self.is_watched.load(Ordering::SeqCst)
+    }
+
     /// Notes that peers may have connected.
     pub(crate) fn note(&self) {
         self.are_there.store(true, Ordering::SeqCst);

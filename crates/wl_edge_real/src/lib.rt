@@ -31,6 +31,7 @@ mod stream;
 mod tables;
 mod telling;
 mod told_stream;
+mod turns;
 mod upstream;
 mod watch;
 mod watched;

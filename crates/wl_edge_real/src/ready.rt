@@ -20,7 +20,7 @@ use std::os::fd::RawFd;
 use std::rt::Clock;
 use std::sync::Arc;
 use std::time::{Duration, Instant};
-use wl_edge::{EdgeFault, Ready};
+use wl_edge::{EdgeFault, Link, Ready};
 use wl_octets::Row;
 
 /// The listener's token, which isn't a number of a link.
@@ -59,8 +59,9 @@ struct Watcher<R> {
 
 /// Watches the links of a seat and its listener. It tells no content.
 ///
-/// A link is listed at its first wait, when the poll reports a change of it, as long as its last receive filled the whole buffer, and
-/// when its time is over. After a ring, and from a stop on, all links are. It has a place for each number up to the largest, so numbers
+/// A link is due at its first wait, when the poll reports a change of it, as long as its last receive filled the whole buffer, and
+/// when its time is over. A wait lists one due link of each socket, or two where one socket alone has any; the others stay due. After a
+/// ring, and from a stop on, all links are listed. It has a place for each number up to the largest, so numbers
 /// should be small.
 #[derive(Drop)]
 pub struct RealReady<R> {
@@ -110,12 +111,13 @@ impl<R: Clock + Drop> Watcher<R> {
         Instant::now(&self.rt).ok()
     }
 
-    /// Watches a link of this socket. None where there is no memory.
-    fn insert(&mut self, number: u32, socket: RawFd) -> Option<Arc<Watch>> {
+    /// Watches a link that came over the socket of the number `from`. None where there is no memory.
+    fn insert(&mut self, number: u32, from: u32, socket: RawFd) -> Option<Arc<Watch>> {
         let watch = Arc::new(self.alloc, Watch::start()).ok()?;
         let shared = Arc::try_clone(&watch).ok()?;
         let link = Watched {
             number,
+            from,
             socket,
             watch,
             came: self.now(),
@@ -189,7 +191,7 @@ impl<R: Clock + Drop> Ready<RealLink> for RealReady<R> {
 
     fn add(&mut self, number: u32, link: &mut RealLink) -> Result<(), EdgeFault> {
         let socket = link.descriptor();
-        let Some(shared) = self.watcher.insert(number, socket) else {
+        let Some(shared) = self.watcher.insert(number, link.origin().socket, socket) else {
             return Err(EdgeFault::Memory);
         };
         if self.watcher.register(number, socket).is_err() {

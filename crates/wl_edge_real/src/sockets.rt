@@ -30,6 +30,9 @@ const EVENTS: usize = 256;
 /// How many sockets an accept tries at most.
 const TRIES: u32 = 1_024;
 
+/// How many links a watched listener gives before a wait: those that were accepted have a round before more come.
+const SHARE: u32 = 2;
+
 /// One of the sockets.
 #[derive(Drop)]
 pub(crate) struct Place {
@@ -118,6 +121,8 @@ pub(crate) struct Sockets {
     due: VecDeque<u32>,
     /// The number of the socket that was tried last.
     tried: u32,
+    /// How many links were given since an accept found none.
+    given: u32,
     /// Shared with one who watches them.
     arrivals: Arc<Arrivals>,
 }
@@ -198,6 +203,7 @@ impl Sockets {
             replacements: Arc::new(alloc, replacements).map_err(no_memory)?,
             due: VecDeque::new(alloc),
             tried: 0,
+            given: 0,
             arrivals,
         })
     }
@@ -346,7 +352,7 @@ impl Sockets {
     }
 
     /// The next connection as a link, from the sockets in turn. Nobody where there is none, or none for which there is room.
-    pub(crate) fn accept(
+    fn next_link(
         &mut self,
         all: &Arc<OpenLinks>,
         stop: &Option<Arc<Stop>>,
@@ -373,6 +379,32 @@ impl Sockets {
         // The others are tried after a wait, which finds what else is to be done.
         self.arrivals.hurry();
         Err(Missed::Nobody)
+    }
+
+    /// The next connection as a link, as far as it is there and this wait's share isn't used up; then the next wait ends at once.
+    pub(crate) fn accept(
+        &mut self,
+        all: &Arc<OpenLinks>,
+        stop: &Option<Arc<Stop>>,
+    ) -> Result<RealLink, Missed>
+        ensures places { self.new.places ≡ self.old.places }
+        ensures origin { IfOk result (λ l. Contains (map (λ p. socket_of p.origin) self.old.places.items)
+            (socket_of (⟦<RealLink as Link>⟧.origin l))) }
+        ensures fresh { IfOk result (λ l. IsFresh (⟦<RealLink as Link>⟧.told l) (⟦<RealLink as Link>⟧.failed_receives l)
+            (⟦<RealLink as Link>⟧.failed_sends l) (⟦<RealLink as Link>⟧.stalls l)) }
+    {
+        if self.given >= SHARE && self.arrivals.is_watched() {
+            self.given = 0;
+            self.arrivals.hurry();
+            return Err(Missed::Nobody);
+        }
+        let found = self.next_link(all, stop);
+        self.given = if found.is_ok() {
+            self.given.saturating_add(1)
+        } else {
+            0
+        };
+        found
     }
 
     /// Notes that a link of the socket at this place has ended: it is due where peers may wait for that.

@@ -4,6 +4,7 @@ ghost use Rattle.std.specs.Prelude.{◌≡◌, IfErr};
 ghost use Rattle.list_laws.specs.Lists.{BeginsWith};
 
 use crate::limits::{Limits, has_passed};
+use crate::turns::Turns;
 use crate::watch::{Lateness, Watch};
 use mio::unix::SourceFd;
 use mio::{Interest, Registry, Token};
@@ -28,13 +29,15 @@ pub(crate) fn interest(tells_of_room: bool) -> Interest {
 #[derive(Drop)]
 pub(crate) struct Watched {
     pub(crate) number: u32,
+    /// The number of the socket over which it came.
+    pub(crate) from: u32,
     pub(crate) socket: RawFd,
     pub(crate) watch: Arc<Watch>,
     /// When it came, where the clock said so.
     pub(crate) came: Option<Instant>,
     /// Since when it stands with unsent bytes.
     pub(crate) stands_since: Option<Instant>,
-    /// Whether it stands in the list of those that are due.
+    /// Whether it stands among those that are due.
     pub(crate) is_due: bool,
     /// Whether the poll is to report that its peer has read: while a sending is stalled.
     pub(crate) tells_of_room: bool,
@@ -69,12 +72,12 @@ impl Watched {
         Ok(())
     }
 
-    /// Puts it into the list of those that are due, where it is not there. False where there is no memory.
-    fn become_due(&mut self, due: &mut Vec<u32>) -> bool {
+    /// Puts it among those that are due, where it is not there. False where there is no memory.
+    fn become_due(&mut self, due: &mut Turns) -> bool {
         if self.is_due {
             return true;
         }
-        self.is_due = due.push(self.number).is_ok();
+        self.is_due = due.push(self.from, self.number).is_ok();
         self.is_due
     }
 
@@ -94,8 +97,10 @@ impl Watched {
 #[derive(Drop)]
 pub(crate) struct Table {
     links: Vec<Option<Watched>>,
-    /// The numbers of those that are due, each once.
-    due: Vec<u32>,
+    /// Those that are due, each once.
+    due: Turns,
+    /// The numbers of those whose turn it is.
+    turn: Vec<u32>,
     /// The numbers that were listed last, whose links had a round since.
     listed: Vec<u32>,
     /// Whether all are due: there was no memory to say which.
@@ -107,7 +112,8 @@ impl Table {
     pub(crate) fn start(alloc: Global) -> Table {
         Table {
             links: Vec::new(alloc),
-            due: Vec::new(alloc),
+            due: Turns::start(alloc),
+            turn: Vec::new(alloc),
             listed: Vec::new(alloc),
             is_short: false,
         }
@@ -115,13 +121,13 @@ impl Table {
 
     /// Whether a link is due.
     pub(crate) fn has_due(&self) -> bool {
-        self.is_short || !self.due.is_empty()
+        self.is_short || !self.due.is_empty() || !self.turn.is_empty()
     }
 
     /// Makes room for a link of this number.
     fn make_room(&mut self, number: u32) -> Result<(), Memory> {
         let count = (number as usize).saturating_add(1);
-        self.due.reserve(count)?;
+        self.turn.reserve(count)?;
         self.listed.reserve(count)?;
         for _ in self.links.len()..count {
             self.links.push(None)?;
@@ -133,6 +139,7 @@ impl Table {
     pub(crate) fn insert(&mut self, link: Watched) -> Result<(), Memory> {
         let number = link.number;
         self.make_room(number)?;
+        self.due.make_queue(link.from)?;
         if let Some(place) = self.links.get_mut(number as usize) {
             *place = Some(link);
         }
@@ -142,10 +149,13 @@ impl Table {
 
     /// Watches the link of this number no more.
     pub(crate) fn remove(&mut self, number: u32) {
-        if let Some(place) = self.links.get_mut(number as usize) {
-            *place = None;
+        let Some(place) = self.links.get_mut(number as usize) else {
+            return;
+        };
+        if let Some(link) = place.take() {
+            self.due.remove(link.from, number);
         }
-        self.due.retain(|due| *due != number);
+        self.turn.retain(|other| *other != number);
     }
 
     /// Notes that the link of this number changed, if it is watched, and whether its peer sends no more.
@@ -199,40 +209,50 @@ impl Table {
         Ok(())
     }
 
-    /// All links are due.
-    fn list_all(&mut self) -> Result<(), Memory> {
+    /// It is the turn of all links.
+    fn take_all(&mut self) -> Result<(), Memory> {
         self.due.clear();
+        self.turn.clear();
         for place in self.links.iter_mut() {
             if let Some(link) = place {
                 link.is_due = true;
-                self.due.push(link.number)?;
+                self.turn.push(link.number)?;
             }
         }
         self.is_short = false;
         Ok(())
     }
 
-    /// Notes that those that were due are listed now.
+    /// It is the turn of some of those that are due.
+    fn take_turn(&mut self) {
+        if self.due.take(&mut self.turn).is_err() {
+            self.is_short = true;
+        }
+    }
+
+    /// Notes that those whose turn it was are listed now.
     fn hand_over(&mut self) {
-        for number in self.due.as_slice() {
+        for number in self.turn.as_slice() {
             if let Some(Some(link)) = self.links.get_mut(*number as usize) {
                 link.is_due = false;
             }
         }
-        mem::swap(&mut self.due, &mut self.listed);
-        self.due.clear();
+        mem::swap(&mut self.turn, &mut self.listed);
+        self.turn.clear();
     }
 
-    /// Appends the numbers of all links, or of those that are due.
+    /// Appends the numbers of all links, or of those that are due and whose turn it is.
     pub(crate) fn list(&mut self, all: bool, into: &mut Row<u32>) -> Result<(), EdgeFault>
         ensures kept { BeginsWith into.new into.old }
         ensures fault { IfErr result (λ e. e ≡ EdgeFault.Memory) }
     {
         if all || self.is_short {
             self.is_short = true;
-            self.list_all()?;
+            self.take_all()?;
+        } else {
+            self.take_turn();
         }
-        append(self.due.as_slice(), into)?;
+        append(self.turn.as_slice(), into)?;
         self.hand_over();
         Ok(())
     }

@@ -119,33 +119,73 @@ fn next_sockets<const N: usize>(
     Ok(numbers)
 }
 
+/// Listens at a socket of the number 0 and one of the number 1.
+fn listen_at_two(
+    rt: &HostRuntime,
+    listener: &mut RealListener,
+    busy: &str,
+    calm: &str,
+) -> Result<(), Fail> {
+    let alloc = rt.alloc();
+    listen_at(rt, listener, busy, origin_of(alloc, b"app:busy", 0)?, 64)?;
+    listen_at(rt, listener, calm, origin_of(alloc, b"app:calm", 1)?, 64)?;
+    Ok(())
+}
+
+/// So many callers of the first of these sockets, and one of the second.
+fn callers_of(
+    rt: &HostRuntime,
+    count: u32,
+    busy: &str,
+    calm: &str,
+) -> Result<Vec<UnixStream>, Fail> {
+    let mut peers = Vec::new(rt.alloc());
+    for _ in 0..count {
+        peers.push(UnixStream::connect(rt, busy)?)?;
+    }
+    peers.push(UnixStream::connect(rt, calm)?)?;
+    Ok(peers)
+}
+
 #[test]
 fn a_busy_socket_does_not_starve_another(rt: HostRuntime) -> Result<(), Fail> {
     let alloc = rt.alloc();
     let (busy, calm) = (path_of(&rt, "busy")?, path_of(&rt, "calm")?);
     let mut listener = nowhere(&rt)?;
-    listen_at(
-        &rt,
-        &mut listener,
-        busy.as_str(),
-        origin_of(alloc, b"app:busy", 0)?,
-        64,
-    )?;
-    listen_at(
-        &rt,
-        &mut listener,
-        calm.as_str(),
-        origin_of(alloc, b"app:calm", 1)?,
-        64,
-    )?;
-    let mut peers = Vec::new(alloc);
-    for _ in 0..20 {
-        peers.push(UnixStream::connect(&rt, busy.as_str())?)?;
-    }
-    peers.push(UnixStream::connect(&rt, calm.as_str())?)?;
+    listen_at_two(&rt, &mut listener, busy.as_str(), calm.as_str())?;
+    let _peers = callers_of(&rt, 20, busy.as_str(), calm.as_str())?;
     let mut links = Vec::new(alloc);
     let numbers: [u32; 4] = next_sockets(&mut listener, &mut links)?;
     assert!(rt; numbers.contains(&1));
+    fs::remove_file(&rt, busy.as_str())?;
+    fs::remove_file(&rt, calm.as_str())?;
+    Ok(())
+}
+
+#[test]
+fn a_wait_lists_a_link_of_each_socket(rt: HostRuntime) -> Result<(), Fail> {
+    let alloc = rt.alloc();
+    let (busy, calm) = (path_of(&rt, "turns_busy")?, path_of(&rt, "turns_calm")?);
+    let mut listener = nowhere(&rt)?;
+    listen_at_two(&rt, &mut listener, busy.as_str(), calm.as_str())?;
+    let _peers = callers_of(&rt, 8, busy.as_str(), calm.as_str())?;
+    let mut links = Vec::new(alloc);
+    let sockets: [u32; 9] = next_sockets(&mut listener, &mut links)?;
+    let (mut ready, _bell) = RealReady::start(&rt, alloc, &listener, None)?;
+    let mut number: u32 = 0;
+    for link in links.iter_mut() {
+        assert_eq!(rt; ready.add(number, link), Ok(()));
+        number = number.saturating_add(1);
+    }
+    // All nine are due.
+    let listed = told(alloc, &mut ready)?;
+    assert_eq!(rt; listed.len(), 2);
+    let calm_one = sockets.iter().position(|socket| *socket == 1);
+    let lists_calm = listed
+        .as_slice()
+        .iter()
+        .any(|number| Some(*number as usize) == calm_one);
+    assert!(rt; lists_calm);
     fs::remove_file(&rt, busy.as_str())?;
     fs::remove_file(&rt, calm.as_str())?;
     Ok(())

@@ -45,12 +45,15 @@ pub(crate) fn accepted(listener: &mut RealListener) -> Result<RealLink, Fail>
     }
 }
 
-/// The next link of a listener to which a peer has connected.
+/// The next link of a listener to which a peer has connected. One that is watched gives one of them before a wait, and then says once that
+/// none is there.
 pub(crate) fn next_link(listener: &mut RealListener) -> Result<RealLink, Fail> {
-    match listener.accept() {
-        Accepted::Link(link) => Ok(link),
-        _ => Err("no link")?,
+    for _ in 0..2 {
+        if let Accepted::Link(link) = listener.accept() {
+            return Ok(link);
+        }
     }
+    Err("no link")?
 }
 
 /// Read and write for the process's own user.
@@ -277,8 +280,9 @@ fn a_watcher_tells_of_links_and_a_bell_of_all(rt: HostRuntime) -> Result<(), Fai
         assert_eq!(rt; ready.add(number, &mut link), Ok(()));
         links.push(link)?;
     }
-    // All are new, so all may be ready; once each was found idle, none is.
-    assert_eq!(rt; told(alloc, &mut ready)?.as_slice(), [3, 4, 5].as_slice());
+    // All are new, so all may be ready, and two are listed at a time; once each was found idle, none is.
+    assert_eq!(rt; told(alloc, &mut ready)?.as_slice(), [3, 4].as_slice());
+    assert_eq!(rt; told(alloc, &mut ready)?.as_slice(), [5, 3].as_slice());
     let mut room = [0; 2];
     for link in links.iter_mut() {
         assert_eq!(rt; link.receive(&mut room), Received::Idle);
