@@ -15,11 +15,12 @@ ghost use Rattle.wl_publish.specs.Lists.{IsLast};
 ghost use Rattle.wl_publish.specs.Listings.{listing};
 ghost use Rattle.wl_desk.specs.Desks.{grown, noted, SpentIn};
 
+use spiffe_id::TrustDomain;
 use std::alloc::Global;
 use std::marker::Model;
 use std::sync::Wait;
 use svid_cache::Installed;
-use wl_document::DocFault;
+use wl_document::{AuthorityState, DocFault};
 use wl_entry::{Ask, Signed, Voucher};
 use wl_manager::Manager;
 use wl_octets::{Memory, Row};
@@ -56,6 +57,41 @@ impl<V: Voucher> Desk<V> {
             publisher,
             seats,
         }
+    }
+
+    /// The own trust domain, which a document has to have: that of the publications. It takes no memory.
+    pub fn domain(&self) -> &TrustDomain
+        ensures { result.now ≡ self.now.managed.stored.published.domain }
+    {
+        &self.manager.snapshot().part().domain
+    }
+
+    /// Takes what a document says, as `sync` takes the document. So it can be read by `wl_document::read_state`, with
+    /// `domain` as the own one, while the desk is free. The state's own domain is not looked at: the publications' stays.
+    /// There is a note exactly where there is a new publication; out of memory nothing changes.
+    pub fn sync_state<R: Wait>(
+        &mut self,
+        rt: &R,
+        alloc: Global,
+        state: AuthorityState,
+    ) -> Result<Option<Note<V>>, Memory>
+        ensures stored { OnOk result
+            (self.new.managed.stored
+            ≡ stored_after (after_sync state self.old.managed.stored) self.old.managed.stored) }
+        ensures list { OnOk result (self.new.list ≡ grown self.old.list (change_to (after_sync state self.old.managed.stored) self.old.managed.stored) self.new.managed.stored.published) }
+        ensures note { IfOk result
+            (λ note. note
+            ≡ noted (change_to (after_sync state self.old.managed.stored) self.old.managed.stored)
+            (listing self.new.store self.new.list)) }
+        ensures history { (history : List CachedToken) → StandsFor self.old.managed.tokens history
+            → OnOk result (StandsFor self.new.managed.tokens (history_after self.old.managed.stored.store.entries self.new.managed.stored.store.entries history)) }
+        ensures rest { (self.new.store ≡ self.old.store) × (self.new.seats ≡ self.old.seats) }
+        ensures err { OnErr result (self.new ≡ self.old) }
+    {
+        let prepared = self.manager.prepare_state(alloc, state)?;
+        let (adopted, note) = self.settle(rt, alloc, prepared)?;
+        adopted.abandon();
+        Ok(note)
     }
 
     /// Takes a document, as `Manager::sync` does. There is a note exactly where there is a new publication; at a fault

@@ -15,7 +15,7 @@ use crate::dropping::{changed_ids, forget_all};
 use crate::manager::Manager;
 use std::alloc::Global;
 use svid_cache::Installed;
-use wl_document::DocFault;
+use wl_document::{AuthorityState, DocFault};
 use wl_entry::{Signed, Voucher};
 use wl_octets::{Memory, Octets, Row, Shared};
 use wl_snapshot::Snapshot;
@@ -54,6 +54,45 @@ impl<V: Voucher> Manager<V> {
         changed_ids(alloc, self.store.asks(), &step.next)
     }
 
+    /// The step with the entries whose tokens it drops: those whose ask it changes or removes.
+    fn with_dropped(
+        &self,
+        alloc: Global,
+        step: wl_store::Prepared<V>,
+    ) -> Result<Prepared<V>, Memory>
+        ensures step { IfOk result (λ p. p.step ≡ step) }
+        ensures dropped { IfOk result
+            (λ p. p.dropped
+            ≡ changed_ids (asks_of self.now.stored.store.entries) (asks_of step.next.store.entries)) }
+    {
+        match self.dropped_by(alloc, &step) {
+            Ok(dropped) => Ok(Prepared { step, dropped }),
+            Err(Memory) => {
+                step.abandon();
+                Err(Memory)
+            }
+        }
+    }
+
+    /// Prepares the step of a document that says this, as `prepare_sync` does. The state's own domain is not
+    /// looked at: the publications' stays.
+    pub fn prepare_state(&self, alloc: Global, state: AuthorityState) -> Result<Prepared<V>, Memory>
+        ensures next { IfOk result
+            (λ p. p.step.next ≡ stored_after (after_sync state self.now.stored) self.now.stored) }
+        ensures change { IfOk result
+            (λ p. p.step.answer.change ≡ change_to (after_sync state self.now.stored) self.now.stored) }
+        ensures tickets { IfOk result (λ p. p.step.answer.tickets ≡ []) }
+        ensures installed { IfOk result (λ p. p.step.answer.installed ≡ None) }
+        ensures touched { IfOk result
+            (λ p. SameBut p.step.answer.touched self.now.stored.published p.step.next.published) }
+        ensures dropped { IfOk result
+            (λ p. p.dropped
+            ≡ changed_ids (asks_of self.now.stored.store.entries) (asks_of p.step.next.store.entries)) }
+    {
+        let step = self.store.prepare_state(alloc, state)?;
+        self.with_dropped(alloc, step)
+    }
+
     /// Prepares the step that a document is read. Its own domain has to be the manager's. The tokens are to be dropped
     /// of each entry whose ask it changes or removes.
     pub fn prepare_sync(&self, alloc: Global, document: &[u8]) -> Result<Prepared<V>, DocFault>
@@ -74,12 +113,9 @@ impl<V: Voucher> Manager<V> {
             (λ e. Faults e (document_state (Some self.now.stored.published.domain) document.now)) }
     {
         let step = self.store.prepare_sync(alloc, document)?;
-        match self.dropped_by(alloc, &step) {
-            Ok(dropped) => Ok(Prepared { step, dropped }),
-            Err(Memory) => {
-                step.abandon();
-                Err(DocFault::Memory)
-            }
+        match self.with_dropped(alloc, step) {
+            Ok(prepared) => Ok(prepared),
+            Err(Memory) => Err(DocFault::Memory),
         }
     }
 

@@ -179,8 +179,9 @@ impl<V: Voucher> Store<V> {
         })
     }
 
-    /// The step of a document's state.
-    fn resync(&self, alloc: Global, state: AuthorityState) -> Result<Prepared<V>, Memory>
+    /// Prepares the step of a document that says this. The state's own domain is not looked at: the
+    /// publications' stays.
+    pub fn prepare_state(&self, alloc: Global, state: AuthorityState) -> Result<Prepared<V>, Memory>
         ensures next { IfOk result (λ p. p.next ≡ stored_after (after_sync state self.now) self.now) }
         ensures change { IfOk result (λ p. p.answer.change ≡ change_to (after_sync state self.now) self.now) }
         ensures tickets { IfOk result (λ p. p.answer.tickets ≡ []) }
@@ -213,7 +214,7 @@ impl<V: Voucher> Store<V> {
             (λ e. Faults e (document_state (Some self.now.published.domain) document.now)) }
     {
         let state = read_state(alloc, document, Some(&self.published.part().domain))?;
-        match self.resync(alloc, state) {
+        match self.prepare_state(alloc, state) {
             Ok(prepared) => Ok(prepared),
             Err(Memory) => Err(DocFault::Memory),
         }

@@ -61,20 +61,15 @@ kept_bundles d m = refl
 after_document : (d : State) (m : Stored) → ShowsKept (after_sync d m) m.published (stored_after (after_sync d m) m).published
 after_document d m = let s = after_sync d m in shows_kept (shows_parts m.published s.entries s.svids s.bundles) s m refl
 
-shown_state : (read : Result State DocFault) (m n : Stored) → IsOkAnd read (λ d. n ≡ stored_after (after_sync d m) m) → (n.published.domain ≡ m.published.domain) × IsOkAnd read (ShowsState n.published)
-shown_state (Ok d) m n is =
-    let shown = after_document d m in
-    let same = ap (λ (k : Stored). k.published) is in (
-      ap (λ (p : Publication). p.domain) same ∙ shown.domain,
-      (ap (λ (p : Publication). p.entries) same ∙ shown.entries ∙ kept_entries d m, ap (λ (p : Publication). p.bundles) same ∙ shown.bundles ∙ kept_bundles d m),
-    )
-shown_state (Err e) m n is = absurd is
-
 -- a document that was taken is shown by the last publication
-pub taken_is_shown : (document : List ℕ) (list : List Publication) (m n : Stored) → IsLast list n.published → IsOkAnd (document_state (Some m.published.domain) document) (λ d. n ≡ stored_after (after_sync d m) m) → IsTaken document list
-taken_is_shown document list m n last is =
-    let shown = shown_state (document_state (Some m.published.domain) document) m n is in
-    (n.published, last, subst (λ (domain : List ℕ). IsOkAnd (document_state (Some domain) document) (ShowsState n.published)) (sym shown.0) shown.1)
+pub taken_is_shown : (document : List ℕ) (list : List Publication) (m n : Stored) (d : State) → IsLast list n.published → document_state (Some m.published.domain) document ≡ Ok d → n ≡ stored_after (after_sync d m) m → IsTaken document list
+taken_is_shown document list m n d last read is =
+    let shown = after_document d m in
+    let same = ap (λ (k : Stored). k.published) is in
+    let domain = ap (λ (p : Publication). p.domain) same ∙ shown.domain in
+    let says = ap (λ (own : List ℕ). document_state (Some own) document) domain ∙ read in
+    let parts : ShowsState n.published d = (ap (λ (p : Publication). p.entries) same ∙ shown.entries ∙ kept_entries d m, ap (λ (p : Publication). p.bundles) same ∙ shown.bundles ∙ kept_bundles d m) in
+    (n.published, last, subst (λ (r : Result State DocFault). IsOkAnd r (ShowsState n.published)) (sym says) parts)
 
 -- ---- a fault
 

@@ -1,11 +1,13 @@
 //! Each call of a desk, with its note.
 
 use super::{Stop, document, identity, last_ticket, number_in, open};
+use spiffe_id::TrustDomain;
 use std::alloc::{AllocGlobal, Global};
 use std::sync::Wait;
 use std::test::Fail;
 use svid_cache::Installed;
 use wl_desk::Desk;
+use wl_document::read_state;
 use wl_entry::{Ask, Free, JwtToken};
 use wl_manager::Keeping;
 use wl_octets::{Memory, Octets, Row};
@@ -51,6 +53,20 @@ fn sync<R: Wait>(
     let document = document(alloc, id, 0)?;
     match desk.sync(rt, alloc, document.as_bytes()) {
         Ok(note) => Ok(number_in(note)),
+        Err(_) => Err(Stop::Document),
+    }
+}
+
+/// Takes what this document says, read with this domain as the own one, if any; and tells the number of the note.
+fn sync_state<R: Wait>(
+    rt: &R,
+    alloc: Global,
+    desk: &mut Desk<Free>,
+    document: &[u8],
+    domain: Option<&TrustDomain>,
+) -> Result<Option<u64>, Stop> {
+    match read_state(alloc, document, domain) {
+        Ok(state) => Ok(number_in(desk.sync_state(rt, alloc, state)?)),
         Err(_) => Err(Stop::Document),
     }
 }
@@ -127,6 +143,33 @@ fn changes_the_ask<R: Wait>(rt: &R, alloc: Global, desk: &mut Desk<Free>) -> Res
     )?)
 }
 
+/// A document of another domain.
+const FOREIGN: &[u8] =
+    b"{\"version\":1,\"trust_domain\":\"c.d\",\"bundles\":[{\"trust_domain\":\"c.d\",\"x509\":\"Aw==\"}],\"entries\":[]}";
+
+/// The entry gets another id, by a document that is read first; the same again, in both ways; and a document of another
+/// domain, read with the desk's domain as the own one, and with none.
+fn takes_what_was_read<R: Wait>(
+    rt: &R,
+    alloc: Global,
+    desk: &mut Desk<Free>,
+) -> Result<String, Stop> {
+    let own = match desk.domain().copy(alloc) {
+        Ok(own) => own,
+        Err(Memory) => return Err(Stop::Memory),
+    };
+    let document = document(alloc, "v", 0)?;
+    let taken = sync_state(rt, alloc, desk, document.as_bytes(), Some(&own))?;
+    let again = sync_state(rt, alloc, desk, document.as_bytes(), Some(&own))?;
+    let whole = sync(rt, alloc, desk, "v")?;
+    let is_refused = sync_state(rt, alloc, desk, FOREIGN, Some(&own)).is_err();
+    let foreign = sync_state(rt, alloc, desk, FOREIGN, None)?;
+    let is_kept = *desk.domain() == own;
+    Ok(format!(in alloc;
+        "{taken:?}, {again:?}, {whole:?}, refused {is_refused}, {foreign:?}, domain {is_kept}"
+    )?)
+}
+
 /// The number that the first pass reads.
 fn number_read(passes: Row<Pass<Free>>) -> Option<u64> {
     let mut pass = passes.into_vec().pop()?;
@@ -160,6 +203,18 @@ fn desk_calls_of_a_changed_ask(rt: HostRuntime) -> Result<(), Fail> {
     assert_eq!(rt;
         said?.as_str(),
         "Some(1), unknown-ask None, None, refused true, 1"
+    );
+    Ok(())
+}
+
+#[test]
+fn desk_takes_what_was_read(rt: HostRuntime) -> Result<(), Fail> {
+    let (mut desk, _) = open(&rt, rt.alloc(), 1)?;
+    let said = takes_what_was_read(&rt, rt.alloc(), &mut desk);
+    desk.end(&rt);
+    assert_eq!(rt;
+        said?.as_str(),
+        "Some(1), None, None, refused true, Some(2), domain true"
     );
     Ok(())
 }

@@ -30,6 +30,8 @@ impl Identity {
 pub enum Event {
     /// A document is read.
     Sync(&'static [u8]),
+    /// A document is read first, and then what it says is taken.
+    SyncState(&'static [u8]),
     /// What is due at this time is claimed.
     Claim(u64),
     /// The ticket of this number comes back with an identity, at this time.

@@ -118,6 +118,7 @@ impl Replay {
         match event {
             Event::Sync(document) if self.is_prepared => self.prepare_sync(rt, alloc, document),
             Event::Sync(document) => self.sync(rt, alloc, document),
+            Event::SyncState(document) => self.sync_state(rt, alloc, document),
             Event::Claim(now) if self.is_prepared => self.prepare_claim(rt, alloc, now),
             Event::Claim(now) => self.claim(rt, alloc, now),
             Event::Signed(number, identity, now) => {

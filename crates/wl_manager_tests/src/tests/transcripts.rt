@@ -16,13 +16,28 @@ pub struct Transcript {
     pub lines: &'static str,
 }
 
-pub const DOCUMENTS: [Transcript; 2] = [
+pub const DOCUMENTS: [Transcript; 3] = [
     Transcript {
         name: "manager_sync",
         is_strict: false,
         document: DOC,
         events: &[Event::Sync(DOC), Event::Sync(OTHER_ID), Event::Answer],
         lines: "published 0, published 1, wait",
+    },
+    Transcript {
+        name: "manager_state",
+        is_strict: false,
+        document: DOC,
+        events: &[
+            Event::SyncState(DOC),
+            Event::SyncState(FOREIGN),
+            Event::SyncState(OTHER_ID),
+            Event::Sync(OTHER_ID),
+            Event::Answer,
+        ],
+        lines: "published 0, \
+                fault ForeignDomain(Place { part: 0, index: 0, field: 2, item: 0 }), \
+                published 1, wait",
     },
     Transcript {
         name: "faults_change_nothing",

@@ -3,7 +3,7 @@
 use super::Replay;
 use std::alloc::Global;
 use std::process::Abort;
-use wl_document::DocFault;
+use wl_document::{DocFault, read_state};
 use wl_entry::{Free, Signed};
 use wl_manager::{Adopted, Change, Prepared, Ticket};
 
@@ -43,6 +43,24 @@ impl Replay {
     pub(super) fn prepare_sync(&mut self, rt: &impl Abort, alloc: Global, document: &[u8]) {
         match self.manager.prepare_sync(alloc, document) {
             Ok(prepared) => self.adopt(rt, alloc, prepared),
+            Err(DocFault::Memory) => panic!(rt; "memory"),
+            Err(fault) => self.say_fault(rt, alloc, fault),
+        }
+    }
+
+    /// Reads a document with the manager's domain as the own one, and takes what it says.
+    pub(super) fn sync_state(&mut self, rt: &impl Abort, alloc: Global, document: &[u8]) {
+        let read = read_state(
+            alloc,
+            document,
+            Some(&self.manager.snapshot().part().domain),
+        );
+        match read {
+            Ok(state) => {
+                let prepared = self.manager.prepare_state(alloc, state);
+                let prepared = prepared.expect(rt, "memory");
+                self.adopt(rt, alloc, prepared);
+            }
             Err(DocFault::Memory) => panic!(rt; "memory"),
             Err(fault) => self.say_fault(rt, alloc, fault),
         }
