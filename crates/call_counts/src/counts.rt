@@ -9,6 +9,7 @@ pub struct MethodCounts {
     pub begun: u32,
     /// Messages that answer them.
     pub messages: u32,
+    is_empty: bool,
     ok: u32,
     cancelled: u32,
     invalid_argument: u32,
@@ -40,6 +41,7 @@ impl MethodCounts {
         MethodCounts {
             begun: 0,
             messages: 0,
+            is_empty: true,
             ok: 0,
             cancelled: 0,
             invalid_argument: 0,
@@ -51,6 +53,11 @@ impl MethodCounts {
             unavailable: 0,
             http: 0,
         }
+    }
+
+    /// Whether all counts are 0.
+    pub fn is_empty(&self) -> bool {
+        self.is_empty
     }
 
     /// How many calls ended with this status.
@@ -123,7 +130,7 @@ impl CallCounts {
     /// The counts of a method, to be changed.
     fn of_mut(&mut self, method: CallMethod) -> &mut MethodCounts {
         self.is_empty = false;
-        match method {
+        let counts = match method {
             CallMethod::FetchX509Svid => &mut self.x509_svid,
             CallMethod::FetchX509Bundles => &mut self.x509_bundles,
             CallMethod::FetchJwtSvid => &mut self.jwt_svid,
@@ -131,7 +138,9 @@ impl CallCounts {
             CallMethod::Check => &mut self.check,
             CallMethod::Watch => &mut self.watch,
             CallMethod::Unread => &mut self.unread,
-        }
+        };
+        counts.is_empty = false;
+        counts
     }
 
     /// Counts a call of this method that began.

@@ -50,12 +50,21 @@ fn has(rt: &(impl AllocGlobal + Abort), counts: &CallCounts, expected: Counted) 
     );
 }
 
+/// Asserts of which methods nothing was counted.
+fn leaves_others_empty(rt: &(impl AllocGlobal + Abort), counts: &CallCounts, expected: &[Counted]) {
+    for method in CallMethod::all() {
+        let is_counted = expected.iter().any(|one| one.0 == method);
+        assert_eq!(rt; counts.of(method).is_empty(), !is_counted, "{method:?}");
+    }
+}
+
 /// Asserts what these steps of a connection count.
 fn counts(rt: &(impl AllocGlobal + Abort), steps: &[Step], expected: &[Counted]) {
     let mut tally = CallTally::start(rt.alloc());
     go(rt, &mut tally, steps);
     let found = tally.take();
     assert_eq!(rt; found.is_empty(), expected.is_empty());
+    leaves_others_empty(rt, &found, expected);
     for one in expected {
         has(rt, &found, *one);
     }

@@ -1,7 +1,7 @@
 //! A connection table whose calls are counted.
 
 use call_counts::{CallMethod, CallStatus, CallTally};
-use grpc_wire::{Method, Refusal};
+use grpc_wire::{Method, Refusal, status};
 use h2_conn::Conn;
 use std::marker::Model;
 
@@ -34,14 +34,15 @@ pub fn call_method(method: Method) -> CallMethod {
 
 /// The status of a refusal, as it is counted.
 pub fn refused_status(refusal: Refusal) -> CallStatus {
-    match refusal {
-        Refusal::BadMethod | Refusal::BadContent => CallStatus::Http,
-        Refusal::UnknownPath | Refusal::Compressed => CallStatus::Unimplemented,
-        Refusal::Insecure | Refusal::NoAudience | Refusal::BadId => CallStatus::InvalidArgument,
-        Refusal::Flag | Refusal::Count | Refusal::Undecodable => CallStatus::Internal,
-        Refusal::LongRequest | Refusal::LongResponse => CallStatus::ResourceExhausted,
-        Refusal::NoIdentity => CallStatus::PermissionDenied,
-        Refusal::Unsigned | Refusal::Unattested => CallStatus::Unavailable,
-        Refusal::UnknownService => CallStatus::NotFound,
+    match refusal.status() {
+        status::INVALID_ARGUMENT => CallStatus::InvalidArgument,
+        status::NOT_FOUND => CallStatus::NotFound,
+        status::PERMISSION_DENIED => CallStatus::PermissionDenied,
+        status::RESOURCE_EXHAUSTED => CallStatus::ResourceExhausted,
+        status::UNIMPLEMENTED => CallStatus::Unimplemented,
+        status::INTERNAL => CallStatus::Internal,
+        status::UNAVAILABLE => CallStatus::Unavailable,
+        // the others are statuses of HTTP
+        _ => CallStatus::Http,
     }
 }
