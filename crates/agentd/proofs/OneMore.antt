@@ -1,5 +1,5 @@
 -- Sockets that are listened at one after the other.
-use Rattle.std.specs.Prelude.{◌≡◌, ℕ, ◌+◌, ◌<◌, List, [], ◌∷◌, ◌++◌, length, map, take, slice_index_or, Option, Some, None}
+use Rattle.std.specs.Prelude.{◌≡◌, ℕ, ◌+◌, ◌<◌, List, [], ◌∷◌, ◌++◌, length, map, take, slice_index_or, string_bytes, Option, Some, None}
 use Rattle.std.proofs.Common.{◌∙◌, sym, ap}
 use Rattle.std.proofs.lemmas.List.{take_more, map_push}
 use Rattle.wl_edge.specs.Listeners.{BoundSocket, ListenerLog}
@@ -16,7 +16,7 @@ abbrev pub sockets_seen : RealListener → Option (List BoundSocket)
 sockets_seen l = Some (map (λ p. place.socket_of p.origin) l.sockets.places.items)
 
 abbrev pub paths_seen : RealListener → List (List ℕ)
-paths_seen l = l.paths.list
+paths_seen l = map (λ p. string_bytes p.name) l.sockets.places.items
 
 abbrev pub told_seen : RealListener → Option ListenerLog
 told_seen l = Some (record {

@@ -31,7 +31,7 @@ module _ (vouched : Ask → List (List ℕ) → JwtToken → Type 0) (links tell
   tended first v end h = record { unused = h.unused; is_unused = h.is_unused; told = h.told; pass = h.pass; seen = h.seen; mine = h.mine; sent = λ _. h.sent always }
 
   seat_ran : (first : Publication) (sockets : List (ℕ × SocketFact)) (v : SeatView) → SeatRan vouched links tells first sockets v → SeatRan vouched ⊤ tells first sockets v
-  seat_ran first sockets v r = record { end = r.end; ended = r.ended; sockets = r.sockets; room = r.room; first = r.first; listened = r.listened; tended = tended first v r.end r.tended; listen = r.listen; wait = r.wait }
+  seat_ran first sockets v r = record { end = r.end; ended = r.ended; sockets = r.sockets; room = r.room; at_most = r.at_most; first = r.first; listened = r.listened; tended = tended first v r.end r.tended; listen = r.listen; wait = r.wait }
 
   all_ran : (first : Publication) (n : ℕ) (sockets : List SocketFact) (ks : List ℕ) (vs : List SeatView) → AllZip (λ k v. SeatRan vouched links tells first (dealt n k sockets) v) ks vs → AllZip (λ k v. SeatRan vouched ⊤ tells first (dealt n k sockets) v) ks vs
   all_ran first n sockets [] [] h = h

@@ -1,5 +1,6 @@
 -- Listeners: the kinds of their answers, and the links that were finished (own rules).
-use Rattle.std.specs.Prelude.{◌≡◌, ◌⊎◌, ⊤, ℕ, ◌+◌, ◌<◌, ◌≤◌, ◌^◌, Bool, true, false, List, [], ◌∷◌, ◌++◌, length, count_by, replicate, Contains, Option, Some, IfSome}
+use Rattle.std.specs.Prelude.{◌≡◌, ◌⊎◌, ⊤, ℕ, ◌+◌, ◌<◌, ◌≤◌, ◌^◌, Bool, true, false, List, [], ◌∷◌, ◌++◌, length, count_by, replicate, Contains, Option, Some, None, IfSome, IsSomeAnd}
+use mathlib.Core.List.{IsPrefix}
 use Rattle.wl_edge.specs.Edge.{Rose}
 use Rattle.wl_edge.specs.Links.{LinkLog}
 use Rattle.wl_edge.specs.declared.origin.Origin.{Origin}
@@ -24,6 +25,11 @@ pub record BoundSocket : Type 0 where
 -- The origin is one of these sockets, if they are known.
 abbrev pub CameOver : Option (List BoundSocket) → Origin → Type 0
 CameOver sockets origin = IfSome sockets (λ known. Contains known (record { selectors = origin.selectors; number = origin.socket }))
+
+-- The sockets of a listener only grow: those that are known stay, in their order, and more may follow (own rule).
+abbrev pub OnlyAdds : Option (List BoundSocket) → Option (List BoundSocket) → Type 0
+OnlyAdds None now = now ≡ None
+OnlyAdds (Some known) now = IsSomeAnd now (λ all. IsPrefix known all)
 
 -- The kinds of a listener's answers, and the links that were finished, in their order.
 pub record ListenerLog : Type 0 where

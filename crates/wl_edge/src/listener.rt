@@ -2,7 +2,7 @@
 
 ghost use Rattle.std.specs.Prelude.{◌≡◌, ℕ, List, Option};
 ghost use Rattle.wl_edge.specs.Links.{IsFresh};
-ghost use Rattle.wl_edge.specs.Listeners.{ListenerLog, BoundSocket, CameOver, Accepts, IfLink, HasOpenLink, Finishes};
+ghost use Rattle.wl_edge.specs.Listeners.{ListenerLog, BoundSocket, CameOver, OnlyAdds, Accepts, IfLink, HasOpenLink, Finishes};
 
 use crate::link::Link;
 use crate::origin::Origin;
@@ -43,13 +43,13 @@ pub trait Listener {
     /// How often an accept has failed. It never falls; at 2^64-1 it stays.
     ghost faults: { Self → ℕ };
 
-    /// A new link, if one is there. It has given and taken nothing.
+    /// A new link, if one is there. It has given and taken nothing. The listener may know more sockets from then on.
     fn accept(&mut self) -> Accepted<Self::L>
         ensures gives { Accepts (told self.old) (told self.new) (faults self.old) (faults self.new) result }
         ensures fresh { IfLink result (λ link. IsFresh (Self.L.told link) (Self.L.failed_receives link)
             (Self.L.failed_sends link) (Self.L.stalls link)) }
-        ensures origin { IfLink result (λ link. CameOver (sockets self.old) (Self.L.origin link)) }
-        ensures sockets { sockets self.new ≡ sockets self.old };
+        ensures origin { IfLink result (λ link. CameOver (sockets self.new) (Self.L.origin link)) }
+        ensures sockets { OnlyAdds (sockets self.old) (sockets self.new) };
 
     /// Takes back a link that it gave and that is not served any more.
     fn finish(&mut self, link: Self::L)

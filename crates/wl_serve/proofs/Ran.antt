@@ -15,18 +15,19 @@ use Rattle.wl_document.specs.Checks.{Faults}
 use Rattle.wl_document.specs.Documents.{document_state}
 use Rattle.wl_worker.proofs.PublishedSteps.{fault_is_due}
 use Rattle.wl_manager.specs.Managers.{Managed, first_managed}
-use Rattle.wl_edge.specs.Listeners.{ListenerLog, BoundSocket, links_given}
+use Rattle.wl_edge.specs.Listeners.{ListenerLog, BoundSocket, OnlyAdds, links_given}
 use Rattle.wl_snapshot.specs.Snapshots.{Publication}
 use Rattle.wl_publish.specs.Listings.{Passing}
 use Rattle.wl_config.specs.declared.config.SocketFact.{SocketFact}
 use Rattle.wl_config.specs.declared.fault.ConfigFault.{ConfigFault}
 use Rattle.wl_config.specs.Configs.{Configuration, Within}
+use Rattle.wl_config.specs.declared.limits.TheConstants.{MAX_ALL_CONNECTIONS}
 use Rattle.wl_worker.specs.declared.seat.SeatEnd.{SeatEnd}
 use Rattle.wl_worker.specs.Tended.{ListenedTo, FinishesAll}
 use Rattle.wl_served.specs.Sent.{Tells}
 use Rattle.wl_serve.specs.Views.{SeatView, PartsView, world_of}
 use Rattle.wl_serve.specs.Seating.{IsOpen, IsIdle, SeesOn, ServedTo, ServedFrom, with_pass}
-use Rattle.wl_dealing.specs.Dealt.{dealt, socket_of}
+use Rattle.wl_dealing.specs.Dealt.{dealt, socket_of, room_of}
 use Rattle.wl_serve.specs.Prepared.{IsSeat, AreSeats, IsPrepared, seat_count}
 use Rattle.wl_serve.specs.Serving.{pull_of, first_of, unheard, has_fault, lacks_memory, end_of, ends, Sat, SatTells, SawFirst, HasTended, SeatRan, AllRan, WasPulled, Pulled, PulledOn, PulledFit, Ran, NoneRan, EndTells, ServeTells}
 use Rattle.wl_worker.specs.Upkeep.{PulledAgain}
@@ -98,6 +99,12 @@ saw_first : (first : Publication) (pass : Passing) → pass.seen ≡ first ∷ [
 saw_first first pass is None sees = absurd sees
 saw_first first pass is (Some later) sees = subst (λ seen. IsPrefix seen later.seen) is sees
 
+-- what began with these sockets still does
+began_at : (known : List BoundSocket) (before now : Option (List BoundSocket)) → OnlyAdds before now → IfSome before (λ sockets. sockets ≡ known) → IfSome now (λ sockets. IsPrefix known sockets)
+began_at known None now grown are = subst (λ (s : Option (List BoundSocket)). IfSome s (λ sockets. IsPrefix known sockets)) (sym grown) tt
+began_at known (Some first) (Some all) grown are = subst (λ (l : List BoundSocket). IsPrefix l all) are grown
+began_at known (Some first) None grown are = absurd grown
+
 listened_to : (u w : Option ListenerLog) (end : SeatEnd) → IsSome u → IfSome u (λ log. log ≡ unheard) → ListenedTo end u w → IsSomeAnd w (FinishesAll end unheard)
 listened_to None w end some is to = absurd (true≢false (sym some))
 listened_to (Some log) w end some is to = subst (λ (o : Option ListenerLog). IsSomeAnd o (FinishesAll end unheard)) (sym to.1) (subst (λ (l : ListenerLog). FinishesAll end l to.0) is to.2)
@@ -165,8 +172,9 @@ module _ (vouched : Ask → List (List ℕ) → JwtToken → Type 0) (links tell
   ran_to first sockets v w pass seat seen mine (Some end) at served = record {
     end = end;
     ended = at;
-    sockets = subst (λ (s : Option (List BoundSocket)). IfSome s (λ known. known ≡ map socket_of sockets)) (sym served.sockets) seat.sockets;
-    room = served.room ∙ seat.room;
+    sockets = began_at (map socket_of sockets) v.sockets w.sockets served.sockets seat.sockets;
+    room = subst (λ n. room_of sockets ≤ n) (sym served.room) seat.room;
+    at_most = subst (λ n. n ≤ MAX_ALL_CONNECTIONS) (sym served.room) seat.at_most;
     first = saw_first first pass seen w.pass served.sees;
     listened = λ t. listened_to v.listener w.listener end (seat.told t).listener seat.unused.listener served.finishes;
     tended = tended_from first sockets v w pass seat seen mine end served;

@@ -1,8 +1,10 @@
 -- What a host prepares (own rules): seats, to which the sockets of the configuration are dealt out, of which nothing was used.
-use Rattle.std.specs.Prelude.{◌≡◌, ℕ, min, List, [], length, map, None, IsSome, IfSome}
+use Rattle.std.specs.Prelude.{◌≡◌, ℕ, ◌≤◌, min, List, [], length, map, None, IsSome, IfSome}
 use Rattle.std.specs.List.{AllZip, range_with_len}
+use mathlib.Core.List.{IsPrefix}
 use Rattle.wl_config.specs.declared.config.SocketFact.{SocketFact}
 use Rattle.wl_config.specs.Configs.{Configuration}
+use Rattle.wl_config.specs.declared.limits.TheConstants.{MAX_ALL_CONNECTIONS}
 use Rattle.wl_serve.specs.Views.{SeatView, PartsView}
 use Rattle.wl_dealing.specs.Dealt.{dealt, socket_of, room_of}
 
@@ -28,10 +30,15 @@ pub record IsUnused (v : SeatView) : Type 0 where
 abbrev pub ListensAt : List (ℕ × SocketFact) → SeatView → Type 0
 ListensAt dealt v = IfSome v.sockets (λ sockets. sockets ≡ map socket_of dealt)
 
--- a seat that serves these sockets
+-- The listener's sockets, if they are known, begin with these.
+abbrev pub BeganAt : List (ℕ × SocketFact) → SeatView → Type 0
+BeganAt dealt v = IfSome v.sockets (λ sockets. IsPrefix (map socket_of dealt) sockets)
+
+-- A seat that serves these sockets. It has room for what they serve at once; one that may get more sockets has room for more.
 pub record IsSeat (tells : Type 0) (dealt : List (ℕ × SocketFact)) (v : SeatView) : Type 0 where
   pub sockets : ListensAt dealt v
-  pub room : v.room ≡ room_of dealt
+  pub room : room_of dealt ≤ v.room
+  pub at_most : v.room ≤ MAX_ALL_CONNECTIONS
   pub pass : v.pass ≡ None
   pub end : v.end ≡ None
   pub unused : IsUnused v

@@ -7,7 +7,7 @@ use Rattle.wl_entry.specs.declared.tokens.JwtToken.{JwtToken}
 use Rattle.wl_snapshot.specs.Snapshots.{Publication}
 use Rattle.wl_publish.specs.Listings.{Passing}
 use Rattle.wl_edge.specs.Edge.{Rose}
-use Rattle.wl_edge.specs.Listeners.{ListenerLog, links_given}
+use Rattle.wl_edge.specs.Listeners.{ListenerLog, OnlyAdds, links_given}
 use Rattle.wl_worker.specs.Tended.{ListenedTo}
 use Rattle.wl_served.specs.Sent.{Tells}
 use Rattle.wl_worker.specs.declared.seat.SeatEnd.{SeatEnd}
@@ -50,7 +50,7 @@ module _ (vouched : Ask → List (List ℕ) → JwtToken → Type 0) (links : Ty
   -- and told each of their peers nothing but responses.
   pub record ServedTo (before after : SeatView) (end : SeatEnd) : Type 0 where
     pub room : after.room ≡ before.room
-    pub sockets : after.sockets ≡ before.sockets
+    pub sockets : OnlyAdds before.sockets after.sockets
     pub sees : SeesOn before.pass after.pass
     pub listen : end ≡ ListenFault → Rose before.listener_faults after.listener_faults
     pub wait : end ≡ WaitFault → Rose before.ready_faults after.ready_faults

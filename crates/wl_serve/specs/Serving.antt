@@ -1,5 +1,5 @@
 -- Serving: how it ends, and what stands of the parts then (own rules).
-use Rattle.std.specs.Prelude.{◌≡◌, ◌⊎◌, ℕ, Bool, true, false, if◌then◌else◌, List, [], ◌∷◌, ◌++◌, map, Option, Some, None, IfSome, IsSomeAnd, Result, Ok, Err}
+use Rattle.std.specs.Prelude.{◌≡◌, ◌⊎◌, ℕ, ◌≤◌, Bool, true, false, if◌then◌else◌, List, [], ◌∷◌, ◌++◌, map, Option, Some, None, IfSome, IsSomeAnd, Result, Ok, Err}
 use Rattle.std.specs.List.{list_any, AllByRecursion, AllZip, range_with_len}
 use mathlib.Core.List.{IsPrefix}
 use Rattle.wl_edge.specs.Edge.{Rose}
@@ -15,6 +15,7 @@ use Rattle.wl_publish.specs.Listings.{Passing}
 use Rattle.wl_config.specs.declared.config.SocketFact.{SocketFact}
 use Rattle.wl_config.specs.declared.fault.ConfigFault.{ConfigFault}
 use Rattle.wl_config.specs.Configs.{Configuration}
+use Rattle.wl_config.specs.declared.limits.TheConstants.{MAX_ALL_CONNECTIONS}
 use Rattle.wl_entry.specs.declared.asks.Ask.{Ask}
 use Rattle.wl_entry.specs.declared.tokens.JwtToken.{JwtToken}
 use Rattle.wl_worker.specs.Tended.{FinishesAll}
@@ -24,7 +25,7 @@ use Rattle.wl_worker.specs.declared.seat.SeatEnd.TheVariants as seat
 use Rattle.wl_serve.specs.Views.{SeatView, PartsView, world_of}
 use Rattle.wl_serve.specs.Seating.{ServedFrom}
 use Rattle.wl_dealing.specs.Dealt.{dealt, room_of}
-use Rattle.wl_serve.specs.Prepared.{IsUnused, IsTold, ListensAt, seat_count}
+use Rattle.wl_serve.specs.Prepared.{IsUnused, IsTold, BeganAt, seat_count}
 use Rattle.wl_serve.specs.declared.ending.ServeEnd.{ServeEnd}
 use Rattle.wl_serve.specs.declared.ending.ServeEnd.TheVariants.{Config, Unprepared, NoDocument, Document, HostFault, Memory, Done}
 
@@ -137,13 +138,14 @@ module _ (vouched : Ask → List (List ℕ) → JwtToken → Type 0) (links tell
     pub mine : pass.mine ≡ []
     pub sent : links → (q : Passing) → v.pass ≡ Some q → Tells vouched v.room end (world_of unused pass) (world_of v q)
 
-  -- A seat with these sockets was served. It has its end, which is what its listener's answers came to, and as many links were
-  -- finished as it gave; a fault only where the count of what failed rose.
+  -- A seat that began with these sockets was served. It has its end, which is what its listener's answers came to, and as many
+  -- links were finished as it gave; a fault only where the count of what failed rose.
   pub record SeatRan (from : Publication) (dealt : List (ℕ × SocketFact)) (v : SeatView) : Type 0 where
     pub end : SeatEnd
     pub ended : v.end ≡ Some end
-    pub sockets : ListensAt dealt v
-    pub room : v.room ≡ room_of dealt
+    pub sockets : BeganAt dealt v
+    pub room : room_of dealt ≤ v.room
+    pub at_most : v.room ≤ MAX_ALL_CONNECTIONS
     pub first : SawFirst from v.pass
     pub listened : tells → IsSomeAnd v.listener (FinishesAll end unheard)
     pub tended : HasTended from v end

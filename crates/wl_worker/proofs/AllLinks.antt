@@ -8,7 +8,7 @@ use Rattle.wl_entry.specs.declared.tokens.JwtToken.{JwtToken}
 use Rattle.wl_edge.specs.declared.origin.Origin.{Origin}
 use Rattle.wl_edge.specs.Edge.{Rose}
 use Rattle.wl_edge.specs.Links.{LinkLog, IsFresh}
-use Rattle.wl_edge.specs.Listeners.{ListenerLog, BoundSocket, CameOver, links_given, with_kind, Finishes}
+use Rattle.wl_edge.specs.Listeners.{ListenerLog, BoundSocket, CameOver, OnlyAdds, links_given, with_kind, Finishes}
 use Rattle.wl_edge.specs.declared.listener.AcceptKind.{AcceptKind}
 use Rattle.wl_edge.specs.declared.listener.AcceptKind.TheVariants as kind
 use Rattle.ask_mail.specs.declared.mail.Delivery.{Delivery}
@@ -25,6 +25,7 @@ use Rattle.wl_worker.specs.Rounds.{Round, AskedBy, IsIn}
 use Rattle.wl_worker.specs.Served.{ServedState, Around, Stands, Began, RoundTells}
 use Rattle.wl_worker.specs.Tended.{Known, AreJudged, IsOwn, TookAllUnless, TookPart, TookFully, SeatWorld, seat_world, known, Tends}
 use Rattle.wl_worker.specs.Seating.{Under, under, finished_link, SeatView, seat_view, CountsStarved, Runs, Tending, TendsOn, TendsRest, TendsLast, TendsBy}
+use Rattle.wl_edge.proofs.KnownSockets.{adds_same}
 use Rattle.wl_worker.proofs.RoundTraces.{nothing_talked}
 use Rattle.wl_worker.proofs.TakenRounds.{began}
 use Rattle.wl_worker.proofs.ConnectionRounds.{asked_added}
@@ -47,10 +48,6 @@ at_number P Q c n is follows holds = subst Q is (follows (subst P (sym is) holds
 -- its rounds asked by its origin, and so did this one
 own_still : (sockets : Option (List BoundSocket)) (origin origin_now : Origin) → origin_now ≡ origin → (added past : List Round) → AskedBy origin added → IsOwn sockets origin past → IsOwn sockets origin_now (added ++ past)
 own_still sockets origin origin_now kept added past asked own = subst (λ (o : Origin). IsOwn sockets o (added ++ past)) (sym kept) (record { came = own.came; asked = asked_added origin added past asked own.asked })
-
--- The listener's sockets stayed, and so did all that it doesn't know.
-rest_kept : (sockets sockets_now : Option (List BoundSocket)) (starved : ℕ) (around : Around) → sockets_now ≡ sockets → seat_world sockets_now None starved around ≡ seat_world sockets None starved around
-rest_kept sockets sockets_now starved around kept = ap (λ (s : Option (List BoundSocket)). seat_world s None starved around) kept
 
 module _ {connection : ℕ} (valid : Ask → Signed → Type 0) (vouched : Ask → List (List ℕ) → JwtToken → Type 0) (first : SeatWorld) (sockets : Option (List BoundSocket)) (origin : Origin) (room listener_faults : ℕ) (old new : ServedState) (told told_now : Option LinkLog) (before now : Around) (r s t r2 s2 t2 : ℕ) (origin_now : Origin) (kept : origin_now ≡ origin) where
   runs_on : (end : RoundEnd) (round : RoundTells valid (asker connection vouched) origin old new told told_now before now end) → IsOn end → IsSome told → (listener : Option ListenerLog) (count : ℕ) (signed : List Delivery) (times starved : List ℕ) (n : ℕ) (past : List Round)
@@ -112,7 +109,7 @@ module _ {next connection : ℕ} (valid : Ask → Signed → Type 0) (vouched : 
             (λ k. IfSome told_now (λ log. Began log now.pass.seen (round.added ++ past) × AreJudged (known vouched x (signed ++ round.signed) (times ++ round.times) hungry) k (round.added ++ past) × (IsIn n hungry ⊎ TookAllUnless r2 s2 log (round.added ++ past))))
             connection n runs.0.0 (took_fully valid (asker connection vouched) origin old new told_now before now (IsIn n hungry) told e round signed times past r r2 s s2 runs.1 reads writes tells) runs.0.2,
       )) counted in
-      (beside_finishes vouched first x y [] xs f gained (rest_kept sockets sockets_now starved_now now sockets_kept) finishes, omega (arith, going.1))
+      (beside_finishes vouched first x y [] xs f gained refl (adds_same sockets sockets_now sockets_kept) finishes, omega (arith, going.1))
 
 -- ---- where links stand
 
@@ -149,7 +146,7 @@ module _ (vouched : Ask → List (List ℕ) → JwtToken → Type 0) (first : Se
       let y : SeatWorld = seat_world sockets_now listener_now starved around in
       let apart = tending_taken vouched first w left.0 [] xs u left.1 in
       let part = beside_weaken (λ k n past. Runs k n u past) (λ k n past. TookPart k n u.link past) vouched first w left.0 [] xs (λ signed times hungry n past runs. (runs.1, part_at (known vouched w signed times hungry) n u.link.log u.served past runs.2)) apart in
-      (left.0 + 1, beside_breaks vouched first w y left.0 [] xs u.link part (rest_kept sockets sockets_now starved around sockets_kept) finishes, omega (arith, left.2))
+      (left.0 + 1, beside_breaks vouched first w y left.0 [] xs u.link part refl (adds_same sockets sockets_now sockets_kept) finishes, omega (arith, left.2))
 
   -- how many were finished as they stood, once no link is left, by the end
   pub last_by : (w : SeatView) (links : List Under) (end : SeatEnd) → TendsBy vouched first w links end → (n : ℕ) × TendsLast vouched first w n links × (n ≤ w.room) × (end ≡ seat.End → n ≡ 0)
@@ -167,9 +164,9 @@ module _ (vouched : Ask → List (List ℕ) → JwtToken → Type 0) (first : Se
 
   -- ---- a link that comes
 
-  own_none : (sockets sockets_now : Option (List BoundSocket)) (origin : Origin) (past : List Round) → sockets_now ≡ sockets → CameOver sockets origin → past ≡ [] → IsOwn sockets_now origin past
-  own_none sockets sockets_now origin past sockets_kept came none = record {
-    came = subst (λ (s : Option (List BoundSocket)). CameOver s origin) (sym sockets_kept) came;
+  own_none : (sockets : Option (List BoundSocket)) (origin : Origin) (past : List Round) → CameOver sockets origin → past ≡ [] → IsOwn sockets origin past
+  own_none sockets origin past came none = record {
+    came = came;
     asked = subst (λ (p : List Round). AskedBy origin p) (sym none) tt;
   }
 
@@ -185,15 +182,15 @@ module _ (vouched : Ask → List (List ℕ) → JwtToken → Type 0) (first : Se
 
   -- it is served
   pub going_comes : {next : ℕ} (origin : Origin) (room listener_faults ready_faults faults_now count_now starved : ℕ) (around : Around) (sockets sockets_now : Option (List BoundSocket)) (listener listener_now : Option ListenerLog) (told : Option LinkLog) (r s t : ℕ) (served : ServedState) (xs : List Under)
-      → sockets_now ≡ sockets → CameOver sockets origin → IfSome listener (λ log. listener_now ≡ Some (with_kind log kind.Link)) → IsFresh told r s t → served ≡ record { session = fresh_session; unsent = [] } → length xs < room
+      → OnlyAdds sockets sockets_now → CameOver sockets_now origin → IfSome listener (λ log. listener_now ≡ Some (with_kind log kind.Link)) → IsFresh told r s t → served ≡ record { session = fresh_session; unsent = [] } → length xs < room
       → TendsOn vouched first (seat_view room next listener_faults ready_faults (seat_world sockets listener starved around)) xs
       → TendsOn vouched first (seat_view room (next + 1) count_now faults_now (seat_world sockets_now listener_now starved around)) (xs ++ under next (finished_link origin told r s t) served ∷ [])
-  going_comes {next} origin room listener_faults ready_faults faults_now count_now starved around sockets sockets_now listener listener_now told r s t served xs sockets_kept came_over answers fresh start few going =
+  going_comes {next} origin room listener_faults ready_faults faults_now count_now starved around sockets sockets_now listener listener_now told r s t served xs grown came_over answers fresh start few going =
       let v = under next (finished_link origin told r s t) served in
       let w : SeatWorld = seat_world sockets listener starved around in
       let x : SeatWorld = seat_world sockets_now listener_now starved around in
-      let came = tending_comes vouched first w x 0 xs going.0 (rest_kept sockets sockets_now starved around sockets_kept) answers in
-      let new = beside_weaken (HasNone next) (λ k n past. Runs k n v past) vouched first x 0 xs [] (λ signed times hungry n past none. (sym none.0, own_none sockets sockets_now origin past sockets_kept came_over none.1, runs_new (known vouched x signed times hungry) n told r s t served past fresh start none.1)) came in
+      let came = tending_comes vouched first w x 0 xs going.0 refl grown answers in
+      let new = beside_weaken (HasNone next) (λ k n past. Runs k n v past) vouched first x 0 xs [] (λ signed times hungry n past none. (sym none.0, own_none sockets_now origin past came_over none.1, runs_new (known vouched x signed times hungry) n told r s t served past fresh start none.1)) came in
       (tending_put vouched first x 0 xs [] v new, omega (arith, few, length-append xs (v ∷ [])))
 
   fully_at : (k : Known) (n : ℕ) (told : Option LinkLog) (receives sends : ℕ) (past : List Round) → IsIn n k.starved → IfSome told (λ log. Began log k.seen past × AreJudged k n past) → IfSome told (λ log. Began log k.seen past × AreJudged k n past × (IsIn n k.starved ⊎ TookAllUnless receives sends log past))
@@ -202,23 +199,23 @@ module _ (vouched : Ask → List (List ℕ) → JwtToken → Type 0) (first : Se
 
   -- memory ran out for it, and it is finished at once
   pub going_starves : {next : ℕ} (origin : Origin) (room listener_faults ready_faults faults_now count_now starved starved_now : ℕ) (around : Around) (sockets sockets_now sockets_then : Option (List BoundSocket)) (listener listener_now listener_then : Option ListenerLog) (told : Option LinkLog) (r s t : ℕ) (xs : List Under)
-      → sockets_now ≡ sockets → sockets_then ≡ sockets_now → RoseBy 1 starved starved_now → CameOver sockets origin → IfSome listener (λ log. listener_now ≡ Some (with_kind log kind.Link)) → Finishes listener_now listener_then (finished_link origin told r s t) → IsFresh told r s t
+      → OnlyAdds sockets sockets_now → sockets_then ≡ sockets_now → RoseBy 1 starved starved_now → CameOver sockets_now origin → IfSome listener (λ log. listener_now ≡ Some (with_kind log kind.Link)) → Finishes listener_now listener_then (finished_link origin told r s t) → IsFresh told r s t
       → TendsOn vouched first (seat_view room next listener_faults ready_faults (seat_world sockets listener starved around)) xs
       → TendsOn vouched first (seat_view room (next + 1) count_now faults_now (seat_world sockets_then listener_then starved_now around)) xs
-  going_starves {next} origin room listener_faults ready_faults faults_now count_now starved starved_now around sockets sockets_now sockets_then listener listener_now listener_then told r s t xs sockets_kept sockets_still rose came_over answers finishes fresh going =
+  going_starves {next} origin room listener_faults ready_faults faults_now count_now starved starved_now around sockets sockets_now sockets_then listener listener_now listener_then told r s t xs grown sockets_still rose came_over answers finishes fresh going =
       let f = finished_link origin told r s t in
       let new : ServedState = record { session = fresh_session; unsent = [] } in
       let w : SeatWorld = seat_world sockets listener starved around in
       let x : SeatWorld = seat_world sockets_now listener_now starved around in
       let v : SeatWorld = seat_world sockets_now listener_now starved_now around in
       let y : SeatWorld = seat_world sockets_then listener_then starved_now around in
-      let came = tending_comes vouched first w x 0 xs going.0 (rest_kept sockets sockets_now starved around sockets_kept) answers in
+      let came = tending_comes vouched first w x 0 xs going.0 refl grown answers in
       let counted = beside_starves (HasNone next) vouched first sockets_now listener_now starved starved_now around 0 xs [] (λ signed times hungry n past none. none) rose came in
       let full = beside_weaken (λ k n past. HasNone next k n past × IsIn n k.starved) (λ k n past. TookFully k n f past) vouched first v 0 xs [] (λ signed times hungry n past none. (
-        own_none sockets sockets_now origin past sockets_kept came_over none.0.1,
+        own_none sockets_now origin past came_over none.0.1,
         fully_at (known vouched v signed times hungry) n told r s past none.1 (part_at (known vouched v signed times hungry) n told new past (runs_new (known vouched v signed times hungry) n told r s t new past fresh refl none.0.1)),
       )) counted in
-      (subst (λ (l : List Under). Tending vouched (next + 1) first y 0 l) (append-nil xs) (beside_finishes vouched first v y xs [] f full (rest_kept sockets_now sockets_then starved_now around sockets_still) finishes), omega (arith, going.1))
+      (subst (λ (l : List Under). Tending vouched (next + 1) first y 0 l) (append-nil xs) (beside_finishes vouched first v y xs [] f full refl (adds_same sockets_now sockets_then sockets_still) finishes), omega (arith, going.1))
 
   starved_at : (k : Known) (n : ℕ) (told : Option LinkLog) (served : ServedState) (receives sends : ℕ) (past : List Round) → IsIn n k.starved → IfSome told (λ log. Stands log served k.seen past × AreJudged k n past) → IfSome told (λ log. Began log k.seen past × AreJudged k n past × (IsIn n k.starved ⊎ TookAllUnless receives sends log past))
   starved_at k n told served receives sends past starved runs = fully_at k n told receives sends past starved (part_at k n told served past runs)
@@ -238,39 +235,39 @@ module _ (vouched : Ask → List (List ℕ) → JwtToken → Type 0) (first : Se
         both.0.1,
         starved_at (known vouched v signed times hungry) n u.link.log u.served u.link.failed_receives u.link.failed_sends past both.1 both.0.2,
       )) counted in
-      (beside_finishes vouched first v y [] xs u.link full (rest_kept sockets sockets_now starved_now around sockets_kept) finishes, omega (arith, going.1))
+      (beside_finishes vouched first v y [] xs u.link full refl (adds_same sockets sockets_now sockets_kept) finishes, omega (arith, going.1))
 
   -- it could not be watched, and is finished at once
   pub rest_new : {next : ℕ} (origin : Origin) (room listener_faults ready_faults faults_now count_now starved : ℕ) (around : Around) (sockets sockets_now sockets_then : Option (List BoundSocket)) (listener listener_now listener_then : Option ListenerLog) (told : Option LinkLog) (r s t : ℕ) (xs : List Under)
-      → sockets_now ≡ sockets → sockets_then ≡ sockets_now → CameOver sockets origin → IfSome listener (λ log. listener_now ≡ Some (with_kind log kind.Link)) → Finishes listener_now listener_then (finished_link origin told r s t) → IsFresh told r s t → length xs < room
+      → OnlyAdds sockets sockets_now → sockets_then ≡ sockets_now → CameOver sockets_now origin → IfSome listener (λ log. listener_now ≡ Some (with_kind log kind.Link)) → Finishes listener_now listener_then (finished_link origin told r s t) → IsFresh told r s t → length xs < room
       → TendsOn vouched first (seat_view room next listener_faults ready_faults (seat_world sockets listener starved around)) xs
       → TendsRest vouched first (seat_view room (next + 1) count_now faults_now (seat_world sockets_then listener_then starved around)) xs
-  rest_new {next} origin room listener_faults ready_faults faults_now count_now starved around sockets sockets_now sockets_then listener listener_now listener_then told r s t xs sockets_kept sockets_still came_over answers finishes fresh few going =
+  rest_new {next} origin room listener_faults ready_faults faults_now count_now starved around sockets sockets_now sockets_then listener listener_now listener_then told r s t xs grown sockets_still came_over answers finishes fresh few going =
       let f = finished_link origin told r s t in
       let new : ServedState = record { session = fresh_session; unsent = [] } in
       let w : SeatWorld = seat_world sockets listener starved around in
       let x : SeatWorld = seat_world sockets_now listener_now starved around in
       let y : SeatWorld = seat_world sockets_then listener_then starved around in
-      let came = tending_comes vouched first w x 0 xs going.0 (rest_kept sockets sockets_now starved around sockets_kept) answers in
-      let part = beside_weaken (HasNone next) (λ k n past. TookPart k n f past) vouched first x 0 xs [] (λ signed times hungry n past none. (own_none sockets sockets_now origin past sockets_kept came_over none.1, part_at (known vouched x signed times hungry) n told new past (runs_new (known vouched x signed times hungry) n told r s t new past fresh refl none.1))) came in
-      (1, subst (λ (l : List Under). Tending vouched (next + 1) first y 1 l) (append-nil xs) (beside_breaks vouched first x y 0 xs [] f part (rest_kept sockets_now sockets_then starved around sockets_still) finishes), omega (arith, few))
+      let came = tending_comes vouched first w x 0 xs going.0 refl grown answers in
+      let part = beside_weaken (HasNone next) (λ k n past. TookPart k n f past) vouched first x 0 xs [] (λ signed times hungry n past none. (own_none sockets_now origin past came_over none.1, part_at (known vouched x signed times hungry) n told new past (runs_new (known vouched x signed times hungry) n told r s t new past fresh refl none.1))) came in
+      (1, subst (λ (l : List Under). Tending vouched (next + 1) first y 1 l) (append-nil xs) (beside_breaks vouched first x y 0 xs [] f part refl (adds_same sockets_now sockets_then sockets_still) finishes), omega (arith, few))
 
   -- ---- no link comes
 
   pub going_answered : {next : ℕ} (room listener_faults ready_faults count_now starved : ℕ) (around : Around) (sockets sockets_now : Option (List BoundSocket)) (listener listener_now : Option ListenerLog) (answer : AcceptKind) (xs : List Under)
-      → sockets_now ≡ sockets → links_given (answer ∷ []) ≡ 0 → IfSome listener (λ log. listener_now ≡ Some (with_kind log answer))
+      → OnlyAdds sockets sockets_now → links_given (answer ∷ []) ≡ 0 → IfSome listener (λ log. listener_now ≡ Some (with_kind log answer))
       → TendsOn vouched first (seat_view room next listener_faults ready_faults (seat_world sockets listener starved around)) xs
       → TendsOn vouched first (seat_view room next count_now ready_faults (seat_world sockets_now listener_now starved around)) xs
-  going_answered {next} room listener_faults ready_faults count_now starved around sockets sockets_now listener listener_now answer xs sockets_kept none answers going =
-      (tending_listened vouched first (seat_world sockets listener starved around) (seat_world sockets_now listener_now starved around) 0 xs going.0 (rest_kept sockets sockets_now starved around sockets_kept) (silent_on first.listener listener listener_now answer none answers), going.1)
+  going_answered {next} room listener_faults ready_faults count_now starved around sockets sockets_now listener listener_now answer xs grown none answers going =
+      (tending_listened vouched first (seat_world sockets listener starved around) (seat_world sockets_now listener_now starved around) 0 xs going.0 refl grown (silent_on first.listener listener listener_now answer none answers), going.1)
 
   -- the accept failed
   pub going_failed : {next : ℕ} (room listener_faults ready_faults count_now starved : ℕ) (around : Around) (sockets sockets_now : Option (List BoundSocket)) (listener listener_now : Option ListenerLog) (full : Type 0) (xs : List Under)
-      → sockets_now ≡ sockets → IfSome listener (λ log. (listener_now ≡ Some (with_kind log kind.Failed)) ⊎ (full × (listener_now ≡ Some log)))
+      → OnlyAdds sockets sockets_now → IfSome listener (λ log. (listener_now ≡ Some (with_kind log kind.Failed)) ⊎ (full × (listener_now ≡ Some log)))
       → TendsOn vouched first (seat_view room next listener_faults ready_faults (seat_world sockets listener starved around)) xs
       → TendsOn vouched first (seat_view room next count_now ready_faults (seat_world sockets_now listener_now starved around)) xs
-  going_failed {next} room listener_faults ready_faults count_now starved around sockets sockets_now listener listener_now full xs sockets_kept answers going =
-      (tending_listened vouched first (seat_world sockets listener starved around) (seat_world sockets_now listener_now starved around) 0 xs going.0 (rest_kept sockets sockets_now starved around sockets_kept) (failed_on first.listener listener listener_now full answers), going.1)
+  going_failed {next} room listener_faults ready_faults count_now starved around sockets sockets_now listener listener_now full xs grown answers going =
+      (tending_listened vouched first (seat_world sockets listener starved around) (seat_world sockets_now listener_now starved around) 0 xs going.0 refl grown (failed_on first.listener listener listener_now full answers), going.1)
 
   -- ---- from its start to its end
 

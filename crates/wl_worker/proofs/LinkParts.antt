@@ -8,7 +8,7 @@ use Rattle.wl_publish.specs.Listings.{Passing}
 use Rattle.wl_edge.specs.declared.origin.Origin.{Origin}
 use Rattle.wl_edge.specs.Edge.{Rose}
 use Rattle.wl_edge.specs.Links.{LinkLog, IsFresh}
-use Rattle.wl_edge.specs.Listeners.{ListenerLog, BoundSocket, CameOver, with_kind, Finishes}
+use Rattle.wl_edge.specs.Listeners.{ListenerLog, BoundSocket, CameOver, OnlyAdds, with_kind, Finishes}
 use Rattle.wl_edge.specs.declared.fault.EdgeFault.{EdgeFault}
 use Rattle.wl_edge.specs.declared.fault.EdgeFault.TheVariants as edge
 use Rattle.wl_edge.specs.declared.listener.AcceptKind.TheVariants as kind
@@ -108,40 +108,40 @@ keeps_starved_served {next} {starved} {starved_now} {sockets} {sockets_now} tell
 
 -- ---- an accept
 
-module _ {next starved : ℕ} {sockets sockets_now : Option (List BoundSocket)} (tells : Type 0) (vouched : Ask → List (List ℕ) → JwtToken → Type 0) (room faults faults_now : ℕ) (around : Around) (listener listener_now : Option ListenerLog) (xs : List Under) (sockets_kept : sockets_now ≡ sockets) where
+module _ {next starved : ℕ} {sockets sockets_now : Option (List BoundSocket)} (tells : Type 0) (vouched : Ask → List (List ℕ) → JwtToken → Type 0) (room faults faults_now : ℕ) (around : Around) (listener listener_now : Option ListenerLog) (xs : List Under) (grown : OnlyAdds sockets sockets_now) where
   -- no link was there
   pub keeps_unanswered : (ready_faults : ℕ) → IfSome listener (λ log. listener_now ≡ Some (with_kind log kind.Idle))
       → KeepsTending tells vouched (seat_view room next faults ready_faults (seat_world sockets listener starved around)) (seat_view room next faults_now ready_faults (seat_world sockets_now listener_now starved around)) xs xs step.Idle
-  keeps_unanswered ready_faults answers = record { keeps = λ t first on. going_answered vouched first room faults ready_faults faults_now starved around sockets sockets_now listener listener_now kind.Idle xs sockets_kept refl answers on }
+  keeps_unanswered ready_faults answers = record { keeps = λ t first on. going_answered vouched first room faults ready_faults faults_now starved around sockets sockets_now listener listener_now kind.Idle xs grown refl answers on }
 
   -- there will be no more
   pub keeps_ending : (ready_faults : ℕ) → IfSome listener (λ log. listener_now ≡ Some (with_kind log kind.End))
       → KeepsTending tells vouched (seat_view room next faults ready_faults (seat_world sockets listener starved around)) (seat_view room next faults_now ready_faults (seat_world sockets_now listener_now starved around)) xs xs step.Closed
-  keeps_ending ready_faults answers = record { keeps = λ t first on. going_answered vouched first room faults ready_faults faults_now starved around sockets sockets_now listener listener_now kind.End xs sockets_kept refl answers on }
+  keeps_ending ready_faults answers = record { keeps = λ t first on. going_answered vouched first room faults ready_faults faults_now starved around sockets sockets_now listener listener_now kind.End xs grown refl answers on }
 
   -- it failed
   pub keeps_failed : (ready_faults : ℕ) (full : Type 0) → IfSome listener (λ log. (listener_now ≡ Some (with_kind log kind.Failed)) ⊎ (full × (listener_now ≡ Some log)))
       → KeepsTending tells vouched (seat_view room next faults ready_faults (seat_world sockets listener starved around)) (seat_view room next faults_now ready_faults (seat_world sockets_now listener_now starved around)) xs xs (step.Over seat.ListenFault)
   keeps_failed ready_faults full answers =
-      record { keeps = λ t first on. rest_on vouched first (seat_view room next faults_now ready_faults (seat_world sockets_now listener_now starved around)) xs (going_failed vouched first room faults ready_faults faults_now starved around sockets sockets_now listener listener_now full xs sockets_kept answers on) }
+      record { keeps = λ t first on. rest_on vouched first (seat_view room next faults_now ready_faults (seat_world sockets_now listener_now starved around)) xs (going_failed vouched first room faults ready_faults faults_now starved around sockets sockets_now listener listener_now full xs grown answers on) }
 
 -- a link came
-module _ {next starved : ℕ} {sockets sockets_now : Option (List BoundSocket)} (tells : Type 0) (vouched : Ask → List (List ℕ) → JwtToken → Type 0) (origin : Origin) (room faults faults_now ready_faults waits_now : ℕ) (around : Around) (listener listener_now : Option ListenerLog) (xs : List Under) (answers : IfSome listener (λ log. listener_now ≡ Some (with_kind log kind.Link))) (sockets_kept : sockets_now ≡ sockets) (few : length xs < room) (told : Option LinkLog) (r s t : ℕ) (fresh : IsFresh told r s t) (came : CameOver sockets origin) where
+module _ {next starved : ℕ} {sockets sockets_now : Option (List BoundSocket)} (tells : Type 0) (vouched : Ask → List (List ℕ) → JwtToken → Type 0) (origin : Origin) (room faults faults_now ready_faults waits_now : ℕ) (around : Around) (listener listener_now : Option ListenerLog) (xs : List Under) (answers : IfSome listener (λ log. listener_now ≡ Some (with_kind log kind.Link))) (grown : OnlyAdds sockets sockets_now) (few : length xs < room) (told : Option LinkLog) (r s t : ℕ) (fresh : IsFresh told r s t) (came : CameOver sockets_now origin) where
   -- it is served
   pub keeps_came : (served : ServedState) → served ≡ record { session = fresh_session; unsent = [] }
       → KeepsTending tells vouched (seat_view room next faults ready_faults (seat_world sockets listener starved around)) (seat_view room (next + 1) faults_now waits_now (seat_world sockets_now listener_now starved around)) xs (xs ++ under next (finished_link origin told r s t) served ∷ []) step.On
-  keeps_came served start = record { keeps = λ tell first on. going_comes vouched first origin room faults ready_faults waits_now faults_now starved around sockets sockets_now listener listener_now told r s t served xs sockets_kept came answers fresh start few on }
+  keeps_came served start = record { keeps = λ tell first on. going_comes vouched first origin room faults ready_faults waits_now faults_now starved around sockets sockets_now listener listener_now told r s t served xs grown came answers fresh start few on }
 
   -- memory ran out for it, and it is finished at once
   pub keeps_starved : {starved_now : ℕ} {sockets_then : Option (List BoundSocket)} (listener_then : Option ListenerLog) → RoseBy 1 starved starved_now → sockets_then ≡ sockets_now → Finishes listener_now listener_then (finished_link origin told r s t)
       → KeepsTending tells vouched (seat_view room next faults ready_faults (seat_world sockets listener starved around)) (seat_view room (next + 1) faults_now waits_now (seat_world sockets_then listener_then starved_now around)) xs xs step.On
-  keeps_starved {starved_now} {sockets_then} listener_then rose sockets_still finishes = record { keeps = λ tell first on. going_starves vouched first origin room faults ready_faults waits_now faults_now starved starved_now around sockets sockets_now sockets_then listener listener_now listener_then told r s t xs sockets_kept sockets_still rose came answers finishes fresh on }
+  keeps_starved {starved_now} {sockets_then} listener_then rose sockets_still finishes = record { keeps = λ tell first on. going_starves vouched first origin room faults ready_faults waits_now faults_now starved starved_now around sockets sockets_now sockets_then listener listener_now listener_then told r s t xs grown sockets_still rose came answers finishes fresh on }
 
   -- it could not be watched, and is finished at once
   pub keeps_unwatched : {sockets_then : Option (List BoundSocket)} (listener_then : Option ListenerLog) (fault : EdgeFault) → sockets_then ≡ sockets_now → Finishes listener_now listener_then (finished_link origin told r s t)
       → KeepsTending tells vouched (seat_view room next faults ready_faults (seat_world sockets listener starved around)) (seat_view room (next + 1) faults_now waits_now (seat_world sockets_then listener_then starved around)) xs xs (step.Over (seat_end_of fault))
   keeps_unwatched {sockets_then} listener_then fault sockets_still finishes =
-      record { keeps = λ tell first on. rest_fault vouched first fault (seat_view room (next + 1) faults_now waits_now (seat_world sockets_then listener_then starved around)) xs (rest_new vouched first origin room faults ready_faults waits_now faults_now starved around sockets sockets_now sockets_then listener listener_now listener_then told r s t xs sockets_kept sockets_still came answers finishes fresh few on) }
+      record { keeps = λ tell first on. rest_fault vouched first fault (seat_view room (next + 1) faults_now waits_now (seat_world sockets_then listener_then starved around)) xs (rest_new vouched first origin room faults ready_faults waits_now faults_now starved around sockets sockets_now sockets_then listener listener_now listener_then told r s t xs grown sockets_still came answers finishes fresh few on) }
 
 -- there is a place for one more
 pub few_of : {A : Type 0} (f : A → Under) (links : Slab A) (n room : ℕ) → n ≡ slab_len links → n < room → length (links_of f links.slots) < room

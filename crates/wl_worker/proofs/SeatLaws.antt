@@ -14,7 +14,7 @@ use Rattle.wl_edge.specs.declared.listener.AcceptKind.{AcceptKind}
 use Rattle.wl_edge.specs.declared.listener.AcceptKind.TheVariants as kind
 use Rattle.wl_edge.specs.declared.origin.Origin.{Origin}
 use Rattle.wl_edge.specs.Links.{LinkLog}
-use Rattle.wl_edge.specs.Listeners.{ListenerLog, FinishedLink, BoundSocket, links_given, with_kind, Finishes}
+use Rattle.wl_edge.specs.Listeners.{ListenerLog, FinishedLink, BoundSocket, OnlyAdds, links_given, with_kind, Finishes}
 use Rattle.wl_worker.specs.Outcomes.{Asker, asker, unanswered, unsigned, GainsAll, Ticked, attestor_calls, IsOutcome}
 use Rattle.wl_worker.specs.Owners.{owned_by, items_of, tag, one_apart, tally}
 use Rattle.wl_worker.specs.Numbering.{Numbered, none_apart}
@@ -31,6 +31,7 @@ use Rattle.wl_worker.proofs.ConnectionRounds.{answers_added, calls_added, outcom
 use Rattle.wl_worker.proofs.SeatParts.{given_append}
 use Rattle.wl_worker.proofs.Owners.{none_after, items_append, items_tag, split}
 use Rattle.wl_worker.proofs.NumberedLinks as numbering
+use Rattle.wl_edge.proofs.KnownSockets.{came_still}
 
 -- ---- what rounds took from the outside
 
@@ -141,7 +142,7 @@ gathers_none w =
 
 -- what a round adds to a seat
 pub record Adds (old new : SeatWorld) (added : List Round) (signed : List Delivery) (times : List ℕ) : Type 0 where
-  pub sockets : new.sockets ≡ old.sockets
+  pub sockets : OnlyAdds old.sockets new.sockets
   pub listener : new.listener ≡ old.listener
   pub starved : new.starved ≡ old.starved
   pub attested : GainsAll old.around.attested new.around.attested (attestor_calls added)
@@ -176,9 +177,9 @@ gathers_round old mid new rounds added signed more times later starved finished 
       starves = subst (λ (count : ℕ). RoseBy (length starved) old.starved count) (sym adds.starved) gathers.starves;
     }
 
--- a seat's world without what its listener recorded
+-- a seat's world without its listener: what it recorded, and its sockets
 abbrev pub without_listener : SeatWorld → SeatWorld
-without_listener w = seat_world w.sockets None w.starved w.around
+without_listener w = seat_world None None w.starved w.around
 
 -- only the listener changed
 pub gathers_listener : (old mid new : SeatWorld) (rounds : List Round) (signed : List Delivery) (times starved : List ℕ) (finished finished_then : List FinishedLink) (n m : ℕ) →
@@ -210,9 +211,13 @@ began_longer log seen list past pre began = record { pieces = began.pieces; part
 stands_longer : (log : LinkLog) (s : ServedState) (seen list : List Publication) (past : List Round) → IsPrefix seen list → Stands log s seen past → Stands log s list past
 stands_longer log s seen list past pre stands = record { pieces = stands.pieces; session = stands.session; talked = stands.talked; whole = stands.whole; known = are_longer seen list past pre stands.known; rising = stands.rising }
 
-module _ (vouched : Ask → List (List ℕ) → JwtToken → Type 0) (mid new : SeatWorld) (signed more : List Delivery) (times later starved : List ℕ) (sockets_kept : new.sockets ≡ mid.sockets) (pre : IsPrefix mid.around.pass.seen new.around.pass.seen) (n : ℕ) where
+-- a link that came over a known socket still did
+own_wider : (before now : Option (List BoundSocket)) (origin : Origin) (past : List Round) → OnlyAdds before now → IsOwn before origin past → IsOwn now origin past
+own_wider before now origin past grown own = record { came = came_still before now origin grown own.came; asked = own.asked }
+
+module _ (vouched : Ask → List (List ℕ) → JwtToken → Type 0) (mid new : SeatWorld) (signed more : List Delivery) (times later starved : List ℕ) (grown : OnlyAdds mid.sockets new.sockets) (pre : IsPrefix mid.around.pass.seen new.around.pass.seen) (n : ℕ) where
   own_longer : (origin : Origin) (past : List Round) → IsOwn mid.sockets origin past → IsOwn new.sockets origin past
-  own_longer origin past own = subst (λ (s : Option (List BoundSocket)). IsOwn s origin past) (sym sockets_kept) own
+  own_longer origin past own = own_wider mid.sockets new.sockets origin past grown own
 
   runs_at : (told : Option LinkLog) (served : ServedState) (past : List Round) → IfSome told (λ log. Stands log served mid.around.pass.seen past × AreJudged (known vouched mid signed times starved) n past) → IfSome told (λ log. Stands log served new.around.pass.seen past × AreJudged (known vouched new (signed ++ more) (times ++ later) starved) n past)
   runs_at None served past is = tt
@@ -234,6 +239,22 @@ module _ (vouched : Ask → List (List ℕ) → JwtToken → Type 0) (mid new : 
 
   fully_longer : (f : FinishedLink) (past : List Round) → TookFully (known vouched mid signed times starved) n f past → TookFully (known vouched new (signed ++ more) (times ++ later) starved) n f past
   fully_longer f past is = (own_longer f.origin past is.0, fully_at f.log f.failed_receives f.failed_sends past is.1)
+
+-- a world with these sockets
+abbrev at_sockets : Option (List BoundSocket) → SeatWorld → SeatWorld
+at_sockets sockets w = seat_world sockets w.listener w.starved w.around
+
+-- where only the listener changed, and knows all sockets that it knew
+numbered_listened : (vouched : Ask → List (List ℕ) → JwtToken → Type 0) (mid new : SeatWorld) (signed : List Delivery) (times starved : List ℕ) (apart : ℕ → ℕ) (running : List (ℕ × Under)) (fulls lates : List (ℕ × FinishedLink)) (rounds : List (ℕ × Round)) (next : ℕ) →
+    without_listener new ≡ without_listener mid → OnlyAdds mid.sockets new.sockets →
+    Numbered (Runs (known vouched mid signed times starved)) (TookFully (known vouched mid signed times starved)) (TookPart (known vouched mid signed times starved)) apart running fulls lates rounds next →
+    Numbered (Runs (known vouched new signed times starved)) (TookFully (known vouched new signed times starved)) (TookPart (known vouched new signed times starved)) apart running fulls lates rounds next
+numbered_listened vouched mid new signed times starved apart running fulls lates rounds next same grown numbered =
+    let was : Known = known vouched mid signed times starved in
+    let is : Known = known vouched (at_sockets new.sockets mid) signed times starved in
+    let wider : (origin : Origin) (past : List Round) → IsOwn mid.sockets origin past → IsOwn new.sockets origin past = λ origin past own. own_wider mid.sockets new.sockets origin past grown own in
+    subst (λ (w : SeatWorld). Numbered (Runs (known vouched (at_sockets new.sockets w) signed times starved)) (TookFully (known vouched (at_sockets new.sockets w) signed times starved)) (TookPart (known vouched (at_sockets new.sockets w) signed times starved)) apart running fulls lates rounds next) (sym same)
+    (numbering.weaken (Runs was) (Runs is) (TookFully was) (TookFully is) (TookPart was) (TookPart is) apart running fulls lates rounds next (λ k u past runs. (runs.0, wider u.link.origin past runs.1, runs.2)) (λ k f past full. (wider f.origin past full.0, full.1)) (λ k f past part. (wider f.origin past part.0, part.1)) numbered)
 
 -- ---- what was finished
 
@@ -282,10 +303,10 @@ tending_none {next} vouched w =
       numbered = numbering.none_numbered (Runs (known vouched w [] [] [])) (TookFully (known vouched w [] [] [])) (TookPart (known vouched w [] [] [])) next;
     }
 
--- the listener gave no link, and none was finished
+-- the listener gave no link, and none was finished; it may know more sockets
 pub tending_listened : {next : ℕ} (vouched : Ask → List (List ℕ) → JwtToken → Type 0) (old mid new : SeatWorld) (broken : ℕ) (links : List Under) →
-    Tending vouched next old mid broken links → without_listener new ≡ without_listener mid → ((finished : List FinishedLink) (n : ℕ) → ListenerGains old.listener mid.listener finished n → ListenerGains old.listener new.listener finished n) → Tending vouched next old new broken links
-tending_listened {next} vouched old mid new broken links held same keeps =
+    Tending vouched next old mid broken links → without_listener new ≡ without_listener mid → OnlyAdds mid.sockets new.sockets → ((finished : List FinishedLink) (n : ℕ) → ListenerGains old.listener mid.listener finished n → ListenerGains old.listener new.listener finished n) → Tending vouched next old new broken links
+tending_listened {next} vouched old mid new broken links held same grown keeps =
     let all = items_of held.fulls ++ items_of held.lates in
     record {
       running = held.running;
@@ -298,7 +319,7 @@ tending_listened {next} vouched old mid new broken links held same keeps =
       links_are = held.links_are;
       count = held.count;
       gathers = gathers_listener old mid new (items_of held.rounds) held.signed held.times held.starved all all (length links) (length links) held.gathers same (keeps all (length links) held.gathers.listener);
-      numbered = subst (λ (w : SeatWorld). Numbered (Runs (known vouched w held.signed held.times held.starved)) (TookFully (known vouched w held.signed held.times held.starved)) (TookPart (known vouched w held.signed held.times held.starved)) none_apart held.running held.fulls held.lates held.rounds next) (sym same) held.numbered;
+      numbered = numbered_listened vouched mid new held.signed held.times held.starved none_apart held.running held.fulls held.lates held.rounds next same grown held.numbered;
     }
 
 -- a newcomer has the next number, and no round
@@ -307,8 +328,8 @@ HasNone next k n past = (n ≡ next) × (past ≡ [])
 
 -- a link comes
 pub tending_comes : {next : ℕ} (vouched : Ask → List (List ℕ) → JwtToken → Type 0) (old mid new : SeatWorld) (broken : ℕ) (links : List Under) →
-    Tending vouched next old mid broken links → without_listener new ≡ without_listener mid → IfSome mid.listener (λ log. new.listener ≡ Some (with_kind log kind.Link)) → Beside (HasNone next) vouched (next + 1) old new broken links []
-tending_comes {next} vouched old mid new broken links held same answers =
+    Tending vouched next old mid broken links → without_listener new ≡ without_listener mid → OnlyAdds mid.sockets new.sockets → IfSome mid.listener (λ log. new.listener ≡ Some (with_kind log kind.Link)) → Beside (HasNone next) vouched (next + 1) old new broken links []
+tending_comes {next} vouched old mid new broken links held same grown answers =
     let all = items_of held.fulls ++ items_of held.lates in
     let gained = answered_on old.listener mid.listener new.listener all (length links) kind.Link held.gathers.listener answers in
     let one_link : links_given (kind.Link ∷ []) ≡ 1 = refl in
@@ -330,7 +351,7 @@ tending_comes {next} vouched old mid new broken links held same answers =
       gathers = gathers_listener old mid new (items_of held.rounds) held.signed held.times held.starved all all (length links) (length links + 0 + 1) held.gathers same (subst (λ (n : ℕ). ListenerGains old.listener new.listener all n) one_open gained);
       numbered =
           subst (λ (running : List (ℕ × Under)). Numbered (Runs (known vouched new held.signed held.times held.starved)) (TookFully (known vouched new held.signed held.times held.starved)) (TookPart (known vouched new held.signed held.times held.starved)) (one_apart next) running held.fulls held.lates held.rounds (next + 1)) (sym (none_after held.running))
-          (subst (λ (w : SeatWorld). Numbered (Runs (known vouched w held.signed held.times held.starved)) (TookFully (known vouched w held.signed held.times held.starved)) (TookPart (known vouched w held.signed held.times held.starved)) (one_apart next) held.running held.fulls held.lates held.rounds (next + 1)) (sym same) one.0);
+          (numbered_listened vouched mid new held.signed held.times held.starved (one_apart next) held.running held.fulls held.lates held.rounds (next + 1) same grown one.0);
       one = (refl, one.1);
     }
 
@@ -481,8 +502,8 @@ beside_gains {next} P Q vouched old mid new broken before after added more later
 
 -- it was over, and is finished
 pub beside_finishes : {next : ℕ} (vouched : Ask → List (List ℕ) → JwtToken → Type 0) (old mid new : SeatWorld) (before after : List Under) (f : FinishedLink) →
-    Beside (λ k n past. TookFully k n f past) vouched next old mid 0 before after → without_listener new ≡ without_listener mid → Finishes mid.listener new.listener f → Tending vouched next old new 0 (before ++ after)
-beside_finishes {next} vouched old mid new before after f beside same ends =
+    Beside (λ k n past. TookFully k n f past) vouched next old mid 0 before after → without_listener new ≡ without_listener mid → OnlyAdds mid.sockets new.sockets → Finishes mid.listener new.listener f → Tending vouched next old new 0 (before ++ after)
+beside_finishes {next} vouched old mid new before after f beside same grown ends =
     let none : beside.lates ≡ [] = nil_from_length beside.lates beside.count in
     let gained = finished_on old.listener mid.listener new.listener (items_of beside.fulls ++ items_of beside.lates) (length before + length after) f beside.gathers.listener ends in
     let listed = finished_full beside.fulls beside.lates beside.owner f none in
@@ -498,13 +519,13 @@ beside_finishes {next} vouched old mid new before after f beside same ends =
       count = beside.count;
       gathers = gathers_listener old mid new (items_of beside.rounds) beside.signed beside.times beside.starved (items_of beside.fulls ++ items_of beside.lates) (items_of (beside.fulls ++ (beside.owner, f) ∷ []) ++ items_of beside.lates) (length before + length after + 1) (length (before ++ after)) beside.gathers same
           (subst (λ (n : ℕ). ListenerGains old.listener new.listener (items_of (beside.fulls ++ (beside.owner, f) ∷ []) ++ items_of beside.lates) n) (sym (length-append before after)) (subst (λ (l : List FinishedLink). ListenerGains old.listener new.listener l (length before + length after)) (sym listed) gained));
-      numbered = subst (λ (w : SeatWorld). Numbered (Runs (known vouched w beside.signed beside.times beside.starved)) (TookFully (known vouched w beside.signed beside.times beside.starved)) (TookPart (known vouched w beside.signed beside.times beside.starved)) none_apart (beside.front ++ beside.back) (beside.fulls ++ (beside.owner, f) ∷ []) beside.lates beside.rounds next) (sym same) (numbering.finishes (Runs (known vouched mid beside.signed beside.times beside.starved)) (TookFully (known vouched mid beside.signed beside.times beside.starved)) (TookPart (known vouched mid beside.signed beside.times beside.starved)) (beside.front ++ beside.back) beside.fulls beside.lates beside.rounds next beside.owner f beside.numbered beside.one);
+      numbered = numbered_listened vouched mid new beside.signed beside.times beside.starved none_apart (beside.front ++ beside.back) (beside.fulls ++ (beside.owner, f) ∷ []) beside.lates beside.rounds next same grown (numbering.finishes (Runs (known vouched mid beside.signed beside.times beside.starved)) (TookFully (known vouched mid beside.signed beside.times beside.starved)) (TookPart (known vouched mid beside.signed beside.times beside.starved)) (beside.front ++ beside.back) beside.fulls beside.lates beside.rounds next beside.owner f beside.numbered beside.one);
     }
 
 -- it is finished as it stands
 pub beside_breaks : {next : ℕ} (vouched : Ask → List (List ℕ) → JwtToken → Type 0) (old mid new : SeatWorld) (broken : ℕ) (before after : List Under) (f : FinishedLink) →
-    Beside (λ k n past. TookPart k n f past) vouched next old mid broken before after → without_listener new ≡ without_listener mid → Finishes mid.listener new.listener f → Tending vouched next old new (broken + 1) (before ++ after)
-beside_breaks {next} vouched old mid new broken before after f beside same ends =
+    Beside (λ k n past. TookPart k n f past) vouched next old mid broken before after → without_listener new ≡ without_listener mid → OnlyAdds mid.sockets new.sockets → Finishes mid.listener new.listener f → Tending vouched next old new (broken + 1) (before ++ after)
+beside_breaks {next} vouched old mid new broken before after f beside same grown ends =
     let gained = finished_on old.listener mid.listener new.listener (items_of beside.fulls ++ items_of beside.lates) (length before + length after) f beside.gathers.listener ends in
     let listed = finished_late beside.fulls beside.lates beside.owner f in
     record {
@@ -519,7 +540,7 @@ beside_breaks {next} vouched old mid new broken before after f beside same ends 
       count = length-append beside.lates ((beside.owner, f) ∷ []) ∙ ap (λ n. n + 1) beside.count;
       gathers = gathers_listener old mid new (items_of beside.rounds) beside.signed beside.times beside.starved (items_of beside.fulls ++ items_of beside.lates) (items_of beside.fulls ++ items_of (beside.lates ++ (beside.owner, f) ∷ [])) (length before + length after + 1) (length (before ++ after)) beside.gathers same
           (subst (λ (n : ℕ). ListenerGains old.listener new.listener (items_of beside.fulls ++ items_of (beside.lates ++ (beside.owner, f) ∷ [])) n) (sym (length-append before after)) (subst (λ (l : List FinishedLink). ListenerGains old.listener new.listener l (length before + length after)) (sym listed) gained));
-      numbered = subst (λ (w : SeatWorld). Numbered (Runs (known vouched w beside.signed beside.times beside.starved)) (TookFully (known vouched w beside.signed beside.times beside.starved)) (TookPart (known vouched w beside.signed beside.times beside.starved)) none_apart (beside.front ++ beside.back) beside.fulls (beside.lates ++ (beside.owner, f) ∷ []) beside.rounds next) (sym same) (numbering.breaks (Runs (known vouched mid beside.signed beside.times beside.starved)) (TookFully (known vouched mid beside.signed beside.times beside.starved)) (TookPart (known vouched mid beside.signed beside.times beside.starved)) (beside.front ++ beside.back) beside.fulls beside.lates beside.rounds next beside.owner f beside.numbered beside.one);
+      numbered = numbered_listened vouched mid new beside.signed beside.times beside.starved none_apart (beside.front ++ beside.back) beside.fulls (beside.lates ++ (beside.owner, f) ∷ []) beside.rounds next same grown (numbering.breaks (Runs (known vouched mid beside.signed beside.times beside.starved)) (TookFully (known vouched mid beside.signed beside.times beside.starved)) (TookPart (known vouched mid beside.signed beside.times beside.starved)) (beside.front ++ beside.back) beside.fulls beside.lates beside.rounds next beside.owner f beside.numbered beside.one);
     }
 
 -- where there are none, none has a number

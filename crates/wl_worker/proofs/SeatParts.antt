@@ -10,7 +10,7 @@ use Rattle.wl_snapshot.specs.Snapshots.{Publication}
 use Rattle.wl_publish.specs.Listings.{Passing}
 use Rattle.wl_edge.specs.declared.origin.Origin.{Origin}
 use Rattle.wl_edge.specs.Edge.{Rose}
-use Rattle.wl_edge.specs.Listeners.{ListenerLog, FinishedLink, BoundSocket, is_link, links_given, with_kind, HasOpenLink, Finishes}
+use Rattle.wl_edge.specs.Listeners.{ListenerLog, FinishedLink, BoundSocket, OnlyAdds, is_link, links_given, with_kind, HasOpenLink, Finishes}
 use Rattle.wl_edge.specs.declared.listener.AcceptKind.{AcceptKind}
 use Rattle.wl_edge.specs.declared.listener.AcceptKind.TheVariants as kind
 use Rattle.wl_session.specs.Sessions.{fresh_session}
@@ -28,6 +28,7 @@ use Rattle.wl_worker.specs.declared.step.Step.{Step}
 use Rattle.wl_worker.specs.declared.step.Step.TheVariants as step
 use Rattle.wl_edge.specs.declared.fault.EdgeFault.{EdgeFault}
 use Rattle.wl_edge.specs.declared.fault.EdgeFault.TheVariants as edge
+use Rattle.wl_edge.proofs.KnownSockets.{adds_none, adds_same, adds_then}
 use Rattle.wl_worker.proofs.SeenPublications.{seen_longer, prefix_then, prefix_same, read_prefix}
 
 -- ---- the listener
@@ -161,7 +162,7 @@ pub goes_still : (w : SeatView) (xs : List Under) → Goes w w xs xs []
 goes_still w xs =
     record {
       room = refl;
-      sockets = refl;
+      sockets = adds_none w.world.sockets;
       listens = omega arith;
       waits = omega arith;
       sees = prefix_same (seen_by w);
@@ -173,7 +174,7 @@ pub goes_then : (a b c : SeatView) (xs ys zs : List Under) (j k : List AcceptKin
 goes_then a b c xs ys zs j k one other =
     record {
       room = other.room ∙ one.room;
-      sockets = other.sockets ∙ one.sockets;
+      sockets = adds_then a.world.sockets b.world.sockets c.world.sockets one.sockets other.sockets;
       listens = omega (arith, one.listens, other.listens);
       waits = omega (arith, one.waits, other.waits);
       sees = prefix_then (seen_by a) (seen_by b) (seen_by c) one.sees other.sees;
@@ -204,7 +205,7 @@ goes_moved w u front back front_then back_then same =
     let count : length (front ++ u ∷ back) ≡ length (front_then ++ u ∷ back_then) = omega (arith, length-append front (u ∷ back), length-append front_then (u ∷ back_then), length-append front back, length-append front_then back_then, ap length same) in
     record {
       room = refl;
-      sockets = refl;
+      sockets = adds_none w.world.sockets;
       listens = omega arith;
       waits = omega arith;
       sees = prefix_same (seen_by w);
@@ -221,7 +222,7 @@ module _ {next starved : ℕ} {sockets : Option (List BoundSocket)} (room listen
   goes_round ready_faults listener u v xs last =
       record {
         room = refl;
-        sockets = refl;
+        sockets = adds_none sockets;
         listens = omega arith;
         waits = omega arith;
         sees = sees;
@@ -236,7 +237,7 @@ module _ {next starved : ℕ} {sockets : Option (List BoundSocket)} (room listen
       let one : length xs + 1 ≡ length (u ∷ xs) = omega arith in
       record {
         room = refl;
-        sockets = sockets_kept;
+        sockets = adds_same sockets sockets_now sockets_kept;
         listens = omega (arith, listens);
         waits = waits;
         sees = sees;
@@ -250,7 +251,7 @@ pub goes_waited : {next : ℕ} (room listener_faults ready_faults faults_now : �
 goes_waited room listener_faults ready_faults faults_now world xs waits =
     record {
       room = refl;
-      sockets = refl;
+      sockets = adds_none world.sockets;
       listens = omega arith;
       waits = waits;
       sees = prefix_same world.around.pass.seen;
@@ -428,7 +429,7 @@ listened end a b ended = listened_at end a.world.listener b.world.listener ended
 pub still_idle : (w : SeatView) (xs : List Under) → Stepped w w xs xs step.Idle
 still_idle w xs = record { kinds = []; goes = goes_still w xs; accepts = tt; fits = tt }
 
-module _ {next starved : ℕ} {sockets sockets_now : Option (List BoundSocket)} (room faults faults_now : ℕ) (around : Around) (listener listener_now : Option ListenerLog) (xs : List Under) (later : faults ≤ faults_now) (silent : listener ≡ None → listener_now ≡ None) (sockets_kept : sockets_now ≡ sockets) where
+module _ {next starved : ℕ} {sockets sockets_now : Option (List BoundSocket)} (room faults faults_now : ℕ) (around : Around) (listener listener_now : Option ListenerLog) (xs : List Under) (later : faults ≤ faults_now) (silent : listener ≡ None → listener_now ≡ None) (grown : OnlyAdds sockets sockets_now) where
   -- no link was there
   pub goes_answered : (ready_faults : ℕ) (answer : AcceptKind) → links_given (answer ∷ []) ≡ 0 → IfSome listener (λ log. listener_now ≡ Some (with_kind log answer))
       → Goes (seat_view room next faults ready_faults (seat_world sockets listener starved around)) (seat_view room next faults_now ready_faults (seat_world sockets_now listener_now starved around)) xs xs (answer ∷ [])
@@ -436,7 +437,7 @@ module _ {next starved : ℕ} {sockets sockets_now : Option (List BoundSocket)} 
       let same : length xs + links_given (answer ∷ []) ≡ length xs = omega (arith, none) in
       record {
         room = refl;
-        sockets = sockets_kept;
+        sockets = grown;
         listens = later;
         waits = omega arith;
         sees = prefix_same around.pass.seen;
@@ -463,7 +464,7 @@ module _ {next starved : ℕ} {sockets sockets_now : Option (List BoundSocket)} 
         kinds = kind.Link ∷ [];
         goes = record {
           room = refl;
-          sockets = sockets_kept;
+          sockets = grown;
           listens = later;
           waits = waits;
           sees = prefix_same around.pass.seen;
@@ -477,13 +478,13 @@ module _ {next starved : ℕ} {sockets sockets_now : Option (List BoundSocket)} 
   -- a link came, and is finished at once
   pub goes_went : {next_now starved_now : ℕ} {sockets_then : Option (List BoundSocket)} (ready_faults waits_now faults_then : ℕ) (listener_then : Option ListenerLog) (f : FinishedLink) → ready_faults ≤ waits_now → faults_then ≡ faults_now → (listener_now ≡ None → listener_then ≡ None) → sockets_then ≡ sockets_now → IfSome listener (λ log. listener_now ≡ Some (with_kind log kind.Link)) → Finishes listener_now listener_then f
       → Goes (seat_view room next faults ready_faults (seat_world sockets listener starved around)) (seat_view room next_now faults_then waits_now (seat_world sockets_then listener_then starved_now around)) xs xs (kind.Link ∷ [])
-  goes_went ready_faults waits_now faults_then listener_then f waits same still sockets_still answers ends =
+  goes_went {next_now} {starved_now} {sockets_then} ready_faults waits_now faults_then listener_then f waits same still sockets_still answers ends =
       let one : links_given (kind.Link ∷ []) ≡ 1 = refl in
       let same_count : length xs + links_given (kind.Link ∷ []) ≡ length xs + 1 = omega (arith, one) in
       let came = subst (λ (n : ℕ). ListensOn listener listener_now (length xs) n (kind.Link ∷ [])) same_count (listens_answered listener listener_now (length xs) kind.Link silent answers) in
       record {
         room = refl;
-        sockets = sockets_still ∙ sockets_kept;
+        sockets = adds_then sockets sockets_now sockets_then grown (adds_same sockets_now sockets_then sockets_still);
         listens = omega (arith, later, same);
         waits = waits;
         sees = prefix_same around.pass.seen;
@@ -502,16 +503,16 @@ failed_at faults (Some log) listener_now n silent (inl told) =
     (kind.Failed ∷ [], subst (λ (m : ℕ). ListensOn (Some log) listener_now n m (kind.Failed ∷ [])) same (listens_answered (Some log) listener_now n kind.Failed silent told), tt)
 failed_at faults (Some log) listener_now n silent (inr full) = ([], subst (λ (o : Option ListenerLog). ListensOn (Some log) o n n []) (sym full.1) (listens_none (Some log) n), tt)
 
-pub step_failed : {next starved : ℕ} {sockets sockets_now : Option (List BoundSocket)} (room faults faults_now ready_faults : ℕ) (around : Around) (listener listener_now : Option ListenerLog) (xs : List Under) → faults ≤ faults_now → Rose faults faults_now → (listener ≡ None → listener_now ≡ None) → sockets_now ≡ sockets
+pub step_failed : {next starved : ℕ} {sockets sockets_now : Option (List BoundSocket)} (room faults faults_now ready_faults : ℕ) (around : Around) (listener listener_now : Option ListenerLog) (xs : List Under) → faults ≤ faults_now → Rose faults faults_now → (listener ≡ None → listener_now ≡ None) → OnlyAdds sockets sockets_now
     → IfSome listener (λ log. (listener_now ≡ Some (with_kind log kind.Failed)) ⊎ ((2 ^ 64 ≤ faults + 1) × (listener_now ≡ Some log)))
     → Stepped (seat_view room next faults ready_faults (seat_world sockets listener starved around)) (seat_view room next faults_now ready_faults (seat_world sockets_now listener_now starved around)) xs xs (step.Over seat.ListenFault)
-step_failed room faults faults_now ready_faults around listener listener_now xs later rose silent sockets_kept tells =
+step_failed room faults faults_now ready_faults around listener listener_now xs later rose silent grown tells =
     let how = failed_at faults listener listener_now (length xs) silent tells in
     record {
       kinds = how.0;
       goes = record {
         room = refl;
-        sockets = sockets_kept;
+        sockets = grown;
         listens = later;
         waits = omega arith;
         sees = prefix_same around.pass.seen;

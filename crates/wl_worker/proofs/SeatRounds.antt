@@ -22,6 +22,7 @@ use Rattle.wl_worker.proofs.Growth.{in_back, outcome_grows}
 use Rattle.wl_worker.proofs.TakenRounds.{began}
 use Rattle.wl_worker.proofs.LinkEnds.{came_closed, came_failed}
 use Rattle.wl_worker.proofs.ConnectionRounds.{outcomes_on, outcomes_by_such}
+use Rattle.wl_edge.proofs.KnownSockets.{adds_none}
 use Rattle.wl_worker.proofs.SeatLaws.{Adds, passed, outcomes_longer}
 
 module _ (valid : Ask → Signed → Type 0) (vouched : Asker) (origin : Origin) (old new : ServedState) (log_before log_now : Option LinkLog) (before now : Around) (end : RoundEnd) (round : RoundTells valid vouched origin old new log_before log_now before now end) where
@@ -29,7 +30,7 @@ module _ (valid : Ask → Signed → Type 0) (vouched : Asker) (origin : Origin)
   pub adds : (sockets : Option (List BoundSocket)) (listener : Option ListenerLog) (starved : ℕ) → Adds (seat_world sockets listener starved before) (seat_world sockets listener starved now) round.added round.signed round.times
   adds sockets listener starved =
       record {
-        sockets = refl;
+        sockets = adds_none sockets;
         listener = refl;
         starved = refl;
         attested = round.attested;

@@ -10,7 +10,7 @@ use Rattle.wl_edge.specs.Links.{LinkLog}
 use Rattle.wl_edge.specs.declared.origin.Origin.{Origin}
 use Rattle.wl_edge.specs.declared.fault.EdgeFault.{EdgeFault}
 use Rattle.wl_edge.specs.declared.fault.EdgeFault.TheVariants as edge
-use Rattle.wl_edge.specs.Listeners.{ListenerLog, FinishedLink, links_given}
+use Rattle.wl_edge.specs.Listeners.{ListenerLog, FinishedLink, OnlyAdds, links_given}
 use Rattle.wl_edge.specs.declared.listener.AcceptKind.{AcceptKind}
 use Rattle.ask_mail.specs.declared.mail.Delivery.{Delivery}
 use Rattle.wl_worker.specs.Counts.{RoseBy}
@@ -86,7 +86,7 @@ ListensOn (Some before) new was_open now_open kinds = (after : ListenerLog) × (
 -- from these links to those
 pub record Goes (old new : SeatView) (links_before links_now : List Under) (kinds : List AcceptKind) : Type 0 where
   pub room : new.room ≡ old.room
-  pub sockets : new.world.sockets ≡ old.world.sockets
+  pub sockets : OnlyAdds old.world.sockets new.world.sockets
   pub listens : old.listener_faults ≤ new.listener_faults
   pub waits : old.ready_faults ≤ new.ready_faults
   pub sees : IsPrefix (seen_by old) (seen_by new)

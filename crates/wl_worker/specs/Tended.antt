@@ -139,7 +139,7 @@ known vouched w signed times starved = record { sockets = w.sockets; seen = w.ar
 -- ---- Tended
 
 -- What a seat came to. Each finished link, whose number is its own, took a prefix of the talk of its rounds, its calls were
--- attested by its own origin, which is one of the listener's sockets, and its outcomes came for the asks of that number. These are all rounds of the seat, each of one
+-- attested by its own origin, which is one of the sockets that the listener has in the new world, and its outcomes came for the asks of that number. These are all rounds of the seat, each of one
 -- finished link: so no answer of the attestor, no number that was read and no outcome belongs to two, and no link gets an answer
 -- that was asked for the origin of another.
 -- `fulls` took the whole, unless a call of theirs failed or memory ran out for them, which the seat counted; after them come

@@ -3,7 +3,7 @@
 ghost use Rattle.std.specs.Prelude.{◌≡◌, ◌≤◌, Some, IsSome, IfSome, IsSomeAnd, is_some, length};
 ghost use mathlib.Core.List.{IsPrefix};
 ghost use Rattle.wl_edge.specs.Edge.{Rose};
-ghost use Rattle.wl_edge.specs.Listeners.{links_given};
+ghost use Rattle.wl_edge.specs.Listeners.{OnlyAdds, links_given};
 ghost use Rattle.wl_publish.specs.Listings.{Passing};
 ghost use Rattle.wl_worker.specs.Served.{around};
 ghost use Rattle.wl_worker.specs.Tended.{ListenedTo, Tends, seat_world};
@@ -77,7 +77,7 @@ pub fn serve_seat<
     requires pass { IsSome seat.old.pass }
     requires open { IfSome (L.told seat.old.listener) (λ log. length log.finished ≤ links_given log.kinds) }
     ensures place { seat.new.room ≡ seat.old.room }
-    ensures sockets { L.sockets seat.new.listener ≡ L.sockets seat.old.listener }
+    ensures sockets { OnlyAdds (L.sockets seat.old.listener) (L.sockets seat.new.listener) }
     ensures sees { IsSomeAnd seat.old.pass (λ p. IsSomeAnd seat.new.pass (λ q. IsPrefix p.seen q.seen)) }
     ensures listens { L.faults seat.old.listener ≤ L.faults seat.new.listener }
     ensures waits { P.faults seat.old.ready ≤ P.faults seat.new.ready }
@@ -86,7 +86,7 @@ pub fn serve_seat<
     ensures wait_fault { result ≡ SeatEnd.WaitFault → Rose (P.faults seat.old.ready) (P.faults seat.new.ready) }
     ensures finishes { ListenedTo result (L.told seat.old.listener) (L.told seat.new.listener) }
     // Where links tell their content: what each took, and that its calls were attested by its own origin, which is one of
-    // the listener's sockets.
+    // the sockets that the listener has at the end.
     ensures tends { ((l : L.L) → IsSome (L.L.told l))
         → (p q : Passing) → seat.old.pass ≡ Some p → seat.new.pass ≡ Some q
         → Tends T.V.token seat.old.room result
