@@ -11,6 +11,8 @@ pub(crate) struct Arrivals {
     is_watched: AtomicBool,
     /// Whether an accept may find a link at once, so that nobody should wait.
     at_once: AtomicBool,
+    /// Whether all links are to have a round.
+    of_all: AtomicBool,
 }
 
 impl Arrivals {
@@ -20,6 +22,7 @@ impl Arrivals {
             are_there: AtomicBool::new(true),
             is_watched: AtomicBool::new(false),
             at_once: AtomicBool::new(false),
+            of_all: AtomicBool::new(false),
         }
     }
 
@@ -54,6 +57,17 @@ impl Arrivals {
     /// Has the next wait end at once.
     pub(crate) fn hurry(&self) {
         self.at_once.store(true, Ordering::SeqCst);
+    }
+
+    /// Has the next wait end at once and list all links.
+    pub(crate) fn list_all(&self) {
+        self.of_all.store(true, Ordering::SeqCst);
+        self.hurry();
+    }
+
+    /// Whether this wait should list all links.
+    pub(crate) fn take_all(&self) -> bool {
+        self.of_all.swap(false, Ordering::SeqCst)
     }
 
     /// Whether this wait should end at once.

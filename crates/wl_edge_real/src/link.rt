@@ -36,6 +36,8 @@ pub(crate) struct Held {
     pub(crate) of_uid: Option<Counted>,
     /// Among all.
     pub(crate) of_all: Counted,
+    /// What has it end with its socket.
+    pub(crate) closing: Arc<Stop>,
 }
 
 /// How many bytes went over a link. At 2^64-1 a count stays.
@@ -262,10 +264,19 @@ fn lateness(watch: &Option<Arc<Watch>>) -> Option<Lateness> {
     }
 }
 
-/// What a receive answers. After a stop was asked for one that finds nothing is the last; after an urgent one nothing is read,
-/// and nothing of a link that was given up.
+/// Whether the socket of a link is closed.
+fn is_closing(held: &Option<Held>) -> bool {
+    match held {
+        Some(held) => held.closing.is_asked(),
+        None => false,
+    }
+}
+
+/// What a receive answers. After a stop was asked for, or its socket was closed, one that finds nothing is the last; after an urgent
+/// stop nothing is read, and nothing of a link that was given up.
 fn receive_until(
     stop: &Option<Arc<Stop>>,
+    held: &Option<Held>,
     watch: &Option<Arc<Watch>>,
     stream: &mut ToldStream<Stream>,
     into: &mut [u8],
@@ -282,7 +293,7 @@ fn receive_until(
         return Received::Failed;
     }
     match answer_of(stream.read(into)) {
-        Received::Idle if is_asked(stop) => Received::End,
+        Received::Idle if is_asked(stop) || is_closing(held) => Received::End,
         answer => answer,
     }
 }
@@ -350,7 +361,7 @@ impl Link for RealLink {
 
     fn receive(&mut self, into: &mut [u8]) -> Received {
         let lent = into.len();
-        let answer = receive_until(&self.stop, &self.watch, &mut self.stream, into);
+        let answer = receive_until(&self.stop, &self.held, &self.watch, &mut self.stream, into);
         self.gave = heard(&self.gave, into, answer);
         self.note(answer, lent);
         answer

@@ -1,19 +1,20 @@
 //! Listeners at sockets of this machine.
 
 ghost use Rattle.std.specs.Prelude.{◌≡◌, ◌≤◌, ◌++◌, ℕ, List, [], ◌∷◌, map, string_bytes, Contains, Some, IfOk, IfSome, OnOk, OnErr};
+ghost use mathlib.Core.List.{IsPrefix};
 ghost use Rattle.wl_edge.specs.Links.{IsFresh};
 ghost use Rattle.wl_edge.specs.Listeners.{AcceptFits, IfLink, kind_of};
 ghost use Rattle.wl_edge_real.specs.Places.{socket_of};
 
 use crate::arrivals::Arrivals;
 use crate::binding::PathListener;
+use crate::changes::{Added, Changes};
 use crate::doors::Door;
 use crate::link::RealLink;
 use crate::loopback::{Loopback, LoopbackListener};
 use crate::missed::{ENOMEM, Missed};
 use crate::open_links::OpenLinks;
 use crate::refusal::Refusal;
-use crate::replacements::Replacements;
 use crate::sockets::Sockets;
 use crate::stop::{Stop, is_asked, share_stop};
 use std::alloc::Global;
@@ -22,9 +23,8 @@ use std::net::Net;
 use std::os::fd::RawFd;
 use std::sync::Arc;
 use wl_edge::{AcceptKind, Accepted, Link, Listener, Origin};
-use wl_octets::Octets;
 use wl_telling::One;
-use wl_told::{Adds, Told};
+use wl_told::Told;
 
 /// The system has no descriptor left (the number of errno(3) on Linux, as those that follow).
 const ENFILE: i32 = 23;
@@ -49,7 +49,6 @@ pub struct RealListener {
     faults: u64,
     kinds: Told<AcceptKind>,
     finished: Told<RealLink>,
-    paths: Told<Octets>,
 }
 
 /// What contracts see of where a listener was bound.
@@ -67,7 +66,7 @@ pub trait BoundAt {
 }
 
 impl BoundAt for RealListener {
-    ghost paths = { λ l. l.paths.list };
+    ghost paths = { λ l. map (λ p. string_bytes p.name) l.sockets.places.items };
 
     fn last_socket(&self) -> u32 {
         self.sockets.tried()
@@ -76,24 +75,6 @@ impl BoundAt for RealListener {
     fn last_refusal(&self) -> Option<Refusal> {
         self.refusal
     }
-}
-
-/// Adds the path of a socket.
-struct ItsPath;
-
-impl Adds<PathListener, Octets> for ItsPath {
-    ghost use Rattle.std.specs.Prelude.{◌∷◌, [], string_bytes};
-
-    ghost added = { λ s. string_bytes s.path ∷ [] };
-}
-
-/// Adds a name of a socket.
-struct ItsName;
-
-impl Adds<String, Octets> for ItsName {
-    ghost use Rattle.std.specs.Prelude.{◌∷◌, [], string_bytes};
-
-    ghost added = { λ name. string_bytes name ∷ [] };
 }
 
 /// Whether an accept found no room for one more connection. Room comes as others end.
@@ -132,7 +113,6 @@ impl RealListener {
             faults: 0,
             kinds: Told::new(),
             finished: Told::new(),
-            paths: Told::new(),
         })
     }
 
@@ -152,11 +132,13 @@ impl RealListener {
         ensures told { ⟦<RealListener as Listener>⟧.told self.new ≡ ⟦<RealListener as Listener>⟧.told self.old }
         ensures faults { ⟦<RealListener as Listener>⟧.faults self.new ≡ ⟦<RealListener as Listener>⟧.faults self.old }
     {
-        let paths = self.paths.and::<PathListener, ItsPath>(&socket);
-        self.sockets
-            .add(Door::Unix(socket.listener), origin, connections)?;
-        self.paths = paths;
-        Ok(())
+        let PathListener { listener, path, .. } = socket;
+        self.sockets.add(Added {
+            door: Door::Unix(listener),
+            name: path,
+            origin,
+            connections,
+        })
     }
 
     /// Listens at one more socket, a TCP port of this machine, which has this name. Its links have this origin, and the uid of their
@@ -183,11 +165,13 @@ impl RealListener {
         ensures told { ⟦<RealListener as Listener>⟧.told self.new ≡ ⟦<RealListener as Listener>⟧.told self.old }
         ensures faults { ⟦<RealListener as Listener>⟧.faults self.new ≡ ⟦<RealListener as Listener>⟧.faults self.old }
     {
-        let paths = self.paths.and::<String, ItsName>(&name);
         let loopback = Loopback::start(self.sockets.alloc(), socket, connections_per_uid);
-        self.sockets.add(Door::Tcp(loopback), origin, connections)?;
-        self.paths = paths;
-        Ok(())
+        self.sockets.add(Added {
+            door: Door::Tcp(loopback),
+            name,
+            origin,
+            connections,
+        })
     }
 
     /// Has it end once this stop is asked for, and the links that it gives from now on. A watcher that is made from now on then lists
@@ -216,9 +200,9 @@ impl RealListener {
         self.sockets.share_arrivals()
     }
 
-    /// Where other sockets are put that take the places of these.
-    pub fn share_replacements(&self) -> io::Result<Arc<Replacements>> {
-        self.sockets.share_replacements()
+    /// By which its sockets are changed while it runs.
+    pub fn share_changes(&self) -> io::Result<Arc<Changes>> {
+        self.sockets.share_changes()
     }
 
     /// The next answer, which is not told yet.
@@ -227,9 +211,10 @@ impl RealListener {
         ensures later { self.old.faults ≤ self.new.faults }
         ensures fresh { IfLink result (λ l. IsFresh (⟦<RealLink as Link>⟧.told l) (⟦<RealLink as Link>⟧.failed_receives l)
             (⟦<RealLink as Link>⟧.failed_sends l) (⟦<RealLink as Link>⟧.stalls l)) }
-        ensures origin { IfLink result (λ l. Contains (map (λ p. socket_of p.origin) self.old.sockets.places.items)
+        ensures origin { IfLink result (λ l. Contains (map (λ p. socket_of p.origin) self.new.sockets.places.items)
             (socket_of (⟦<RealLink as Link>⟧.origin l))) }
-        ensures same { self.new.sockets.places ≡ self.old.sockets.places }
+        ensures grew { IsPrefix (map (λ p. socket_of p.origin) self.old.sockets.places.items)
+            (map (λ p. socket_of p.origin) self.new.sockets.places.items) }
         ensures kinds { self.new.kinds ≡ self.old.kinds }
         ensures finished { self.new.finished ≡ self.old.finished }
     {
@@ -237,7 +222,7 @@ impl RealListener {
         if is_asked(&self.stop) {
             return Accepted::End;
         }
-        let refused = self.sockets.replace_all();
+        let refused = self.sockets.change_all();
         if refused > 0 {
             self.faults = self.faults.saturating_add(refused);
             return Accepted::Idle;

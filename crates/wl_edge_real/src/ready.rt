@@ -179,7 +179,7 @@ impl<R: Clock + Drop> Watcher<R> {
         ensures kept { BeginsWith into.new into.old }
         ensures fault { IfErr result (λ e. e ≡ EdgeFault.Memory) }
     {
-        let all = self.rung || is_asked(&self.stop);
+        let all = self.arrivals.take_all() || self.rung || is_asked(&self.stop);
         self.table.list(all, into)?;
         self.rung = false;
         Ok(())

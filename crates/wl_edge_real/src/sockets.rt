@@ -1,15 +1,16 @@
 //! The sockets of a listener, under one poll.
 
-ghost use Rattle.std.specs.Prelude.{◌≡◌, ◌++◌, ◌∷◌, [], map, Contains, IfOk, IfSome, OnOk, OnErr};
+ghost use Rattle.std.specs.Prelude.{◌≡◌, ◌++◌, ◌∷◌, [], map, Contains, IfOk, IfSome, OnOk, OnErr, string_bytes};
+ghost use mathlib.Core.List.{IsPrefix};
 ghost use Rattle.wl_edge.specs.Links.{IsFresh};
 ghost use Rattle.wl_edge_real.specs.Places.{socket_of};
 
 use crate::arrivals::Arrivals;
+use crate::changes::{Added, Change, Changes, MOST_WAITING, Replacement};
 use crate::doors::{Caller, Door};
 use crate::link::{Held, RealLink};
 use crate::missed::{Missed, no_memory};
 use crate::open_links::OpenLinks;
-use crate::replacements::{MOST_WAITING, Replacement, Replacements};
 use crate::stop::{Stop, share_stop};
 use mio::unix::SourceFd;
 use mio::{Events, Interest, Poll, Registry, Token};
@@ -38,10 +39,14 @@ const SHARE: u32 = 2;
 pub(crate) struct Place {
     /// Its place in the list, from 0.
     at: u32,
+    /// Its path, or the text of its address.
+    pub(crate) name: String,
     /// From where its links come.
     pub(crate) origin: Origin,
     /// Its links that are open.
     open: Arc<OpenLinks>,
+    /// What has its links end once it is closed.
+    closing: Arc<Stop>,
     /// Whether it stands in the list of those that are due.
     is_due: AtomicBool,
     /// Whether peers may wait until one of its links ends.
@@ -52,7 +57,7 @@ impl Place {
     /// The next connection of its socket, one of these, as a link.
     fn next_link(
         &self,
-        doors: &mut [Door],
+        doors: &mut [Option<Door>],
         all: &Arc<OpenLinks>,
         stop: &Option<Arc<Stop>>,
     ) -> Result<RealLink, Missed>
@@ -60,13 +65,14 @@ impl Place {
         ensures fresh { IfOk result (λ l. IsFresh (⟦<RealLink as Link>⟧.told l) (⟦<RealLink as Link>⟧.failed_receives l)
             (⟦<RealLink as Link>⟧.failed_sends l) (⟦<RealLink as Link>⟧.stalls l)) }
     {
-        let Some(door) = doors.get_mut(self.at as usize) else {
+        let Some(Some(door)) = doors.get_mut(self.at as usize) else {
             return Err(Missed::Nobody);
         };
         let Some(of_socket) = OpenLinks::enter(&self.open) else {
             return Err(Missed::Full);
         };
         let origin = self.origin.share().map_err(no_memory)?;
+        let closing = Arc::try_clone(&self.closing).map_err(no_memory)?;
         let stop = share_stop(stop)?;
         let Some(of_all) = OpenLinks::enter(all) else {
             door.turn_away()?;
@@ -85,6 +91,7 @@ impl Place {
             of_socket,
             of_uid,
             of_all,
+            closing,
         });
         Ok(link)
     }
@@ -113,10 +120,10 @@ pub(crate) struct Sockets {
     poll: Poll,
     events: Events<Global>,
     pub(crate) places: Vec<Place>,
-    /// The sockets themselves, in the same order: one may take the place of another.
-    doors: Vec<Door>,
-    /// Those that are to take the places of others.
-    replacements: Arc<Replacements>,
+    /// The sockets themselves, in the same order: one may take the place of another, and none is left of one that was closed.
+    doors: Vec<Option<Door>>,
+    /// What is to change while others wait for them.
+    changes: Arc<Changes>,
     /// The places of those that may have a peer and room for it, each once, in turn.
     due: VecDeque<u32>,
     /// The number of the socket that was tried last.
@@ -148,7 +155,7 @@ fn note_all(events: &Events<Global>, places: &[Place], due: &mut VecDeque<u32>) 
 /// The next connection at this place as a link.
 fn link_at(
     places: &[Place],
-    doors: &mut [Door],
+    doors: &mut [Option<Door>],
     at: u32,
     all: &Arc<OpenLinks>,
     stop: &Option<Arc<Stop>>,
@@ -186,6 +193,21 @@ fn number_at(places: &[Place], at: u32) -> u32 {
     }
 }
 
+/// The place of the socket of this number.
+fn place_of(places: &[Place], number: u32) -> io::Result<u32> {
+    match places.iter().find(|place| place.origin.socket == number) {
+        Some(place) => Ok(place.at),
+        None => Err(io::Error::from(ErrorKind::NotFound)),
+    }
+}
+
+/// Has the links of the socket at this place end.
+fn end_links(places: &[Place], at: u32) {
+    if let Some(place) = places.get(at as usize) {
+        place.closing.ask();
+    }
+}
+
 impl Sockets {
     /// No sockets yet.
     pub(crate) fn start(rt: &impl Net, alloc: Global) -> io::Result<Sockets>
@@ -193,14 +215,14 @@ impl Sockets {
     {
         let arrivals = Arc::new(alloc, Arrivals::start()).map_err(no_memory)?;
         let shared = Arc::try_clone(&arrivals).map_err(no_memory)?;
-        let replacements = Replacements::start(alloc, shared);
+        let changes = Changes::start(alloc, shared);
         Ok(Sockets {
             alloc,
             poll: Poll::new(rt)?,
             events: Events::with_capacity(alloc, EVENTS).map_err(no_memory)?,
             places: Vec::new(alloc),
             doors: Vec::new(alloc),
-            replacements: Arc::new(alloc, replacements).map_err(no_memory)?,
+            changes: Arc::new(alloc, changes).map_err(no_memory)?,
             due: VecDeque::new(alloc),
             tried: 0,
             given: 0,
@@ -218,9 +240,9 @@ impl Sockets {
         Arc::try_clone(&self.arrivals).map_err(no_memory)
     }
 
-    /// What one who replaces sockets shares.
-    pub(crate) fn share_replacements(&self) -> io::Result<Arc<Replacements>> {
-        Arc::try_clone(&self.replacements).map_err(no_memory)
+    /// What one who changes them shares.
+    pub(crate) fn share_changes(&self) -> io::Result<Arc<Changes>> {
+        Arc::try_clone(&self.changes).map_err(no_memory)
     }
 
     /// Whether an accept may find a link.
@@ -233,12 +255,20 @@ impl Sockets {
         self.tried
     }
 
-    /// One more socket, whose links have this origin. So many of them may be open at once.
-    pub(crate) fn add(&mut self, door: Door, origin: Origin, connections: u32) -> io::Result<()>
+    /// One more socket.
+    pub(crate) fn add(&mut self, added: Added) -> io::Result<()>
         ensures added { OnOk result (map (λ p. socket_of p.origin) self.new.places.items
-            ≡ map (λ p. socket_of p.origin) self.old.places.items ++ socket_of origin ∷ []) }
+            ≡ map (λ p. socket_of p.origin) self.old.places.items ++ socket_of added.origin ∷ []) }
+        ensures named { OnOk result (map (λ p. string_bytes p.name) self.new.places.items
+            ≡ map (λ p. string_bytes p.name) self.old.places.items ++ string_bytes added.name ∷ []) }
         ensures kept { OnErr result (self.new.places.items ≡ self.old.places.items) }
     {
+        let Added {
+            door,
+            name,
+            origin,
+            connections,
+        } = added;
         door.set_nonblocking(true)?;
         let at = u32::try_from(self.places.len()).map_err(no_memory)?;
         self.due
@@ -246,10 +276,13 @@ impl Sockets {
             .map_err(no_memory)?;
         self.doors.reserve(1).map_err(no_memory)?;
         let open = OpenLinks::share(self.alloc, connections).map_err(no_memory)?;
+        let closing = Arc::new(self.alloc, Stop::start()).map_err(no_memory)?;
         let place = Place {
             at,
+            name,
             origin,
             open,
+            closing,
             is_due: AtomicBool::new(false),
             is_full: AtomicBool::new(false),
         };
@@ -257,7 +290,7 @@ impl Sockets {
         // A socket for which there is no memory is closed, and so leaves the poll.
         self.places.push(place).map_err(no_memory)?;
         // There is room for it.
-        let _ = self.doors.push(door);
+        let _ = self.doors.push(Some(door));
         Ok(())
     }
 
@@ -270,28 +303,58 @@ impl Sockets {
     fn replace(&mut self, replacement: Replacement) -> io::Result<()>
         ensures { self.new.places ≡ self.old.places }
     {
-        let Replacement { place, listener } = replacement;
-        let Some(Door::Unix(other)) = self.doors.get_mut(place as usize) else {
+        let Replacement { number, listener } = replacement;
+        let at = place_of(self.places.as_slice(), number)?;
+        let Some(Some(Door::Unix(other))) = self.doors.get_mut(at as usize) else {
             return Err(io::Error::from(ErrorKind::NotFound));
         };
         listener.set_nonblocking(true)?;
-        register(self.poll.registry(), listener.as_raw_fd(), place)?;
+        register(self.poll.registry(), listener.as_raw_fd(), at)?;
         // The other leaves the poll as it is closed.
         *other = listener;
         self.arrivals.note();
         Ok(())
     }
 
-    /// Puts the sockets that wait for it in the places of others. So many were refused.
-    pub(crate) fn replace_all(&mut self) -> u64
+    /// Closes the socket of this number, and has its links end.
+    fn close(&mut self, number: u32) -> io::Result<()>
         ensures { self.new.places ≡ self.old.places }
+    {
+        let at = place_of(self.places.as_slice(), number)?;
+        end_links(self.places.as_slice(), at);
+        if let Some(door) = self.doors.get_mut(at as usize) {
+            // It leaves the poll as it is closed.
+            *door = None;
+        }
+        self.arrivals.list_all();
+        Ok(())
+    }
+
+    /// Makes a change. After a fault all is as it was.
+    fn change(&mut self, change: Change) -> io::Result<()>
+        ensures { IsPrefix (map (λ p. socket_of p.origin) self.old.places.items) (map (λ p. socket_of p.origin) self.new.places.items) }
+    {
+        match change {
+            Change::Add(added) => {
+                self.add(added)?;
+                self.arrivals.note();
+                Ok(())
+            }
+            Change::Replace(replacement) => self.replace(replacement),
+            Change::Close(number) => self.close(number),
+        }
+    }
+
+    /// Makes the changes that wait. So many were refused.
+    pub(crate) fn change_all(&mut self) -> u64
+        ensures { IsPrefix (map (λ p. socket_of p.origin) self.old.places.items) (map (λ p. socket_of p.origin) self.new.places.items) }
     {
         let mut refused: u64 = 0;
         for _ in 0..MOST_WAITING {
-            let Some(replacement) = self.replacements.take() else {
+            let Some(change) = self.changes.take() else {
                 break;
             };
-            if self.replace(replacement).is_err() {
+            if self.change(change).is_err() {
                 refused = refused.saturating_add(1);
             }
         }

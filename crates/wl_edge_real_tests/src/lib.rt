@@ -2,6 +2,7 @@
 #![tactic(auto)]
 
 #[cfg(test)]
+mod changing_tests;
 mod file_tests;
 #[cfg(test)]
 mod late_tests;
@@ -10,7 +11,6 @@ mod loopback_tests;
 #[cfg(test)]
 mod many_tests;
 #[cfg(test)]
-mod replacing_tests;
 #[cfg(test)]
 mod slow_tests;
 #[cfg(test)]

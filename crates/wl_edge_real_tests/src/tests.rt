@@ -18,7 +18,7 @@ use wl_edge::{
     Ready, Received, Sent, TrySent, Upstream,
 };
 use wl_edge_real::{
-    BindFault, DialedLink, Guard, MAX_OPEN_LINKS, OpenLinks, RealBell, RealClock, RealGate,
+    BindFault, DialedLink, Guard, MAX_OPEN_LINKS, OpenLinks, Pace, RealBell, RealClock, RealGate,
     RealLink, RealListener, RealReady, RealUpstream, Stop, bind,
 };
 use wl_octets::{Octets, Row};
@@ -467,7 +467,8 @@ fn a_dialed_link_connects_at_its_first_sending(rt: HostRuntime) -> Result<(), Fa
 fn a_clock_tells_the_time_and_a_gate_holds_upkeep(rt: HostRuntime) -> Result<(), Fail> {
     let mut clock = RealClock::start(rt);
     let stop = Arc::new(rt.alloc(), Stop::start())?;
-    let gate = RealGate::start(rt, 3, Arc::try_clone(&stop)?);
+    let pace = Arc::new(rt.alloc(), Pace::start(3))?;
+    let gate = RealGate::start(rt, Arc::try_clone(&pace)?, Arc::try_clone(&stop)?);
     let before = clock.now();
     gate.pass(BEFORE_TURN);
     gate.pass(BEFORE_UPKEEP);
