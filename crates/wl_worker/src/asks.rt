@@ -82,9 +82,10 @@ impl Post {
 /// The asks of all sockets and the answers for all seats, as they stand under the lock.
 #[derive(Drop)]
 struct Posts<V: Voucher> {
+    alloc: Global,
     /// By seat.
     mailboxes: Vec<Mailbox<V>>,
-    /// By socket.
+    /// By socket. One that is added while the agent runs is there from its first ask on.
     sockets: Vec<Post>,
     /// The sockets of which a signer may take an ask, each once, in their turn.
     turns: VecDeque<u32>,
@@ -117,8 +118,24 @@ impl<V: Voucher> Posts<V> {
         post.in_turn = self.turns.push_back(socket).is_ok();
     }
 
+    /// Has posts up to that of this socket, and room for all of them among the turns.
+    fn make_posts(&mut self, socket: u32) -> Result<(), Memory> {
+        let wanted = (socket as usize).saturating_add(1);
+        if wanted <= self.sockets.len() {
+            return Ok(());
+        }
+        self.turns.reserve(wanted.saturating_sub(self.turns.len()))?;
+        for _ in self.sockets.len()..wanted {
+            self.sockets.push(Post::start(self.alloc))?;
+        }
+        Ok(())
+    }
+
     /// Puts an ask, whose answer is awaited then.
     fn put(&mut self, asked: Asked) -> Putting {
+        if self.make_posts(asked.socket).is_err() {
+            return Putting::Memory;
+        }
         let Some(mailbox) = self.mailboxes.get_mut(asked.seat as usize) else {
             return Putting::Refused;
         };
@@ -237,8 +254,8 @@ pub struct AskHub<V: Voucher> {
 }
 
 impl<V: Voucher> AskHub<V> {
-    /// The asks of so many sockets, the answers for so many seats, and so many signers. Of one socket at most half of the
-    /// signers' asks are under way at once, and at least one.
+    /// The asks of so many sockets at first, the answers for so many seats, and so many signers. A socket of a higher number has its
+    /// place from its first ask on. Of one socket at most half of the signers' asks are under way at once, and at least one.
     pub fn start(
         alloc: Global,
         seats: usize,
@@ -247,6 +264,7 @@ impl<V: Voucher> AskHub<V> {
     ) -> Result<Arc<AskHub<V>>, Memory> {
         let hub = AskHub {
             posts: Mutex::new(Posts {
+                alloc,
                 mailboxes: empty_mailboxes(alloc, seats)?,
                 sockets: empty_posts(alloc, sockets)?,
                 turns: VecDeque::with_capacity(alloc, sockets)?,

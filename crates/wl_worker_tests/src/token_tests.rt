@@ -105,6 +105,27 @@ fn two_tokens(rt: HostRuntime) {
     play(&rt, rt.alloc(), &links, &steps);
 }
 
+/// A caller of a socket that is none of the first two asks, too. Its ask has its turn as any other.
+#[test]
+fn added_socket(rt: HostRuntime) {
+    let links: [(u32, &[&[&[u8]]]); 2] = [
+        (7, &[&[OPENING, TOKEN_CALL], &[]]),
+        (1, &[&[OPENING, TOKEN_CALL_Y], &[]]),
+    ];
+    let steps = [
+        on(0),
+        on(1),
+        Step::Sign(2),
+        Step::Signed(2),
+        on(1),
+        on(0),
+        Step::Took(0, GIVEN),
+        Step::Took(1, &[SERVER_SETTINGS, ACK, CREDIT_8, RESPONSE_HEAD, TOKEN_U]),
+        Step::Rang(2),
+    ];
+    play_over(&rt, rt.alloc(), &links, &steps);
+}
+
 /// A token comes after its connection has ended. It is kept, and told to nobody; a later call gets it.
 #[test]
 fn late_token(rt: HostRuntime) {
