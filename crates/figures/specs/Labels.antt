@@ -7,7 +7,7 @@ use Rattle.figures.specs.declared.labels.SigningKind.TheVariants.{X509, Jwt}
 use Rattle.figures.specs.declared.labels.SigningResult.{SigningResult}
 use Rattle.figures.specs.declared.labels.SigningResult.TheVariants as asked
 use Rattle.figures.specs.declared.labels.IdentityState.{IdentityState}
-use Rattle.figures.specs.declared.labels.IdentityState.TheVariants.{Kept, Missing}
+use Rattle.figures.specs.declared.labels.IdentityState.TheVariants.{Kept, Due, InFlight, Missing}
 use Rattle.figures.specs.declared.labels.LinkCause.{LinkCause}
 use Rattle.figures.specs.declared.labels.LinkCause.TheVariants.{ReceiveFailed, SendFailed}
 use Rattle.figures.specs.declared.labels.LateCause.{LateCause}
@@ -36,6 +36,8 @@ signing_result asked.Failed = codes "failed"
 
 unfoldable pub identity_state : IdentityState → List ℕ
 identity_state Kept = codes "kept"
+identity_state Due = codes "due"
+identity_state InFlight = codes "in_flight"
 identity_state Missing = codes "missing"
 
 unfoldable pub link_name : LinkCause → List ℕ

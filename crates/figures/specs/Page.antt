@@ -56,7 +56,8 @@ end_part None = []
 
 unfoldable pub identities_part : Identities → List ℕ
 identities_part i =
-    head family.Identities ++ sample (counted.Identity states.Kept) i.kept ++ sample (counted.Identity states.Missing) i.missing
+    head family.Identities ++ sample (counted.Identity states.Kept) i.kept ++ sample (counted.Identity states.Due) i.due
+    ++ sample (counted.Identity states.InFlight) i.in_flight ++ sample (counted.Identity states.Missing) i.missing
     ++ end_part i.next_end
 
 -- ---- signings

@@ -133,7 +133,11 @@ impl CallCounters {
     /// Adds what was counted of a connection.
     pub(crate) fn count(&self, counts: &CallCounts) {
         for method in CallMethod::all() {
-            self.of(method).count(counts.of(method));
+            let counts = counts.of(method);
+            if counts.is_empty() {
+                continue;
+            }
+            self.of(method).count(counts);
         }
     }
 

@@ -54,6 +54,25 @@ impl MethodFigures {
         }
     }
 
+    /// Adds those of another socket.
+    fn add(&mut self, other: &MethodFigures) {
+        self.messages = self.messages.saturating_add(other.messages);
+        self.ok = self.ok.saturating_add(other.ok);
+        self.cancelled = self.cancelled.saturating_add(other.cancelled);
+        self.invalid_argument = self.invalid_argument.saturating_add(other.invalid_argument);
+        self.not_found = self.not_found.saturating_add(other.not_found);
+        self.permission_denied = self
+            .permission_denied
+            .saturating_add(other.permission_denied);
+        self.resource_exhausted = self
+            .resource_exhausted
+            .saturating_add(other.resource_exhausted);
+        self.unimplemented = self.unimplemented.saturating_add(other.unimplemented);
+        self.internal = self.internal.saturating_add(other.internal);
+        self.unavailable = self.unavailable.saturating_add(other.unavailable);
+        self.http = self.http.saturating_add(other.http);
+    }
+
     /// How many calls ended.
     fn all_ended(&self) -> u64 {
         let mut count = 0u64;
@@ -79,6 +98,17 @@ impl CallFigures {
             CallMethod::Watch => &self.watch,
             CallMethod::Unread => &self.unread,
         }
+    }
+
+    /// Adds those of another socket.
+    pub(crate) fn add(&mut self, other: &CallFigures) {
+        self.x509_svid.add(&other.x509_svid);
+        self.x509_bundles.add(&other.x509_bundles);
+        self.jwt_svid.add(&other.jwt_svid);
+        self.jwt_bundles.add(&other.jwt_bundles);
+        self.check.add(&other.check);
+        self.watch.add(&other.watch);
+        self.unread.add(&other.unread);
     }
 
     /// How many calls ended.

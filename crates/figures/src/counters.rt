@@ -10,6 +10,8 @@ use crate::labels::{
     SigningResult,
 };
 use crate::socket_path::SocketPath;
+use crate::socket_table::{NumberedSocket, SocketTable};
+use crate::socket_totals::SocketTotals;
 use call_counts::CallCounts;
 use std::alloc::Global;
 use std::sync::atomic::{AtomicBool, AtomicU64, Ordering};
@@ -21,12 +23,10 @@ const SECOND: u64 = 1_000;
 /// The upper bounds of the seconds of asks, in milliseconds.
 const BOUNDS: [u64; 5] = [10, 100, 1_000, 5_000, 10_000];
 
-/// The counters of a socket.
+/// The counters of a socket, beside those of its connections.
 #[derive(Drop)]
 struct SocketCounters {
     path: SocketPath,
-    opened: AtomicU64,
-    closed: AtomicU64,
     calls: CallCounters,
 }
 
@@ -43,7 +43,7 @@ struct FaultCounters {
 }
 
 /// Shared counters. Each is an atomic: whoever adds to one waits for nobody. At 2^64 they begin anew, as counters of Prometheus
-/// may.
+/// may. Sockets come and go: what is counted of a socket while one is added is lost where that takes long.
 #[derive(Drop)]
 pub struct Counters {
     taken: AtomicU64,
@@ -67,27 +67,28 @@ pub struct Counters {
     short: [AtomicU64; 5],
     asks: AtomicU64,
     milliseconds: AtomicU64,
-    sockets: Vec<SocketCounters>,
+    sockets: SocketTable<SocketCounters>,
     faults: FaultCounters,
     received: AtomicU64,
     sent: AtomicU64,
 }
 
-impl SocketCounters {
-    /// What stands in the counters. What ended is read before what began.
-    fn figures(&self, alloc: Global) -> Result<SocketFigures, Memory> {
-        let closed = read(&self.closed);
-        let accepted = read(&self.opened);
-        let calls = self.calls.figures();
-        let begun = self.calls.begun();
-        Ok(SocketFigures {
-            path: self.path.copy(alloc)?,
-            open: accepted.saturating_sub(closed),
-            accepted,
-            streams: begun.saturating_sub(calls.all_ended()),
-            calls,
-        })
-    }
+/// What stands in the counters of a socket. What ended is read before what began.
+fn figures_of(
+    alloc: Global,
+    socket: &NumberedSocket<SocketCounters>,
+) -> Result<SocketFigures, Memory> {
+    let (accepted, open) = socket.connections();
+    let counters = socket.item();
+    let calls = counters.calls.figures();
+    let begun = counters.calls.begun();
+    Ok(SocketFigures {
+        path: counters.path.copy(alloc)?,
+        open,
+        accepted,
+        streams: begun.saturating_sub(calls.all_ended()),
+        calls,
+    })
 }
 
 impl Counters {
@@ -110,7 +111,7 @@ impl Counters {
             short: [zero(), zero(), zero(), zero(), zero()],
             asks: zero(),
             milliseconds: zero(),
-            sockets: Vec::new(alloc),
+            sockets: SocketTable::start(alloc),
             faults: FaultCounters {
                 receive_failed: zero(),
                 send_failed: zero(),
@@ -125,16 +126,17 @@ impl Counters {
         }
     }
 
-    /// Adds the socket of the next number, at the path that a configuration names.
-    pub fn add_socket(&mut self, alloc: Global, path: &Octets) -> Result<(), Memory> {
+    /// Adds a socket, at the path that a configuration names, and gives its number: the next one, from 0. Where others have the
+    /// sockets for long it fails, as where memory runs out.
+    pub fn add_socket(&self, alloc: Global, path: &Octets) -> Result<u32, Memory> {
         let path = SocketPath::of_configuration(alloc, path)?;
-        self.sockets.push(SocketCounters {
-            path,
-            opened: zero(),
-            closed: zero(),
-            calls: CallCounters::start(),
-        })?;
-        Ok(())
+        let calls = CallCounters::start();
+        self.sockets.add(alloc, SocketCounters { path, calls })
+    }
+
+    /// The socket of this number takes no more callers. It stands on the page until its last connection is over.
+    pub fn remove_socket(&self, socket: u32) {
+        self.sockets.give_up(socket);
     }
 
     /// Counts a pull of the document.
@@ -184,16 +186,12 @@ impl Counters {
 
     /// Counts a connection that was accepted at the socket of this number.
     pub fn count_opened(&self, socket: u32) {
-        if let Some(counters) = self.sockets.get(socket as usize) {
-            add(&counters.opened, 1);
-        }
+        self.sockets.note_opened(socket);
     }
 
     /// Counts a connection of the socket of this number that is over.
     pub fn count_closed(&self, socket: u32) {
-        if let Some(counters) = self.sockets.get(socket as usize) {
-            add(&counters.closed, 1);
-        }
+        self.sockets.note_closed(socket);
     }
 
     /// Counts what became of calls of a connection of the socket of this number.
@@ -201,8 +199,10 @@ impl Counters {
         if calls.is_empty() {
             return;
         }
-        if let Some(counters) = self.sockets.get(socket as usize) {
-            counters.calls.count(calls);
+        if let Some(sockets) = self.sockets.read() {
+            if let Some(numbered) = sockets.of(socket) {
+                numbered.item().calls.count(calls);
+            }
         }
     }
 
@@ -257,14 +257,18 @@ impl Counters {
         Some(read(&self.publication))
     }
 
-    /// The figures of the sockets.
+    /// The figures of the sockets, in the order of their numbers; of each path once.
     fn socket_figures(&self, alloc: Global) -> Result<Row<SocketFigures>, Memory> {
-        let mut sockets = Row::empty(alloc);
-        for counters in self.sockets.iter() {
-            let figures = counters.figures(alloc)?;
-            sockets.push(figures).map_err(|_| Memory)?;
+        let Some(sockets) = self.sockets.read() else {
+            return Err(Memory);
+        };
+        let mut totals = SocketTotals::start(alloc);
+        for socket in sockets.as_slice() {
+            if !socket.is_over() {
+                totals.take(figures_of(alloc, socket)?, socket.is_given_up())?;
+            }
         }
-        Ok(sockets)
+        Ok(totals.into_row())
     }
 
     /// The seconds of asks. A shorter bound is read before a longer one, so that none has more than the next.

@@ -15,12 +15,14 @@ pub struct Documents {
     pub failed: u64,
 }
 
-/// How many entries of the document in use have an identity.
+/// How many entries of the document in use are in each [`IdentityState`](crate::IdentityState), each in one.
 #[derive(Clone, Copy, Debug, Drop, PartialEq, Eq)]
 pub struct Identities {
     pub kept: u64,
+    pub due: u64,
+    pub in_flight: u64,
     pub missing: u64,
-    /// How many seconds are left until the first of them ends; nothing where there is none.
+    /// How many seconds are left until the first identity ends; nothing where no entry has one.
     pub next_end: Option<u64>,
 }
 
@@ -56,6 +58,16 @@ pub struct SocketFigures {
     /// How many of their calls have not ended.
     pub streams: u64,
     pub calls: CallFigures,
+}
+
+impl SocketFigures {
+    /// Adds those of another socket at the same path.
+    pub(crate) fn add(&mut self, other: &SocketFigures) {
+        self.open = self.open.saturating_add(other.open);
+        self.accepted = self.accepted.saturating_add(other.accepted);
+        self.streams = self.streams.saturating_add(other.streams);
+        self.calls.add(&other.calls);
+    }
 }
 
 /// How many connections failed, by cause.

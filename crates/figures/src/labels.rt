@@ -25,12 +25,16 @@ pub enum SigningResult {
     Failed,
 }
 
-/// Whether an entry has an identity.
+/// How an entry does for an identity.
 #[derive(Clone, Copy, Debug, Drop, PartialEq, Eq)]
 pub enum IdentityState {
-    /// A signer gave one, which hasn't ended.
+    /// A signer gave one, which hasn't ended and is not to be renewed yet.
     Kept,
-    /// It has none.
+    /// It has one, which is to be renewed, and no signer is asked for it.
+    Due,
+    /// A signer is asked for it now.
+    InFlight,
+    /// It has none, and no signer is asked for it.
     Missing,
 }
 
@@ -209,6 +213,8 @@ impl IdentityState {
     {
         match self {
             IdentityState::Kept => b"kept",
+            IdentityState::Due => b"due",
+            IdentityState::InFlight => b"in_flight",
             IdentityState::Missing => b"missing",
         }
     }

@@ -19,6 +19,8 @@ mod lines;
 mod sample;
 mod shows;
 mod socket_path;
+mod socket_table;
+mod socket_totals;
 mod text;
 
 pub use call_figures::{CallFigures, MethodFigures};
@@ -35,4 +37,5 @@ pub use labels::{
 pub use laws::label_values_are_one_line;
 pub use shows::Shows;
 pub use socket_path::SocketPath;
+pub use socket_table::{NumberedSocket, SocketTable, Sockets};
 pub use text::metrics_text;

@@ -103,6 +103,18 @@ fn put_identities(alloc: Global, out: &mut Octets, identities: Identities) -> Re
     put_sample(
         alloc,
         out,
+        Counted::Identity(IdentityState::Due),
+        identities.due,
+    )?;
+    put_sample(
+        alloc,
+        out,
+        Counted::Identity(IdentityState::InFlight),
+        identities.in_flight,
+    )?;
+    put_sample(
+        alloc,
+        out,
         Counted::Identity(IdentityState::Missing),
         identities.missing,
     )?;
