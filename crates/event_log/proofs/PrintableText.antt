@@ -14,8 +14,8 @@ use Rattle.figures.specs.declared.labels.LinkCause.{LinkCause}
 use Rattle.figures.specs.declared.labels.LinkCause.TheVariants.{ReceiveFailed, SendFailed}
 use Rattle.figures.specs.declared.labels.LateCause.{LateCause}
 use Rattle.figures.specs.declared.labels.LateCause.TheVariants.{Stalled, Silent}
-use Rattle.event_log.specs.Events.{level_of, level_name, event_name, bind_name, reason_name, pull_name, sign_name, unfit_name, error_name}
-use Rattle.event_log.specs.Lines.{bind_fields, sign_fields, fault_fields, count_fields, taken_fields, uid_field, call_fields, counts_fit, uid_fits, call_fits, fields, repeated, said, line, fits}
+use Rattle.event_log.specs.Events.{level_of, level_name, event_name, bind_name, reason_name, pull_name, sign_name, unfit_name, error_name, member_name}
+use Rattle.event_log.specs.Lines.{bind_fields, sign_fields, fault_fields, change_fields, count_fields, taken_fields, uid_field, call_fields, counts_fit, changes_fit, uid_fits, call_fits, fields, repeated, said, line, fits}
 use Rattle.event_log.specs.declared.level.Level.{Level}
 use Rattle.event_log.specs.declared.level.Level.TheVariants.{Error, Warn, Info, Debug}
 use Rattle.event_log.specs.declared.causes.BindCause.{BindCause}
@@ -31,9 +31,10 @@ use Rattle.event_log.specs.declared.causes.UnfitCause.TheVariants as unfit
 use Rattle.event_log.specs.declared.causes.ErrorCode.{ErrorCode}
 use Rattle.event_log.specs.declared.causes.ErrorCode.TheVariants as error
 use Rattle.event_log.specs.declared.event.DocumentCounts.{DocumentCounts}
+use Rattle.event_log.specs.declared.event.SocketChanges.{SocketChanges}
 use Rattle.event_log.specs.declared.event.EndedCall.{EndedCall}
 use Rattle.event_log.specs.declared.event.Event.{Event}
-use Rattle.event_log.specs.declared.event.Event.TheVariants.{BindFailed, ConfigurationUnread, ConfigurationRefused, FirstDocumentRefused, NoFirstDocument, NoThread, ListenFailed, HostFailed, OutputFailed, OutOfMemory, DocumentRefused, DocumentTaken, AuthorityFailed, AuthorityBack, SigningFailed, TokenFailed, IdentityEnded, IdentityNotYetValid, CallerWaits, ConnectionBroken, LinkLate, ConnectionFailed, AttestationFailed, ConnectionsOfUidFull, SocketBoundAnew, Signed, SignerBack, Serving, Stopping, Connected, Closed, Call}
+use Rattle.event_log.specs.declared.event.Event.TheVariants.{BindFailed, ConfigurationUnread, ConfigurationRefused, LaterConfigurationRefused, ConfigurationTaken, RestartWanted, SocketAdded, SocketRemoved, SocketOpenToAll, FirstDocumentRefused, NoFirstDocument, NoThread, ListenFailed, HostFailed, OutputFailed, OutOfMemory, DocumentRefused, DocumentTaken, AuthorityFailed, AuthorityBack, SigningFailed, TokenFailed, IdentityEnded, IdentityNotYetValid, CallerWaits, ConnectionBroken, LinkLate, ConnectionFailed, AttestationFailed, ConnectionsOfUidFull, SocketBoundAnew, Signed, SignerBack, Serving, Stopping, Connected, Closed, Call}
 
 pub printed_append : (xs ys : List ℕ) → are_printed xs ≡ true → are_printed ys ≡ true → are_printed (xs ++ ys) ≡ true
 printed_append [] ys h k = k
@@ -118,6 +119,12 @@ unfolding event_name
 name_printed (BindFailed _ _) = refl
 name_printed ConfigurationUnread = refl
 name_printed (ConfigurationRefused _) = refl
+name_printed (LaterConfigurationRefused _) = refl
+name_printed (ConfigurationTaken _) = refl
+name_printed (RestartWanted _) = refl
+name_printed (SocketAdded _ _) = refl
+name_printed (SocketRemoved _ _) = refl
+name_printed (SocketOpenToAll _ _) = refl
 name_printed (FirstDocumentRefused _) = refl
 name_printed NoFirstDocument = refl
 name_printed NoThread = refl
@@ -297,6 +304,15 @@ two_numbers_printed key other n m k o h =
     printed_append (number_field key n) (number_field other m)
     (number_below key n k (first_true _ _ h)) (number_below other m o (second_true _ _ h))
 
+changes_printed : (changes : SocketChanges) → changes_fit changes ≡ true → are_printed (change_fields changes) ≡ true
+unfolding change_fields changes_fit
+changes_printed c h = two_numbers_printed (codes "added") (codes "removed") c.added c.removed refl refl h
+
+socket_printed : (socket : ℕ) (path : List ℕ) → nat_lt socket (2 ^ 64) ≡ true → are_printed (number_field (codes "socket") socket ++ text_field (codes "path") path) ≡ true
+socket_printed socket path h =
+    printed_append (number_field (codes "socket") socket) (text_field (codes "path") path)
+    (number_below (codes "socket") socket refl h) (text_field_printed (codes "path") path refl)
+
 counts_printed : (counts : DocumentCounts) → counts_fit counts ≡ true → are_printed (count_fields counts) ≡ true
 unfolding count_fields counts_fit
 counts_printed c h =
@@ -334,6 +350,12 @@ fields_printed (BindFailed path cause) h =
     printed_append (text_field (codes "path") path.now) (bind_fields cause) (text_field_printed (codes "path") path.now refl) (bind_fields_printed cause)
 fields_printed ConfigurationUnread h = refl
 fields_printed (ConfigurationRefused fault) h = fault_printed fault.now
+fields_printed (LaterConfigurationRefused fault) h = fault_printed fault.now
+fields_printed (ConfigurationTaken changes) h = changes_printed changes h
+fields_printed (RestartWanted member) h = text_field_printed (codes "member") (member_name member) refl
+fields_printed (SocketAdded socket path) h = socket_printed socket path.now h
+fields_printed (SocketRemoved socket path) h = socket_printed socket path.now h
+fields_printed (SocketOpenToAll socket path) h = socket_printed socket path.now h
 fields_printed (FirstDocumentRefused fault) h = fault_printed fault.now
 fields_printed NoFirstDocument h = refl
 fields_printed NoThread h = refl

@@ -14,8 +14,10 @@ use Rattle.event_log.specs.declared.causes.UnfitCause.{UnfitCause}
 use Rattle.event_log.specs.declared.causes.UnfitCause.TheVariants as unfit
 use Rattle.event_log.specs.declared.causes.ErrorCode.{ErrorCode}
 use Rattle.event_log.specs.declared.causes.ErrorCode.TheVariants as error
+use Rattle.event_log.specs.declared.restart_member.RestartMember.{RestartMember}
+use Rattle.event_log.specs.declared.restart_member.RestartMember.TheVariants as member
 use Rattle.event_log.specs.declared.event.Event.{Event}
-use Rattle.event_log.specs.declared.event.Event.TheVariants.{BindFailed, ConfigurationUnread, ConfigurationRefused, FirstDocumentRefused, NoFirstDocument, NoThread, ListenFailed, HostFailed, OutputFailed, OutOfMemory, DocumentRefused, DocumentTaken, AuthorityFailed, AuthorityBack, SigningFailed, TokenFailed, IdentityEnded, IdentityNotYetValid, CallerWaits, ConnectionBroken, LinkLate, ConnectionFailed, AttestationFailed, ConnectionsOfUidFull, SocketBoundAnew, Signed, SignerBack, Serving, Stopping, Connected, Closed, Call}
+use Rattle.event_log.specs.declared.event.Event.TheVariants.{BindFailed, ConfigurationUnread, ConfigurationRefused, LaterConfigurationRefused, ConfigurationTaken, RestartWanted, SocketAdded, SocketRemoved, SocketOpenToAll, FirstDocumentRefused, NoFirstDocument, NoThread, ListenFailed, HostFailed, OutputFailed, OutOfMemory, DocumentRefused, DocumentTaken, AuthorityFailed, AuthorityBack, SigningFailed, TokenFailed, IdentityEnded, IdentityNotYetValid, CallerWaits, ConnectionBroken, LinkLate, ConnectionFailed, AttestationFailed, ConnectionsOfUidFull, SocketBoundAnew, Signed, SignerBack, Serving, Stopping, Connected, Closed, Call}
 
 unfoldable pub level_name : Level → List ℕ
 level_name Error = codes "error"
@@ -34,6 +36,12 @@ unfoldable pub level_of : Event → Level
 level_of (BindFailed _ _) = Error
 level_of ConfigurationUnread = Error
 level_of (ConfigurationRefused _) = Error
+level_of (LaterConfigurationRefused _) = Warn
+level_of (ConfigurationTaken _) = Info
+level_of (RestartWanted _) = Warn
+level_of (SocketAdded _ _) = Info
+level_of (SocketRemoved _ _) = Info
+level_of (SocketOpenToAll _ _) = Warn
 level_of (FirstDocumentRefused _) = Error
 level_of NoFirstDocument = Error
 level_of NoThread = Error
@@ -68,6 +76,12 @@ unfoldable pub event_name : Event → List ℕ
 event_name (BindFailed _ _) = codes "bind_failed"
 event_name ConfigurationUnread = codes "configuration_unread"
 event_name (ConfigurationRefused _) = codes "configuration_refused"
+event_name (LaterConfigurationRefused _) = codes "configuration_refused"
+event_name (ConfigurationTaken _) = codes "configuration_taken"
+event_name (RestartWanted _) = codes "restart_wanted"
+event_name (SocketAdded _ _) = codes "socket_added"
+event_name (SocketRemoved _ _) = codes "socket_removed"
+event_name (SocketOpenToAll _ _) = codes "socket_open_to_all"
 event_name (FirstDocumentRefused _) = codes "first_document_refused"
 event_name NoFirstDocument = codes "no_first_document"
 event_name NoThread = codes "no_thread"
@@ -136,6 +150,16 @@ unfit_name unfit.OtherId = codes "other_id"
 unfit_name unfit.OtherTimes = codes "other_times"
 unfit_name unfit.EmptyToken = codes "empty_token"
 unfit_name unfit.TokenByte = codes "token_byte"
+
+-- as the configuration has them
+unfoldable pub member_name : RestartMember → List ℕ
+member_name member.Signer = codes "signer"
+member_name member.Signers = codes "signers"
+member_name member.Metrics = codes "metrics"
+member_name member.Threads = codes "threads"
+member_name member.StallSeconds = codes "stall_seconds"
+member_name member.OpeningSeconds = codes "opening_seconds"
+member_name member.MemoryMib = codes "memory_mib"
 
 -- RFC 9113, section 7
 unfoldable pub error_name : ErrorCode → List ℕ

@@ -4,15 +4,16 @@ use Rattle.fault_lines.specs.Explanations.{explained_text}
 use Rattle.event_log.specs.Texts.{escaped, word_field, number_field, text_field}
 use Rattle.call_counts.specs.Names.{method_name, status_name}
 use Rattle.figures.specs.Labels.{link_name, late_name}
-use Rattle.event_log.specs.Events.{level_of, level_name, event_name, bind_name, reason_name, pull_name, sign_name, unfit_name, error_name}
+use Rattle.event_log.specs.Events.{level_of, level_name, event_name, bind_name, reason_name, pull_name, sign_name, unfit_name, error_name, member_name}
 use Rattle.event_log.specs.declared.causes.BindCause.{BindCause}
 use Rattle.event_log.specs.declared.causes.BindCause.TheVariants.{Taken, NotASocket, StaleOfOtherUser, Refused}
 use Rattle.event_log.specs.declared.causes.SignCause.{SignCause}
 use Rattle.event_log.specs.declared.causes.SignCause.TheVariants.{NotReached, TimedOut, NotAnAnswer, NotInDocument, Unfit}
 use Rattle.event_log.specs.declared.event.DocumentCounts.{DocumentCounts}
+use Rattle.event_log.specs.declared.event.SocketChanges.{SocketChanges}
 use Rattle.event_log.specs.declared.event.EndedCall.{EndedCall}
 use Rattle.event_log.specs.declared.event.Event.{Event}
-use Rattle.event_log.specs.declared.event.Event.TheVariants.{BindFailed, ConfigurationUnread, ConfigurationRefused, FirstDocumentRefused, NoFirstDocument, NoThread, ListenFailed, HostFailed, OutputFailed, OutOfMemory, DocumentRefused, DocumentTaken, AuthorityFailed, AuthorityBack, SigningFailed, TokenFailed, IdentityEnded, IdentityNotYetValid, CallerWaits, ConnectionBroken, LinkLate, ConnectionFailed, AttestationFailed, ConnectionsOfUidFull, SocketBoundAnew, Signed, SignerBack, Serving, Stopping, Connected, Closed, Call}
+use Rattle.event_log.specs.declared.event.Event.TheVariants.{BindFailed, ConfigurationUnread, ConfigurationRefused, LaterConfigurationRefused, ConfigurationTaken, RestartWanted, SocketAdded, SocketRemoved, SocketOpenToAll, FirstDocumentRefused, NoFirstDocument, NoThread, ListenFailed, HostFailed, OutputFailed, OutOfMemory, DocumentRefused, DocumentTaken, AuthorityFailed, AuthorityBack, SigningFailed, TokenFailed, IdentityEnded, IdentityNotYetValid, CallerWaits, ConnectionBroken, LinkLate, ConnectionFailed, AttestationFailed, ConnectionsOfUidFull, SocketBoundAnew, Signed, SignerBack, Serving, Stopping, Connected, Closed, Call}
 
 -- why a path could not be bound; with the system's reason where it refused
 unfoldable pub bind_fields : BindCause → List ℕ
@@ -54,11 +55,21 @@ call_fields c =
 unfoldable pub fault_fields : List ℕ → List ℕ
 fault_fields fault = text_field (codes "fault") fault ++ text_field (codes "text") (explained_text fault)
 
+-- how many sockets a configuration adds and removes
+unfoldable pub change_fields : SocketChanges → List ℕ
+change_fields c = number_field (codes "added") c.added ++ number_field (codes "removed") c.removed
+
 -- what an event says beside its name
 unfoldable pub fields : Event → List ℕ
 fields (BindFailed path cause) = text_field (codes "path") path.now ++ bind_fields cause
 fields ConfigurationUnread = []
 fields (ConfigurationRefused fault) = fault_fields fault.now
+fields (LaterConfigurationRefused fault) = fault_fields fault.now
+fields (ConfigurationTaken changes) = change_fields changes
+fields (RestartWanted member) = text_field (codes "member") (member_name member)
+fields (SocketAdded socket path) = number_field (codes "socket") socket ++ text_field (codes "path") path.now
+fields (SocketRemoved socket path) = number_field (codes "socket") socket ++ text_field (codes "path") path.now
+fields (SocketOpenToAll socket path) = number_field (codes "socket") socket ++ text_field (codes "path") path.now
 fields (FirstDocumentRefused fault) = fault_fields fault.now
 fields NoFirstDocument = []
 fields NoThread = []
@@ -106,6 +117,9 @@ line time event n = said time event n ++ codes "\n"
 unfoldable pub counts_fit : DocumentCounts → Bool
 counts_fit c = (nat_lt c.entries (2 ^ 64) && nat_lt c.bundles (2 ^ 64)) && (nat_lt c.changed (2 ^ 64) && nat_lt c.removed (2 ^ 64))
 
+unfoldable pub changes_fit : SocketChanges → Bool
+changes_fit c = nat_lt c.added (2 ^ 64) && nat_lt c.removed (2 ^ 64)
+
 unfoldable pub uid_fits : Option ℕ → Bool
 uid_fits (Some uid) = nat_lt uid (2 ^ 64)
 uid_fits None = true
@@ -116,6 +130,10 @@ call_fits c = nat_lt c.socket (2 ^ 64) && uid_fits c.uid
 
 -- whether each number of an event has 64 bits
 unfoldable pub fits : Event → Bool
+fits (ConfigurationTaken changes) = changes_fit changes
+fits (SocketAdded socket _) = nat_lt socket (2 ^ 64)
+fits (SocketRemoved socket _) = nat_lt socket (2 ^ 64)
+fits (SocketOpenToAll socket _) = nat_lt socket (2 ^ 64)
 fits (ListenFailed socket) = nat_lt socket (2 ^ 64)
 fits (DocumentTaken publication counts) = nat_lt publication (2 ^ 64) && counts_fit counts
 fits (IdentityNotYetValid _ not_before) = nat_lt not_before (2 ^ 64)

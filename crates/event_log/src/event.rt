@@ -3,6 +3,7 @@
 use crate::causes::{BindCause, ErrorCode, PullCause, SignCause};
 use crate::fault_line::FaultLine;
 use crate::path_text::PathText;
+use crate::restart_member::RestartMember;
 use crate::time_text::TimeText;
 use call_counts::{CallMethod, CallStatus};
 use figures::{LateCause, LinkCause};
@@ -19,10 +20,17 @@ pub struct DocumentCounts {
     pub removed: u64,
 }
 
+/// In which sockets a configuration differs from the one before. One that is there as other than before is both removed and added.
+#[derive(Clone, Copy, Debug, Drop, PartialEq, Eq)]
+pub struct SocketChanges {
+    pub added: u32,
+    pub removed: u32,
+}
+
 /// A call that ended.
 #[derive(Clone, Copy, Debug, Drop, PartialEq, Eq)]
 pub struct EndedCall {
-    /// The number of its socket in the configuration, from 0.
+    /// The number of its socket, from 0.
     pub socket: u32,
     /// The user of its caller, where the kernel names it.
     pub uid: Option<u32>,
@@ -30,16 +38,28 @@ pub struct EndedCall {
     pub status: CallStatus,
 }
 
-/// An event: ids, causes, numbers and paths. A socket is named by its number in the configuration, from 0; of an ask the
-/// line has the entry's id.
+/// An event: ids, causes, numbers and paths. A socket is named by its number, from 0: in the order of the first configuration, and
+/// then as sockets are added. Of an ask the line has the entry's id.
 #[derive(Drop)]
 pub enum Event<'a> {
     /// Nobody listens at the path of a socket of the configuration.
     BindFailed(&'a PathText, BindCause),
     /// The configuration could not be read.
     ConfigurationUnread,
-    /// The configuration has this fault.
+    /// The configuration has this fault, and the agent does not start.
     ConfigurationRefused(&'a FaultLine),
+    /// A later configuration has this fault, and nothing of it is taken.
+    LaterConfigurationRefused(&'a FaultLine),
+    /// A later configuration was taken.
+    ConfigurationTaken(SocketChanges),
+    /// A later configuration has another value of this member, which takes effect at the next start alone.
+    RestartWanted(RestartMember),
+    /// The socket of this number is served from now on, at this path.
+    SocketAdded(u32, &'a PathText),
+    /// The socket of this number takes no more callers. It was at this path.
+    SocketRemoved(u32, &'a PathText),
+    /// Every user may open the socket of this number at this path.
+    SocketOpenToAll(u32, &'a PathText),
     /// The first document has this fault.
     FirstDocumentRefused(&'a FaultLine),
     /// No first document came.

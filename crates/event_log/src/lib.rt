@@ -13,15 +13,17 @@ mod line;
 mod names;
 mod path_text;
 mod repeats;
+mod restart_member;
 pub mod texts;
 mod time_text;
 
 pub use causes::{BindCause, ErrorCode, PullCause, Reason, SignCause, UnfitCause};
-pub use event::{DocumentCounts, EndedCall, Event};
+pub use event::{DocumentCounts, EndedCall, Event, SocketChanges};
 pub use fault_line::FaultLine;
 pub use laws::{lines_are_one, texts_are_printed};
 pub use level::Level;
 pub use line::put_line;
 pub use path_text::PathText;
 pub use repeats::{MINUTE, Slot};
+pub use restart_member::RestartMember;
 pub use time_text::TimeText;

@@ -3,11 +3,11 @@
 ghost use Rattle.std.specs.Prelude.{◌≡◌, ◌++◌, OnOk, codes};
 ghost use Rattle.event_log.specs.Texts.{word_field, number_field, text_field};
 ghost use Rattle.figures.specs.Labels.{link_name, late_name};
-ghost use Rattle.event_log.specs.Events.{error_name};
-ghost use Rattle.event_log.specs.Lines.{bind_fields, sign_fields, fault_fields, count_fields, taken_fields, uid_field, call_fields, fields, repeated, said, line};
+ghost use Rattle.event_log.specs.Events.{error_name, pull_name};
+ghost use Rattle.event_log.specs.Lines.{bind_fields, sign_fields, fault_fields, change_fields, count_fields, taken_fields, uid_field, call_fields, fields, repeated, said, line};
 
-use crate::causes::{BindCause, ErrorCode, SignCause};
-use crate::event::{DocumentCounts, EndedCall, Event};
+use crate::causes::{BindCause, ErrorCode, PullCause, SignCause};
+use crate::event::{DocumentCounts, EndedCall, Event, SocketChanges};
 use crate::fault_line::FaultLine;
 use crate::path_text::PathText;
 use crate::texts::{put_escaped, put_number, put_text, put_word};
@@ -46,6 +46,33 @@ fn put_fault(alloc: Global, out: &mut Octets, fault: &FaultLine) -> Result<(), M
     put_text(out, b"fault", fault.as_slice())?;
     let text = explain_text(alloc, fault.as_slice())?;
     put_text(out, b"text", text.as_slice())
+}
+
+/// Writes how many sockets a configuration adds and removes.
+#[tactic(auto, unfolding(crate::specs::Lines::change_fields))]
+fn put_changes(alloc: Global, out: &mut Octets, changes: SocketChanges) -> Result<(), Memory>
+    ensures { OnOk result (out.new ≡ out.old ++ change_fields changes) }
+{
+    put_number(alloc, out, b"added", u64::from(changes.added))?;
+    put_number(alloc, out, b"removed", u64::from(changes.removed))
+}
+
+/// Writes the number of a socket, and its path.
+fn put_socket(alloc: Global, out: &mut Octets, socket: u32, path: &PathText) -> Result<(), Memory>
+    ensures { OnOk result (out.new ≡ out.old
+        ++ number_field (codes "socket") socket ++ text_field (codes "path") path.now) }
+{
+    put_number(alloc, out, b"socket", u64::from(socket))?;
+    put_text(out, b"path", path.as_slice())
+}
+
+/// Writes from where no document came, and since when.
+fn put_unpulled(out: &mut Octets, cause: PullCause, since: &TimeText) -> Result<(), Memory>
+    ensures { OnOk result (out.new ≡ out.old
+        ++ word_field (codes "cause") (pull_name cause) ++ text_field (codes "since") since.now) }
+{
+    put_word(out, b"cause", cause.name())?;
+    put_text(out, b"since", since.as_slice())
 }
 
 /// Writes why nothing was signed.
@@ -199,24 +226,24 @@ fn put_fields(alloc: Global, out: &mut Octets, event: &Event<'_>) -> Result<(), 
     match event {
         Event::BindFailed(path, cause) => put_unbound(out, path, *cause),
         Event::ConfigurationRefused(fault)
+        | Event::LaterConfigurationRefused(fault)
         | Event::FirstDocumentRefused(fault)
         | Event::DocumentRefused(fault) => put_fault(alloc, out, fault),
+        Event::ConfigurationTaken(changes) => put_changes(alloc, out, *changes),
+        Event::RestartWanted(member) => put_text(out, b"member", member.name()),
+        Event::SocketAdded(socket, path) => put_socket(alloc, out, *socket, path),
+        Event::SocketRemoved(socket, path) => put_socket(alloc, out, *socket, path),
+        Event::SocketOpenToAll(socket, path) => put_socket(alloc, out, *socket, path),
         Event::DocumentTaken(publication, counts) => put_taken(alloc, out, *publication, *counts),
         Event::ListenFailed(socket)
         | Event::AttestationFailed(socket)
         | Event::Connected(socket)
         | Event::Closed(socket) => put_number(alloc, out, b"socket", u64::from(*socket)),
-        Event::AuthorityFailed(cause, since) => {
-            put_word(out, b"cause", cause.name())?;
-            put_text(out, b"since", since.as_slice())
-        }
-        Event::SigningFailed(ask, cause) | Event::TokenFailed(ask, cause) => {
-            put_unsigned(out, ask, *cause)
-        }
+        Event::AuthorityFailed(cause, since) => put_unpulled(out, *cause, since),
+        Event::SigningFailed(ask, cause) => put_unsigned(out, ask, *cause),
+        Event::TokenFailed(ask, cause) => put_unsigned(out, ask, *cause),
         Event::IdentityEnded(ask) => put_text(out, b"entry", ask.entry_id.as_slice()),
-        Event::IdentityNotYetValid(ask, not_before) => {
-            put_moment(alloc, out, ask, b"not_before", *not_before)
-        }
+        Event::IdentityNotYetValid(ask, at) => put_moment(alloc, out, ask, b"not_before", *at),
         Event::CallerWaits(socket, ask) => put_waiting(alloc, out, *socket, ask),
         Event::ConnectionBroken(socket, code) => put_broken(alloc, out, *socket, *code),
         Event::LinkLate(socket, cause) => put_late(alloc, out, *socket, *cause),

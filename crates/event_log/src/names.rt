@@ -1,11 +1,12 @@
 //! The names of events and causes in a line.
 
 ghost use Rattle.std.specs.Prelude.{◌≡◌};
-ghost use Rattle.event_log.specs.Events.{level_of, event_name, bind_name, reason_name, pull_name, sign_name, unfit_name, error_name};
+ghost use Rattle.event_log.specs.Events.{level_of, event_name, bind_name, reason_name, pull_name, sign_name, unfit_name, error_name, member_name};
 
 use crate::causes::{BindCause, ErrorCode, PullCause, Reason, SignCause, UnfitCause};
 use crate::event::Event;
 use crate::level::Level;
+use crate::restart_member::RestartMember;
 
 impl BindCause {
     #[tactic(auto, unfolding(crate::specs::Events::bind_name))]
@@ -111,6 +112,23 @@ impl ErrorCode {
     }
 }
 
+impl RestartMember {
+    #[tactic(auto, unfolding(crate::specs::Events::member_name))]
+    pub(crate) fn name(self) -> &'static [u8]
+        ensures { result.now ≡ member_name self }
+    {
+        match self {
+            RestartMember::Signer => b"signer",
+            RestartMember::Signers => b"signers",
+            RestartMember::Metrics => b"metrics",
+            RestartMember::Threads => b"threads",
+            RestartMember::StallSeconds => b"stall_seconds",
+            RestartMember::OpeningSeconds => b"opening_seconds",
+            RestartMember::MemoryMib => b"memory_mib",
+        }
+    }
+}
+
 impl<'a> Event<'a> {
     /// How grave it is.
     #[tactic(auto, unfolding(crate::specs::Events::level_of))]
@@ -128,7 +146,9 @@ impl<'a> Event<'a> {
             | Event::HostFailed
             | Event::OutputFailed
             | Event::OutOfMemory => Level::Error,
-            Event::DocumentRefused(_)
+            Event::LaterConfigurationRefused(_)
+            | Event::RestartWanted(_)
+            | Event::DocumentRefused(_)
             | Event::AuthorityFailed(_, _)
             | Event::SigningFailed(_, _)
             | Event::TokenFailed(_, _)
@@ -139,8 +159,12 @@ impl<'a> Event<'a> {
             | Event::LinkLate(_, _)
             | Event::AttestationFailed(_)
             | Event::ConnectionsOfUidFull(_, _)
+            | Event::SocketOpenToAll(_, _)
             | Event::SocketBoundAnew(_) => Level::Warn,
-            Event::DocumentTaken(_, _)
+            Event::ConfigurationTaken(_)
+            | Event::SocketAdded(_, _)
+            | Event::SocketRemoved(_, _)
+            | Event::DocumentTaken(_, _)
             | Event::AuthorityBack
             | Event::Signed(_, _)
             | Event::SignerBack
@@ -162,6 +186,12 @@ impl<'a> Event<'a> {
             Event::BindFailed(_, _) => b"bind_failed",
             Event::ConfigurationUnread => b"configuration_unread",
             Event::ConfigurationRefused(_) => b"configuration_refused",
+            Event::LaterConfigurationRefused(_) => b"configuration_refused",
+            Event::ConfigurationTaken(_) => b"configuration_taken",
+            Event::RestartWanted(_) => b"restart_wanted",
+            Event::SocketAdded(_, _) => b"socket_added",
+            Event::SocketRemoved(_, _) => b"socket_removed",
+            Event::SocketOpenToAll(_, _) => b"socket_open_to_all",
             Event::FirstDocumentRefused(_) => b"first_document_refused",
             Event::NoFirstDocument => b"no_first_document",
             Event::NoThread => b"no_thread",
