@@ -201,6 +201,63 @@ fn sockets_that_are_bound_anew_are_named_by_their_path(rt: HostRuntime) {
 }
 
 #[test]
+fn later_configurations_are_told(rt: HostRuntime) {
+    let changes = SocketChanges {
+        added: 2,
+        removed: 1,
+    };
+    ends(
+        &rt,
+        &Event::ConfigurationTaken(changes),
+        b"level=info event=configuration_taken added=2 removed=1\n",
+    );
+    let read = FaultLine::read(rt.alloc(), b"fault config 2");
+    let fault = read.expect(&rt, "memory").expect(&rt, "a fault line");
+    let refused = Event::LaterConfigurationRefused(&fault);
+    ends(
+        &rt,
+        &refused,
+        b"level=warn event=configuration_refused fault=\"fault config 2\" text=\"version: is not 1\"\n",
+    );
+    let first = Event::ConfigurationRefused(&fault);
+    ends(
+        &rt,
+        &first,
+        b"level=error event=configuration_refused fault=\"fault config 2\" text=\"version: is not 1\"\n",
+    );
+    for (member, line) in [
+        (
+            RestartMember::Threads,
+            b"level=warn event=restart_wanted member=\"threads\"\n".as_slice(),
+        ),
+        (RestartMember::MemoryMib, b" member=\"memory_mib\"\n"),
+    ] {
+        ends(&rt, &Event::RestartWanted(member), line);
+    }
+}
+
+#[test]
+fn sockets_that_come_and_go_are_named_by_number_and_path(rt: HostRuntime) {
+    let name = octets(&rt, b"/run/a.sock");
+    let path = PathText::of_configuration(rt.alloc(), &name).expect(&rt, "memory");
+    ends(
+        &rt,
+        &Event::SocketAdded(7, &path),
+        b"level=info event=socket_added socket=7 path=\"/run/a.sock\"\n",
+    );
+    ends(
+        &rt,
+        &Event::SocketRemoved(2, &path),
+        b"level=info event=socket_removed socket=2 path=\"/run/a.sock\"\n",
+    );
+    ends(
+        &rt,
+        &Event::SocketOpenToAll(3, &path),
+        b"level=warn event=socket_open_to_all socket=3 path=\"/run/a.sock\"\n",
+    );
+}
+
+#[test]
 fn faults_have_their_sentence(rt: HostRuntime) {
     let read = FaultLine::read(rt.alloc(), b"fault document 5 2 0 2 0 4 9");
     let fault = read.expect(&rt, "memory").expect(&rt, "a fault line");

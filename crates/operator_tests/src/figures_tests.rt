@@ -26,8 +26,10 @@ agentd_entries 7
 agentd_bundles 2
 # HELP agentd_identities Entries of the document in use, by the state of their identity.
 # TYPE agentd_identities gauge
-agentd_identities{state=\"kept\"} 5
-agentd_identities{state=\"missing\"} 2
+agentd_identities{state=\"kept\"} 3
+agentd_identities{state=\"due\"} 2
+agentd_identities{state=\"in_flight\"} 1
+agentd_identities{state=\"missing\"} 4
 # HELP agentd_next_end_seconds Seconds until the next identity ends.
 # TYPE agentd_next_end_seconds gauge
 agentd_next_end_seconds 300
@@ -94,6 +96,12 @@ fn octets(rt: &(impl AllocGlobal + Abort), bytes: &[u8]) -> Octets {
     Octets::from_slice(rt.alloc(), bytes).expect(rt, "memory")
 }
 
+/// Adds a socket at this path.
+fn add(rt: &(impl AllocGlobal + Abort), counters: &Counters, path: &[u8]) -> u32 {
+    let path = octets(rt, path);
+    counters.add_socket(rt.alloc(), &path).expect(rt, "memory")
+}
+
 /// Counts some connections that failed.
 fn count_failures(counters: &Counters) {
     for cause in [
@@ -151,11 +159,9 @@ fn count_calls(counters: &Counters) {
 #[test]
 fn page_has_what_was_counted(rt: HostRuntime) {
     let alloc = rt.alloc();
-    let mut counters = Counters::start(alloc);
-    let socket = octets(&rt, b"/run/a\"b");
-    counters.add_socket(alloc, &socket).expect(&rt, "memory");
-    let other = octets(&rt, b"/run/c");
-    counters.add_socket(alloc, &other).expect(&rt, "memory");
+    let counters = Counters::start(alloc);
+    assert_eq!(rt; add(&rt, &counters, b"/run/a\"b"), 0);
+    assert_eq!(rt; add(&rt, &counters, b"/run/c"), 1);
     counters.count_document(DocumentResult::Failed);
     counters.count_document(DocumentResult::Taken);
     counters.note_came(1_000);
@@ -173,8 +179,10 @@ fn page_has_what_was_counted(rt: HostRuntime) {
     counters.count_bytes(Direction::Received, 70);
     counters.count_bytes(Direction::Sent, 900);
     let identities = Identities {
-        kept: 5,
-        missing: 2,
+        kept: 3,
+        due: 2,
+        in_flight: 1,
+        missing: 4,
         next_end: Some(300),
     };
     let figures = counters.figures(alloc, 5_999, 1_795_929_000, 5, identities);
@@ -227,6 +235,8 @@ fn figures_begin_with_nothing(rt: HostRuntime) {
     counters.count_calls(0, &CallCounts::zero());
     let identities = Identities {
         kept: 0,
+        due: 0,
+        in_flight: 0,
         missing: 0,
         next_end: None,
     };
@@ -245,11 +255,13 @@ fn figures_begin_with_nothing(rt: HostRuntime) {
 #[test]
 fn sockets_without_calls_have_a_line_of_streams(rt: HostRuntime) {
     let alloc = rt.alloc();
-    let mut counters = Counters::start(alloc);
+    let counters = Counters::start(alloc);
     let socket = octets(&rt, b"/run/c");
     counters.add_socket(alloc, &socket).expect(&rt, "memory");
     let identities = Identities {
         kept: 0,
+        due: 0,
+        in_flight: 0,
         missing: 0,
         next_end: None,
     };
@@ -267,4 +279,94 @@ fn sockets_without_calls_have_a_line_of_streams(rt: HostRuntime) {
         )
     );
     drop(figures);
+}
+
+/// The lines of the page of these counters that begin so.
+fn lines_of(rt: &(impl AllocGlobal + Abort), counters: &Counters, begin: &str) -> String {
+    let identities = Identities {
+        kept: 0,
+        due: 0,
+        in_flight: 0,
+        missing: 0,
+        next_end: None,
+    };
+    let figures = counters.figures(rt.alloc(), 0, 0, 0, identities);
+    let figures = figures.expect(rt, "memory");
+    let text = metrics_text(rt.alloc(), &figures).expect(rt, "memory");
+    drop(figures);
+    let page = str::from_utf8(text.as_slice()).expect(rt, "text");
+    let mut found = String::new(rt.alloc());
+    for line in page.lines().filter(|line| line.starts_with(begin)) {
+        found.push_str(line).expect(rt, "memory");
+        found.push_str(";").expect(rt, "memory");
+    }
+    found
+}
+
+/// A socket that is given up stands on the page until its last connection is over, and its number is not used again.
+#[test]
+fn sockets_come_and_go(rt: HostRuntime) {
+    let counters = Counters::start(rt.alloc());
+    for path in [b"/a", b"/b", b"/c"] {
+        add(&rt, &counters, path);
+    }
+    counters.count_opened(1);
+    for socket in [0, 1, 9] {
+        counters.remove_socket(socket);
+    }
+    assert_eq!(rt;
+        lines_of(&rt, &counters, "agentd_connections{").as_str(),
+        "agentd_connections{socket=\"/b\"} 1;agentd_connections{socket=\"/c\"} 0;"
+    );
+    counters.count_closed(1);
+    counters.count_opened(1);
+    counters.count_opened(0);
+    assert_eq!(rt; add(&rt, &counters, b"/a"), 3);
+    counters.count_opened(3);
+    assert_eq!(rt;
+        lines_of(&rt, &counters, "agentd_connections{").as_str(),
+        "agentd_connections{socket=\"/c\"} 0;agentd_connections{socket=\"/a\"} 1;"
+    );
+}
+
+/// Sockets of one path, of which the first two are given up, have one line.
+#[test]
+fn sockets_of_one_path_are_summed(rt: HostRuntime) {
+    let counters = Counters::start(rt.alloc());
+    for path in [b"/a", b"/b", b"/a", b"/a"] {
+        add(&rt, &counters, path);
+    }
+    let check = CallMethod::Check;
+    for socket in [0, 2, 3] {
+        counters.count_opened(socket);
+        counters.count_opened(socket);
+        counters.count_calls(socket, &calls(check, 2, 1, CallStatus::Ok, 1));
+    }
+    counters.count_closed(0);
+    counters.remove_socket(0);
+    counters.remove_socket(2);
+    for (begin, expected) in [
+        (
+            "agentd_connections{",
+            "agentd_connections{socket=\"/a\"} 5;agentd_connections{socket=\"/b\"} 0;",
+        ),
+        (
+            "agentd_connections_total{",
+            "agentd_connections_total{socket=\"/a\"} 6;agentd_connections_total{socket=\"/b\"} 0;",
+        ),
+        (
+            "agentd_streams{",
+            "agentd_streams{socket=\"/a\"} 3;agentd_streams{socket=\"/b\"} 0;",
+        ),
+        (
+            "agentd_calls_total{",
+            "agentd_calls_total{socket=\"/a\",method=\"Check\",status=\"OK\"} 3;",
+        ),
+        (
+            "agentd_messages_total{",
+            "agentd_messages_total{socket=\"/a\",method=\"Check\"} 3;",
+        ),
+    ] {
+        assert_eq!(rt; lines_of(&rt, &counters, begin).as_str(), expected);
+    }
 }

@@ -2,7 +2,7 @@
 
 use call_counts::{CallCounts, CallMethod, CallStatus};
 use event_log::{FaultLine, Level};
-use figures::{Counters, Shows, SigningKind, SigningResult};
+use figures::{Shows, SigningKind, SigningResult};
 use log_output::{Log, LogOutput};
 use spiffe_id::{SpiffeId, TrustDomain};
 use std::alloc::{AllocGlobal, Global};
@@ -12,7 +12,7 @@ use std::os::unix::net::UnixStream;
 use std::process::Abort;
 use std::sync::Arc;
 use wl_document::DocFault;
-use wl_entry::{Ask, Entry};
+use wl_entry::{Ask, Entry, Signed};
 use wl_octets::{Memory, Octets, Row};
 use wl_outlook::*;
 use wl_selector::{Selector, Selectors};
@@ -56,7 +56,7 @@ fn watched(
     let output = LogOutput::over(ours.as_raw_fd(), false);
     let log = Log::over(own.clone().expect(rt, "runtime"), output, Level::Info, None);
     let log = Arc::new(alloc, log).expect(rt, "log");
-    let outlook = Outlook::start(alloc, log, Counters::start(alloc), Callers::start(alloc));
+    let outlook = Outlook::start(alloc, log);
     (Arc::new(alloc, outlook).expect(rt, "outlook"), ours, theirs)
 }
 
@@ -214,16 +214,43 @@ fn spiffe_id(rt: &(impl AllocGlobal + Abort)) -> SpiffeId {
     SpiffeId::parse(rt.alloc(), b"spiffe://a.b/one").expect(rt, "an id")
 }
 
-/// An identity of the entry with this id was signed, and ends then.
-fn sign(rt: &(impl AllocGlobal + Abort), standing: &mut Standing, id: &[u8], end: u64) {
-    let ask = Ask {
+/// The ask of the entry with this id.
+fn ask(rt: &(impl AllocGlobal + Abort), id: &[u8]) -> Ask {
+    Ask {
         entry_id: octets(rt, id),
         spiffe_id: spiffe_id(rt),
         dns_names: Row::empty(rt.alloc()),
         ttl: 60,
+    }
+}
+
+/// An identity of the entry with this id was signed, which is valid from the second 1,000 on, and ends then.
+fn sign(rt: &(impl AllocGlobal + Abort), standing: &mut Standing, id: &[u8], end: u64) {
+    let ask = ask(rt, id);
+    let signed = Signed {
+        chain: octets(rt, b"chain"),
+        key: octets(rt, b"key"),
+        not_before: 1_000,
+        not_after: end,
     };
-    standing.note_signed(&ask, end);
+    standing.note_signed(&ask, &signed);
+    drop(signed);
     drop(ask);
+}
+
+/// A signer is asked for the entry with this id.
+fn begin(rt: &(impl AllocGlobal + Abort), standing: &Standing, id: &[u8]) -> UnderWay {
+    let ask = ask(rt, id);
+    let asked = standing.begin_ask(&ask);
+    drop(ask);
+    asked
+}
+
+/// Asserts how many entries are kept, due, in flight and missing then.
+fn are(rt: &(impl AllocGlobal + Abort), standing: &Standing, now: u64, expected: [u64; 4]) {
+    let all = standing.identities(now);
+    let found = [all.kept, all.due, all.in_flight, all.missing];
+    assert_eq!(rt; found, expected, "at {now}");
 }
 
 /// An entry with this id, whose identity lasts so long.
@@ -242,8 +269,20 @@ fn entry(rt: &(impl AllocGlobal + Abort), id: &[u8], ttl: u32) -> Entry {
 
 /// A document comes then with the entries `one` and `two`, of which the second one's identity lasts so long.
 fn take(rt: &(impl AllocGlobal + Abort), standing: &mut Standing, ttl: u32, now: u64) {
+    take_renewed(rt, standing, ttl, 0, now);
+}
+
+/// The same, of a document with this `renew_before`.
+fn take_renewed(
+    rt: &(impl AllocGlobal + Abort),
+    standing: &mut Standing,
+    ttl: u32,
+    renew_before: u64,
+    now: u64,
+) {
     let entries = [entry(rt, b"one", 60), entry(rt, b"two", ttl)];
-    standing.take_document(&entries, now).expect(rt, "memory");
+    let taken = standing.take_document(&entries, renew_before, now);
+    taken.expect(rt, "memory");
     drop(entries);
 }
 
@@ -269,6 +308,54 @@ fn entries_lack_identities_after_a_minute(rt: HostRuntime) {
 }
 
 #[test]
+fn identities_are_kept_and_then_due(rt: HostRuntime) {
+    let mut standing = Standing::start(rt.alloc());
+    take(&rt, &mut standing, 60, 1_000);
+    are(&rt, &standing, 1_000, [0, 0, 0, 2]);
+    sign(&rt, &mut standing, b"one", 1_100);
+    are(&rt, &standing, 1_049, [1, 0, 0, 1]);
+    are(&rt, &standing, 1_050, [0, 1, 0, 1]);
+    are(&rt, &standing, 1_100, [0, 0, 0, 2]);
+    // it was signed while a clock was ahead
+    are(&rt, &standing, 999, [0, 1, 0, 1]);
+    take_renewed(&rt, &mut standing, 60, 1_000, 1_010);
+    are(&rt, &standing, 1_010, [1, 0, 0, 1]);
+    take_renewed(&rt, &mut standing, 60, 1_001, 1_010);
+    are(&rt, &standing, 1_010, [0, 1, 0, 1]);
+}
+
+/// Two asks of one entry count once, until the last has ended.
+#[test]
+fn entries_are_in_flight_while_signers_are_asked(rt: HostRuntime) {
+    let mut standing = Standing::start(rt.alloc());
+    take(&rt, &mut standing, 60, 1_000);
+    let (first, second) = (begin(&rt, &standing, b"one"), begin(&rt, &standing, b"one"));
+    let nobodys = begin(&rt, &standing, b"three");
+    are(&rt, &standing, 1_010, [0, 0, 1, 1]);
+    first.end();
+    nobodys.end();
+    sign(&rt, &mut standing, b"one", 1_100);
+    are(&rt, &standing, 1_010, [0, 0, 1, 1]);
+    second.end();
+    are(&rt, &standing, 1_010, [1, 0, 0, 1]);
+}
+
+/// A document that replaces an entry leaves its ask to nobody; one that doesn't change it leaves it as it is.
+#[test]
+fn replaced_entries_are_not_in_flight(rt: HostRuntime) {
+    let mut standing = Standing::start(rt.alloc());
+    take(&rt, &mut standing, 60, 1_000);
+    let (one, two) = (begin(&rt, &standing, b"one"), begin(&rt, &standing, b"two"));
+    are(&rt, &standing, 1_010, [0, 0, 2, 0]);
+    take(&rt, &mut standing, 90, 1_010);
+    are(&rt, &standing, 1_010, [0, 0, 1, 1]);
+    two.end();
+    are(&rt, &standing, 1_010, [0, 0, 1, 1]);
+    one.end();
+    are(&rt, &standing, 1_010, [0, 0, 0, 2]);
+}
+
+#[test]
 fn ended_identities_are_said_once(rt: HostRuntime) {
     let (outlook, _ours, mut theirs) = watched(&rt, &rt);
     let mut standing = Standing::start(rt.alloc());
@@ -276,7 +363,7 @@ fn ended_identities_are_said_once(rt: HostRuntime) {
     sign(&rt, &mut standing, b"one", 1_100);
     let identities = standing.identities(1_050);
     assert_eq!(rt;
-        (identities.kept, identities.missing, identities.next_end),
+        (identities.due, identities.missing, identities.next_end),
         (1, 1, Some(50))
     );
     for now in [1_099, 1_100, 1_101] {
@@ -299,15 +386,20 @@ fn take_guarded(rt: &(impl AllocGlobal + Abort), standing: &mut Standing, now: u
     let mut guarded = entry(rt, b"one", 60);
     guarded.selectors = selectors(rt, b"a:1");
     let entries = [guarded];
-    standing.take_document(&entries, now).expect(rt, "memory");
+    standing
+        .take_document(&entries, 0, now)
+        .expect(rt, "memory");
     drop(entries);
 }
 
 /// Two sockets, of which the second has callers that have `a:1`.
 fn two_sockets(rt: &(impl AllocGlobal + Abort)) -> Callers {
-    let mut callers = Callers::start(rt.alloc());
-    for text in [b"b:1".as_slice(), b"a:1".as_slice()] {
-        callers.add_socket(selectors(rt, text)).expect(rt, "memory");
+    let callers = Callers::start(rt.alloc());
+    for (number, text) in [(0, b"b:1".as_slice()), (1, b"a:1".as_slice())] {
+        let selectors = selectors(rt, text);
+        let added = callers.add_socket(rt.alloc(), number, &selectors);
+        added.expect(rt, "memory");
+        drop(selectors);
     }
     callers
 }
@@ -335,4 +427,23 @@ fn waiting_callers_are_said_once(rt: HostRuntime) {
     let said = text_of(&rt, &mut theirs);
     assert_eq!(rt; said.lines().count(), 2);
     assert!(rt; said.ends_with("level=warn event=caller_waits socket=1 entry=\"one\"\n"));
+}
+
+/// A caller of a socket that was given up may wait on, until its connection is over. A number is not used twice.
+#[test]
+fn callers_of_a_socket_that_is_given_up_may_wait(rt: HostRuntime) {
+    let (outlook, _ours, _theirs) = watched(&rt, &rt);
+    let (path, wanted) = (octets(&rt, b"/run/a"), selectors(&rt, b"a:1"));
+    let added = [(); 2].map(|()| outlook.add_socket(&path, &wanted).ok());
+    assert_eq!(rt; added, [Some(0), Some(1)]);
+    outlook.remove_socket(0);
+    assert_eq!(rt; outlook.add_socket(&path, &wanted).ok(), Some(2));
+    let callers = two_sockets(&rt);
+    callers.note_opened(1);
+    callers.remove_socket(1);
+    assert_eq!(rt; callers.entitled_to(&wanted), Some(1));
+    callers.note_closed(1);
+    callers.note_opened(1);
+    assert_eq!(rt; callers.entitled_to(&wanted), None);
+    drop(wanted);
 }

@@ -36,6 +36,10 @@ pub(crate) fn say_calls(log: &Log, socket: u32, uid: Option<u32>, calls: &CallCo
     let now = log.now();
     let caller = Caller { socket, uid };
     for method in CallMethod::all() {
-        say_method(log, now, caller, method, calls.of(method));
+        let counts = calls.of(method);
+        if counts.is_empty() {
+            continue;
+        }
+        say_method(log, now, caller, method, counts);
     }
 }

@@ -88,7 +88,7 @@ impl<F: FaultLines + Drop> DocumentJudge<F> {
         if self.domain.is_none() {
             self.domain = Some(state.domain.copy(self.alloc)?);
         }
-        self.outlook.note_document(state.entries.as_slice(), counts);
+        self.outlook.note_document(state, counts);
         self.taken = document;
         self.verdict = Verdict::Taken;
         Ok(())

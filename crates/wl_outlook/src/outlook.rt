@@ -1,5 +1,6 @@
 //! What threads note, and pages show.
 
+use crate::asking::UnderWay;
 use crate::callers::Callers;
 use crate::calls::say_calls;
 use crate::standing::Standing;
@@ -15,8 +16,10 @@ use std::sync::atomic::{AtomicU64, Ordering};
 use std::sync::{Arc, RwLock, RwLockWriteGuard};
 use std::thread;
 use std::time::{Duration, Instant};
-use wl_entry::{Ask, Entry};
-use wl_octets::Memory;
+use wl_document::AuthorityState;
+use wl_entry::{Ask, Signed};
+use wl_octets::{Memory, Octets};
+use wl_selector::Selectors;
 
 /// How many milliseconds ago the keeper's last step may have ended.
 const LIVE_MILLISECONDS: u64 = 10_000;
@@ -41,20 +44,41 @@ pub struct Outlook {
 }
 
 impl Outlook {
-    /// Of a process that starts now, with counters at 0 and these sockets, of which none has a caller.
-    pub fn start(alloc: Global, log: Arc<Log>, counters: Counters, callers: Callers) -> Outlook {
+    /// Of a process that starts now, with counters at 0 and no socket yet.
+    pub fn start(alloc: Global, log: Arc<Log>) -> Outlook {
         let began = Instant::now(log.runtime()).ok();
         let started = log.now();
         Outlook {
             alloc,
             log,
-            counters,
-            callers,
+            counters: Counters::start(alloc),
+            callers: Callers::start(alloc),
             began,
             started,
             stepped: AtomicU64::new(0),
             standing: RwLock::new(Standing::start(alloc)),
         }
+    }
+
+    /// Adds a socket, at the path that a configuration names, whose callers have these selectors, and gives its number: the next one,
+    /// from 0. No number is used twice. Where memory runs out, or others have the sockets for long, nothing is added.
+    pub fn add_socket(&self, path: &Octets, selectors: &Selectors) -> Result<u32, Memory> {
+        let number = self.counters.add_socket(self.alloc, path)?;
+        if self
+            .callers
+            .add_socket(self.alloc, number, selectors)
+            .is_err()
+        {
+            self.counters.remove_socket(number);
+            return Err(Memory);
+        }
+        Ok(number)
+    }
+
+    /// The socket of this number takes no more callers. Its figures stay until its last connection is over.
+    pub fn remove_socket(&self, number: u32) {
+        self.counters.remove_socket(number);
+        self.callers.remove_socket(number);
     }
 
     /// The log.
@@ -100,13 +124,13 @@ impl Outlook {
         self.counters.count_document(outcome);
     }
 
-    /// The store takes another document than before next, with these entries, of which this is to be said then. Where memory
-    /// runs out the entries stay as they were known.
-    pub fn note_document(&self, entries: &[Entry], counts: DocumentCounts) {
+    /// The store takes another document than before next, of which this is to be said then. Where memory runs out the entries
+    /// stay as they were known.
+    pub fn note_document(&self, state: &AuthorityState, counts: DocumentCounts) {
         self.counters.note_document(counts.entries, counts.bundles);
         let now = self.log.now();
         if let Some(mut standing) = self.standing() {
-            let _ = standing.take_document(entries, now);
+            let _ = standing.take_document(state.entries.as_slice(), state.renew_before, now);
             standing.keep_unsaid(counts);
         }
     }
@@ -133,10 +157,19 @@ impl Outlook {
         self.counters.count_signing(kind, outcome, taken);
     }
 
-    /// An identity was signed, which ends at this Unix second.
-    pub fn note_signed(&self, ask: &Ask, not_after: u64) {
+    /// A signer is asked for an identity, until that ends. An ask that no entry of the document in use has counts nowhere, and nor
+    /// does one where others have the entries for a whole second.
+    pub fn note_asked(&self, ask: &Ask) -> UnderWay {
+        match self.standing() {
+            Some(standing) => standing.begin_ask(ask),
+            None => UnderWay::uncounted(),
+        }
+    }
+
+    /// This identity was signed.
+    pub fn note_signed(&self, ask: &Ask, signed: &Signed) {
         if let Some(mut standing) = self.standing() {
-            standing.note_signed(ask, not_after);
+            standing.note_signed(ask, signed);
         }
     }
 

@@ -1,51 +1,20 @@
 //! Which entries have an identity, as far as documents and signers show.
 
+use crate::asking::{Asking, UnderWay};
 use crate::callers::Callers;
+use crate::stand::{Known, Stand};
 use event_log::{DocumentCounts, Event};
-use figures::{EntryId, Identities, Lacking};
+use figures::{EntryId, Identities, IdentityState, Lacking};
 use log_output::Log;
 use std::alloc::Global;
-use wl_entry::{Ask, Entry};
+use wl_entry::{Ask, Entry, Signed};
 use wl_octets::{Memory, Octets, Row};
-use wl_selector::Selectors;
 
 /// How many seconds an entry may have no identity before the agent isn't ready.
 pub const PATIENCE_SECONDS: u64 = 60;
 
-/// How many seconds an entry may have no identity before it is said that a caller waits for it.
-const WAIT_SECONDS: u64 = 10;
-
 /// At how many such entries one step looks.
 const LOOKS: u32 = 16;
-
-/// An entry of the document in use.
-#[derive(Drop)]
-struct Stand {
-    ask: Ask,
-    /// What a caller has to have.
-    selectors: Selectors,
-    /// From when on it has no identity, in Unix seconds: when its ask came, or when the last identity that was signed ends.
-    lacks_from: u64,
-    /// Whether an identity was signed whose end wasn't said.
-    was_signed: bool,
-    /// Whether it was said that a caller waits for it.
-    was_awaited: bool,
-}
-
-impl Stand {
-    /// Whether it has had no identity for long, and nothing was said of a caller that waits.
-    fn is_unsaid(&self, now: u64) -> bool {
-        !self.was_awaited && now.saturating_sub(self.lacks_from) >= WAIT_SECONDS
-    }
-}
-
-/// What is known of an entry from the document before.
-#[derive(Clone, Copy, Debug, Drop)]
-struct Before {
-    lacks_from: u64,
-    was_signed: bool,
-    was_awaited: bool,
-}
 
 /// The entries of the document in use, by ascending id.
 #[derive(Drop)]
@@ -53,6 +22,8 @@ pub struct Standing {
     alloc: Global,
     stands: Vec<Stand>,
     has_document: bool,
+    /// The second before which what was signed is to be renewed.
+    renew_before: u64,
     /// What is to be said of it once the store has it.
     unsaid: Option<DocumentCounts>,
     /// Where the next look for entries without an identity begins.
@@ -66,11 +37,22 @@ fn place_of(stands: &[Stand], id: &Octets) -> Option<usize> {
         .ok()
 }
 
-/// The lower of a number, where there is one, and another.
-fn sooner(one: Option<u64>, other: u64) -> Option<u64> {
-    match one {
-        Some(one) if one <= other => Some(one),
-        _ => Some(other),
+/// The lower of two numbers, as far as they are there.
+fn sooner(one: Option<u64>, other: Option<u64>) -> Option<u64> {
+    match (one, other) {
+        (Some(one), Some(other)) => Some(one.min(other)),
+        (Some(one), None) => Some(one),
+        (None, other) => other,
+    }
+}
+
+/// Counts one more entry in this state.
+fn count(all: &mut Identities, state: IdentityState) {
+    match state {
+        IdentityState::Kept => all.kept = all.kept.saturating_add(1),
+        IdentityState::Due => all.due = all.due.saturating_add(1),
+        IdentityState::InFlight => all.in_flight = all.in_flight.saturating_add(1),
+        IdentityState::Missing => all.missing = all.missing.saturating_add(1),
     }
 }
 
@@ -81,6 +63,7 @@ impl Standing {
             alloc,
             stands: Vec::new(alloc),
             has_document: false,
+            renew_before: 0,
             unsaid: None,
             next: 0,
         }
@@ -91,37 +74,35 @@ impl Standing {
         self.has_document
     }
 
-    /// What stands of an entry: as before where its ask is as before, and else no identity from now on.
-    fn before(&self, entry: &Entry, now: u64) -> Before {
+    /// What stands of an entry: as before where its ask is as before, and else no identity from now on, for which nobody is asked.
+    fn before(&self, entry: &Entry, now: u64) -> Result<(Known, Asking), Memory> {
         let at = place_of(self.stands.as_slice(), &entry.id).unwrap_or(usize::MAX);
         match self.stands.get(at) {
-            Some(stand) if entry.asks(&stand.ask) => Before {
-                lacks_from: stand.lacks_from,
-                was_signed: stand.was_signed,
-                was_awaited: stand.was_awaited,
-            },
-            _ => Before {
-                lacks_from: now,
-                was_signed: false,
-                was_awaited: false,
-            },
+            Some(stand) if entry.asks(&stand.ask) => Ok((stand.known, stand.asking.share()?)),
+            _ => Ok((Known::start(now), Asking::start(self.alloc)?)),
         }
     }
 
-    /// A document was taken at this time, whose entries stand by ascending id. Where memory runs out nothing changes.
-    pub fn take_document(&mut self, entries: &[Entry], now: u64) -> Result<(), Memory> {
+    /// A document was taken at this time, whose entries stand by ascending id. What was signed before the second `renew_before` is
+    /// to be renewed. Where memory runs out nothing changes.
+    pub fn take_document(
+        &mut self,
+        entries: &[Entry],
+        renew_before: u64,
+        now: u64,
+    ) -> Result<(), Memory> {
         let mut stands = Vec::new(self.alloc);
         for entry in entries {
-            let before = self.before(entry, now);
+            let (known, asking) = self.before(entry, now)?;
             stands.push(Stand {
                 ask: entry.ask(self.alloc)?,
                 selectors: entry.selectors.copy(self.alloc)?,
-                lacks_from: before.lacks_from,
-                was_signed: before.was_signed,
-                was_awaited: before.was_awaited,
+                known,
+                asking,
             })?;
         }
         self.stands = stands;
+        self.renew_before = renew_before;
         self.has_document = true;
         Ok(())
     }
@@ -136,16 +117,23 @@ impl Standing {
         self.unsaid.take()
     }
 
-    /// An identity was signed for an ask, which ends at this time. One for an ask that no entry has any more is nobody's.
-    pub fn note_signed(&mut self, ask: &Ask, not_after: u64) {
+    /// A signer is asked. An ask that no entry has any more is nobody's, and so is one where memory runs out.
+    pub fn begin_ask(&self, ask: &Ask) -> UnderWay {
+        let at = place_of(self.stands.as_slice(), &ask.entry_id).unwrap_or(usize::MAX);
+        match self.stands.get(at) {
+            Some(stand) if stand.ask == *ask => stand.begin_ask(),
+            _ => UnderWay::uncounted(),
+        }
+    }
+
+    /// An identity was signed for an ask. One for an ask that no entry has any more is nobody's.
+    pub fn note_signed(&mut self, ask: &Ask, signed: &Signed) {
         let Some(at) = place_of(self.stands.as_slice(), &ask.entry_id) else {
             return;
         };
         if let Some(stand) = self.stands.get_mut(at) {
             if stand.ask == *ask {
-                stand.lacks_from = not_after;
-                stand.was_signed = true;
-                stand.was_awaited = false;
+                stand.known.note_signed(signed);
             }
         }
     }
@@ -154,7 +142,7 @@ impl Standing {
     pub fn lacking(&self, now: u64) -> Result<Row<Lacking>, Memory> {
         let mut all = Row::empty(self.alloc);
         for stand in self.stands.iter() {
-            let seconds = now.saturating_sub(stand.lacks_from);
+            let seconds = now.saturating_sub(stand.known.lacks_from);
             if seconds > PATIENCE_SECONDS {
                 let entry = EntryId::of_entry(self.alloc, &stand.ask.entry_id)?;
                 all.push(Lacking { entry, seconds }).map_err(|_| Memory)?;
@@ -163,27 +151,27 @@ impl Standing {
         Ok(all)
     }
 
-    /// How many entries have an identity at this time, and when the next of these ends.
+    /// How many entries are in each state at this time, and when the next identity ends.
     pub fn identities(&self, now: u64) -> Identities {
-        let (mut kept, mut next_end) = (0u64, None);
+        let mut all = Identities {
+            kept: 0,
+            due: 0,
+            in_flight: 0,
+            missing: 0,
+            next_end: None,
+        };
         for stand in self.stands.iter() {
-            if stand.lacks_from > now {
-                kept = kept.saturating_add(1);
-                next_end = sooner(next_end, stand.lacks_from - now);
-            }
+            count(&mut all, stand.state(self.alloc, self.renew_before, now));
+            all.next_end = sooner(all.next_end, stand.known.seconds_left(now));
         }
-        Identities {
-            kept,
-            missing: (self.stands.len() as u64).saturating_sub(kept),
-            next_end,
-        }
+        all
     }
 
     /// Says once of each identity that it has ended.
     pub fn say_ended(&mut self, log: &Log, now: u64) {
         for stand in self.stands.iter_mut() {
-            if stand.was_signed && stand.lacks_from <= now {
-                stand.was_signed = false;
+            if stand.known.was_signed && stand.known.lacks_from <= now {
+                stand.known.was_signed = false;
                 log.say(&Event::IdentityEnded(&stand.ask));
             }
         }
@@ -193,9 +181,9 @@ impl Standing {
     fn next_unsaid(&self, now: u64) -> Option<usize> {
         let from = self.next.min(self.stands.len());
         let (before, after) = self.stands.as_slice().split_at(from);
-        match after.iter().position(|stand| stand.is_unsaid(now)) {
+        match after.iter().position(|stand| stand.known.is_unsaid(now)) {
             Some(at) => Some(from.saturating_add(at)),
-            None => before.iter().position(|stand| stand.is_unsaid(now)),
+            None => before.iter().position(|stand| stand.known.is_unsaid(now)),
         }
     }
 
@@ -207,7 +195,7 @@ impl Standing {
         let Some(socket) = callers.entitled_to(&stand.selectors) else {
             return false;
         };
-        stand.was_awaited = true;
+        stand.known.was_awaited = true;
         log.say(&Event::CallerWaits(socket, &stand.ask));
         true
     }

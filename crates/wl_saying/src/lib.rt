@@ -17,4 +17,4 @@ pub use gate::SayingGate;
 pub use listener::SayingListener;
 pub use signer::{AskFailures, SayingSigner};
 pub use sink::KeepingSink;
-pub use upstream::SayingUpstream;
+pub use upstream::{PullFailures, SayingUpstream};

@@ -82,7 +82,7 @@ impl AsksSaid {
     fn note_signed(&mut self, ask: &Ask, signed: &Signed, now: u64) {
         let log = self.outlook.log();
         log.say(&Event::Signed(ask, signed.not_after));
-        self.outlook.note_signed(ask, signed.not_after);
+        self.outlook.note_signed(ask, signed);
         if signed.not_before <= now {
             return;
         }
@@ -231,8 +231,10 @@ impl<S: Signer + AskFailures + Drop> Signer for SayingSigner<S> {
 
     fn sign_x509(&mut self, ask: &Ask) -> Result<Signed, EdgeFault> {
         let began = self.said.outlook.milliseconds();
+        let asked = self.said.outlook.note_asked(ask);
         let answer = self.inner.sign_x509(ask);
         let is_signed = self.said.note_identity(ask, &answer, self.inner.cause());
+        asked.end();
         self.said.count(SigningKind::X509, is_signed, began);
         answer
     }

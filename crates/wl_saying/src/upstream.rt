@@ -7,15 +7,26 @@ use event_log::{Event, PullCause, Slot};
 use figures::DocumentResult;
 use std::alloc::Global;
 use std::sync::Arc;
-use wl_edge::{EdgeFault, Upstream};
+use wl_edge::{EdgeFault, MemoryUpstream, Upstream};
 use wl_octets::{Memory, Octets};
 use wl_outlook::{DocumentJudge, FaultLines, Outlook};
+
+/// An upstream that knows why a pull of it fails.
+pub trait PullFailures {
+    /// Why the last pull failed, where it did.
+    fn cause(&self) -> PullCause;
+}
+
+impl PullFailures for MemoryUpstream {
+    fn cause(&self) -> PullCause {
+        PullCause::File
+    }
+}
 
 /// Says what comes of the pulls of documents.
 #[derive(Drop)]
 struct PullsSaid {
     outlook: Arc<Outlook>,
-    cause: PullCause,
     /// When the first of the pulls failed that have failed since one came.
     since: Option<u64>,
     failed: Slot,
@@ -23,44 +34,43 @@ struct PullsSaid {
 }
 
 impl PullsSaid {
-    /// Nothing was pulled yet. A pull that fails has this cause.
-    fn start(outlook: Arc<Outlook>, cause: PullCause) -> PullsSaid {
+    /// Nothing was pulled yet.
+    fn start(outlook: Arc<Outlook>) -> PullsSaid {
         PullsSaid {
             outlook,
-            cause,
             since: None,
             failed: Slot::empty(),
             memory: MemorySaid::start(),
         }
     }
 
-    /// Says that a pull failed, for the first time since then.
-    fn say_failed(&self, now: u64, since: u64, held: u64) {
+    /// Says that a pull failed, for this cause, and for the first time since then.
+    fn say_failed(&self, cause: PullCause, now: u64, since: u64, held: u64) {
         let log = self.outlook.log();
         if let Ok(since) = log.time_text(since) {
-            log.say_after(now, &Event::AuthorityFailed(self.cause, &since), held);
+            log.say_after(now, &Event::AuthorityFailed(cause, &since), held);
         }
     }
 
-    fn note_failed(&mut self) {
+    fn note_failed(&mut self, cause: PullCause) {
         self.outlook.note_pull(DocumentResult::Failed);
         let now = self.outlook.log().now();
         let since = self.since.unwrap_or(now);
         self.since = Some(since);
         if let Some(held) = self.failed.admit(now) {
-            self.say_failed(now, since, held);
+            self.say_failed(cause, now, since, held);
         }
     }
 
-    /// Says what came of a pull.
-    fn note(&mut self, pulled: &Result<(), EdgeFault>) {
+    /// Says what came of a pull, and why it failed where it did.
+    fn note(&mut self, pulled: &Result<(), EdgeFault>, cause: PullCause) {
         match pulled {
             Ok(()) => {
                 if self.since.take().is_some() {
                     self.outlook.log().say(&Event::AuthorityBack);
                 }
             }
-            Err(EdgeFault::Failed) => self.note_failed(),
+            Err(EdgeFault::Failed) => self.note_failed(cause),
             Err(EdgeFault::Memory) => self.memory.say(self.outlook.log()),
         }
     }
@@ -75,13 +85,12 @@ pub struct SayingUpstream<U, F> {
     judge: DocumentJudge<F>,
 }
 
-impl<U: Upstream + Drop, F: FaultLines + Drop> SayingUpstream<U, F> {
-    /// Over this upstream. A pull that fails has this cause, and the faults of documents are written by these.
+impl<U: Upstream + PullFailures + Drop, F: FaultLines + Drop> SayingUpstream<U, F> {
+    /// Over this upstream. The faults of documents are written by these.
     pub fn start(
         alloc: Global,
         inner: U,
         outlook: Arc<Outlook>,
-        cause: PullCause,
         lines: F,
     ) -> Result<SayingUpstream<U, F>, Memory>
         ensures told { IfOk result (λ u. ⟦<SayingUpstream<U, F> as Upstream>⟧.told u ≡ U.told inner) }
@@ -92,13 +101,13 @@ impl<U: Upstream + Drop, F: FaultLines + Drop> SayingUpstream<U, F> {
         };
         Ok(SayingUpstream {
             inner,
-            said: PullsSaid::start(outlook, cause),
+            said: PullsSaid::start(outlook),
             judge: DocumentJudge::start(alloc, other, lines),
         })
     }
 }
 
-impl<U: Upstream + Drop, F: FaultLines + Drop> Upstream for SayingUpstream<U, F> {
+impl<U: Upstream + PullFailures + Drop, F: FaultLines + Drop> Upstream for SayingUpstream<U, F> {
     ghost told = { λ u. U.told u.inner };
 
     ghost faults = { λ u. U.faults u.inner };
@@ -106,7 +115,7 @@ impl<U: Upstream + Drop, F: FaultLines + Drop> Upstream for SayingUpstream<U, F>
     fn pull(&mut self, into: &mut Octets) -> Result<(), EdgeFault> {
         let before = into.len();
         let pulled = self.inner.pull(into);
-        self.said.note(&pulled);
+        self.said.note(&pulled, self.inner.cause());
         if let (Ok(()), Some(document)) = (&pulled, into.as_slice().get(before..)) {
             self.judge.note_document(document);
         }

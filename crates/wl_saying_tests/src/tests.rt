@@ -1,7 +1,7 @@
 //! What is said and counted of things in memory that fail and come back.
 
-use event_log::{FaultLine, Level, PullCause};
-use figures::{Counters, Shows};
+use event_log::{FaultLine, Level, PullCause, SignCause};
+use figures::Shows;
 use log_output::{Log, LogOutput};
 use spiffe_id::SpiffeId;
 use std::alloc::{AllocGlobal, Global};
@@ -10,7 +10,7 @@ use std::os::fd::AsRawFd;
 use std::os::unix::net::UnixStream;
 use std::process::Abort;
 use std::sync::Arc;
-use std::sync::atomic::AtomicBool;
+use std::sync::atomic::{AtomicBool, AtomicU64, Ordering};
 use wl_document::DocFault;
 use wl_edge::{
     Accepted, BEFORE_KEEPING, BEFORE_UPKEEP, EdgeFault, Gate, Listener, MemorySigner, MemorySink,
@@ -19,9 +19,9 @@ use wl_edge::{
 use wl_edge_real::{BindFault, BoundAt, RealLink, Refusal, Stop};
 use wl_entry::{Ask, JwtToken, Signed};
 use wl_octets::{Memory, Octets, Row};
-use wl_outlook::{Callers, FaultLines, Outlook};
+use wl_outlook::{DocumentJudge, FaultLines, Outlook};
 use wl_saying::{
-    KeepingSink, SayingGate, SayingListener, SayingSigner, SayingUpstream, say_unbound,
+    AskFailures, KeepingSink, SayingGate, SayingListener, SayingSigner, SayingUpstream, say_unbound,
 };
 
 /// The point that a seat passes which ended with a fault.
@@ -30,6 +30,11 @@ const AFTER_FAILED_SEAT: u32 = 5;
 /// A document with no entry.
 const GOOD: &[u8] =
     br#"{"version":1,"trust_domain":"a.b","bundles":[{"trust_domain":"a.b","x509":"AQ=="}],"entries":[]}"#;
+
+/// A document with the entry that is asked for below.
+const ONE: &[u8] =
+    br#"{"version":1,"trust_domain":"a.b","bundles":[{"trust_domain":"a.b","x509":"AQ=="}],"entries":[
+{"id":"e1","spiffe_id":"spiffe://a.b/w","selectors":["unix:uid:1"],"ttl":60}]}"#;
 
 /// Calls each fault by one name.
 #[derive(Drop)]
@@ -51,7 +56,7 @@ fn watched(
     let output = LogOutput::over(ours.as_raw_fd(), false);
     let log = Log::over(own.clone().expect(rt, "runtime"), output, Level::Info, None);
     let log = Arc::new(alloc, log).expect(rt, "log");
-    let outlook = Outlook::start(alloc, log, Counters::start(alloc), Callers::start(alloc));
+    let outlook = Outlook::start(alloc, log);
     (Arc::new(alloc, outlook).expect(rt, "outlook"), ours, theirs)
 }
 
@@ -189,9 +194,7 @@ fn failed_pulls_are_said_once(rt: HostRuntime) {
     let document = Octets::from_slice(alloc, GOOD).expect(&rt, "document");
     let upstream = MemoryUpstream::start(alloc, late(&rt, document));
     let noted = one_more(&rt, &outlook);
-    let mut saying = SayingUpstream::start(alloc, upstream, noted, PullCause::File, OneName).expect(
-        &rt, "upstream",
-    );
+    let mut saying = SayingUpstream::start(alloc, upstream, noted, OneName).expect(&rt, "upstream");
     let mut into = Octets::empty(alloc);
     let pulled = [(); 4].map(|()| saying.pull(&mut into).is_ok());
     assert_eq!(rt; pulled, [false, false, true, true]);
@@ -236,6 +239,83 @@ fn failed_asks_are_said_for_each_entry(rt: HostRuntime) {
     );
     assert!(rt; asked && numbers(&rt, &outlook) == [0, 1, 2, 1]);
     drop(ours);
+}
+
+/// A signer that looks at the figures while it is asked for an identity.
+#[derive(Drop)]
+struct Looking<S> {
+    inner: S,
+    outlook: Arc<Outlook>,
+    /// How many entries were in flight then.
+    seen: Arc<AtomicU64>,
+}
+
+impl<S: AskFailures> AskFailures for Looking<S> {
+    fn cause(&self) -> SignCause {
+        self.inner.cause()
+    }
+}
+
+impl<S: Signer + Drop> Signer for Looking<S> {
+    type V = S::V;
+
+    ghost calls = { λ s. S.calls s.inner };
+
+    ghost faults = { λ s. S.faults s.inner };
+
+    fn sign_x509(&mut self, ask: &Ask) -> Result<Signed, EdgeFault> {
+        if let Ok(figures) = self.outlook.figures() {
+            self.seen
+                .store(figures.identities.in_flight, Ordering::SeqCst);
+        }
+        self.inner.sign_x509(ask)
+    }
+
+    fn sign_jwt(&mut self, ask: &Ask, audience: &[Octets]) -> Result<JwtToken, EdgeFault> {
+        self.inner.sign_jwt(ask, audience)
+    }
+}
+
+/// How many entries are kept, due, in flight and missing.
+fn states(rt: &(impl AllocGlobal + Abort), outlook: &Outlook) -> [u64; 4] {
+    let figures = outlook.figures().expect(rt, "figures");
+    let all = figures.identities;
+    drop(figures);
+    [all.kept, all.due, all.in_flight, all.missing]
+}
+
+/// An ask that fails and one that is answered by an identity that is half over.
+#[test]
+fn entries_are_in_flight_while_their_signer_is_asked(rt: HostRuntime) {
+    let alloc = rt.alloc();
+    let (outlook, ours, theirs) = watched(&rt, &rt);
+    let mut judge = DocumentJudge::start(alloc, one_more(&rt, &outlook), OneName);
+    judge.note_document(ONE);
+    drop(judge);
+    let identities = late(&rt, signed(&rt, LONG_AGO, FAR_OFF));
+    let tokens = Script::start(Row::empty(alloc), Row::empty(alloc));
+    let seen = Arc::new(alloc, AtomicU64::new(0)).expect(&rt, "number");
+    let looking = Looking {
+        inner: MemorySigner::start(alloc, identities, tokens),
+        outlook: one_more(&rt, &outlook),
+        seen: Arc::try_clone(&seen).expect(&rt, "number"),
+    };
+    let is_failing = Arc::new(alloc, AtomicBool::new(false)).expect(&rt, "flag");
+    let noted = one_more(&rt, &outlook);
+    let mut saying = SayingSigner::start(alloc, looking, noted, is_failing);
+    let ask = ask(&rt);
+    let mut found = [states(&rt, &outlook), [0; 4], [0; 4]];
+    let failed = saying.sign_x509(&ask).is_err() && saying.sign_x509(&ask).is_err();
+    let in_vain = seen.load(Ordering::SeqCst);
+    found[1] = states(&rt, &outlook);
+    let is_signed = saying.sign_x509(&ask).is_ok();
+    found[2] = states(&rt, &outlook);
+    drop(ask);
+    drop(saying);
+    drop(ours);
+    drop(theirs);
+    assert!(rt; failed && is_signed && (in_vain, seen.load(Ordering::SeqCst)) == (1, 1));
+    assert_eq!(rt; found, [[0, 0, 0, 1], [0, 0, 0, 1], [0, 1, 0, 0]]);
 }
 
 #[test]
