@@ -2,16 +2,18 @@
 
 ghost use Rattle.std.specs.Prelude.{◌≡◌, IfOk, string_bytes};
 
-use crate::doors::{Door, Doors, SeatDoors, discard_all};
+use crate::agent_socket::{AgentSocket, SeatHandle};
+use crate::agent_sockets::AgentSockets;
+use crate::doors::{Door, discard_all};
 use std::alloc::Global;
 use std::fs::{File, Files};
-use std::mem;
 use std::net::{Net, SocketAddr, TcpListener, TcpStream};
 use std::string::String;
 use std::sync::Arc;
+use wl_config::SocketFact;
 use wl_edge_real::{
-    BindFault, Guard, LoopbackListener, MAX_OPEN_LINKS, OpenLinks, PathListener, RealBell,
-    Replacements, Unnamed, bind_loopback, bind_unnamed,
+    BindFault, Changes, Guard, LoopbackListener, MAX_OPEN_LINKS, OpenLinks, PathListener, RealBell,
+    Unnamed, bind_loopback, bind_unnamed,
 };
 use wl_octets::Memory;
 
@@ -22,10 +24,10 @@ pub(crate) struct Bound {
     links: Arc<OpenLinks>,
     /// Files that have no names yet.
     unnamed: Vec<Unnamed>,
-    /// The doors of the seat that is being made, in the order of its sockets. A port has none.
-    doors: Vec<Option<Door>>,
-    /// Those of the seats that were made.
-    seats: Vec<SeatDoors>,
+    /// The sockets, in the order in which they were bound.
+    sockets: Vec<AgentSocket>,
+    /// The seats that were made.
+    seats: Vec<SeatHandle>,
     pages: Option<Door>,
 }
 
@@ -38,7 +40,7 @@ impl Bound {
         Ok(Bound {
             links,
             unnamed: Vec::new(alloc),
-            doors: Vec::new(alloc),
+            sockets: Vec::new(alloc),
             seats: Vec::new(alloc),
             pages: None,
         })
@@ -49,57 +51,65 @@ impl Bound {
         &self.links
     }
 
-    /// Binds the socket of this path, which peers don't find yet.
+    /// Binds the socket of this number and path, which peers don't find yet.
     pub(crate) fn bind<R: Files + Net>(
         &mut self,
         rt: &R,
         alloc: Global,
+        number: u32,
+        fact: &SocketFact,
         path: &str,
         guard: Guard,
     ) -> Result<PathListener, BindFault>
         ensures { IfOk result (λ s. string_bytes s.path ≡ path.now) }
     {
-        if self.unnamed.reserve(1).is_err() || self.doors.reserve(1).is_err() {
+        if self.unnamed.reserve(1).is_err() || self.sockets.reserve(1).is_err() {
             return Err(BindFault::Memory);
         }
-        let Ok(text) = String::from_str(alloc, path) else {
+        let (Ok(text), Ok(fact)) = (String::from_str(alloc, path), fact.copy(alloc)) else {
             return Err(BindFault::Memory);
         };
         let (socket, unnamed) = bind_unnamed(rt, alloc, path, guard, self.unnamed.as_slice())?;
+        let door = Door::new(text, socket.file);
         // There is room for both.
         let _ = self.unnamed.push(unnamed);
-        let _ = self.doors.push(Some(Door::new(text, guard, socket.file)));
+        let _ = self
+            .sockets
+            .push(AgentSocket::bound(number, fact, Some(door)));
         Ok(socket)
     }
 
-    /// Binds the port of this address, which has no door.
+    /// Binds the port of this number and address.
     pub(crate) fn bind_port<
         R: Files<File = File> + Net<Listener = TcpListener, Stream = TcpStream>,
     >(
         &mut self,
         rt: &R,
         alloc: Global,
+        number: u32,
+        fact: &SocketFact,
         address: SocketAddr,
     ) -> Result<LoopbackListener, BindFault> {
-        if self.doors.reserve(1).is_err() {
+        let Ok(fact) = fact.copy(alloc) else {
+            return Err(BindFault::Memory);
+        };
+        if self.sockets.reserve(1).is_err() {
             return Err(BindFault::Memory);
         }
         let port = bind_loopback(rt, alloc, address)?;
         // There is room for it.
-        let _ = self.doors.push(None);
+        let _ = self.sockets.push(AgentSocket::bound(number, fact, None));
         Ok(port)
     }
 
-    /// Ends a seat, which this bell wakes, and whose listener takes these replacements.
-    pub(crate) fn end_seat(
+    /// Keeps a seat, which this bell wakes, and whose listener takes these changes.
+    pub(crate) fn keep_seat(
         &mut self,
-        alloc: Global,
-        replacements: Arc<Replacements>,
+        changes: Arc<Changes>,
         bell: Arc<RealBell>,
     ) -> Result<(), Memory> {
-        let doors = mem::replace(&mut self.doors, Vec::new(alloc));
         self.seats
-            .push(SeatDoors::new(doors, replacements, bell))
+            .push(SeatHandle::new(changes, bell))
             .map_err(|_| Memory)
     }
 
@@ -116,8 +126,9 @@ impl Bound {
         }
     }
 
-    /// The doors, for several owners, and the files that have no names yet.
-    pub(crate) fn part(self, alloc: Global) -> (Result<Arc<Doors>, Memory>, Vec<Unnamed>) {
-        (Doors::share(alloc, self.seats, self.pages), self.unnamed)
+    /// The sockets, for several owners, and the files that have no names yet.
+    pub(crate) fn part(self, alloc: Global) -> (Result<Arc<AgentSockets>, Memory>, Vec<Unnamed>) {
+        let sockets = AgentSockets::share(alloc, self.sockets, self.seats, self.pages);
+        (sockets, self.unnamed)
     }
 }

@@ -1,14 +1,13 @@
 //! What is known of a running agent.
 
 use event_log::FaultLine;
-use figures::Counters;
 use log_output::Log;
 use std::alloc::Global;
 use std::sync::Arc;
 use wl_config::Config;
 use wl_document::DocFault;
 use wl_octets::Memory;
-use wl_outlook::{Callers, FaultLines, Outlook};
+use wl_outlook::{FaultLines, Outlook};
 use wl_replay::put_fault;
 
 /// How the line of a document's fault begins.
@@ -33,11 +32,9 @@ pub(crate) fn make_outlook(
     config: &Config,
     log: Arc<Log>,
 ) -> Result<Arc<Outlook>, Memory> {
-    let mut counters = Counters::start(alloc);
-    let mut callers = Callers::start(alloc);
+    let outlook = Outlook::start(alloc, log);
     for socket in config.sockets.as_slice() {
-        counters.add_socket(alloc, socket.place.name())?;
-        callers.add_socket(socket.selectors.copy(alloc)?)?;
+        outlook.add_socket(socket.place.name(), &socket.selectors)?;
     }
-    Arc::new(alloc, Outlook::start(alloc, log, counters, callers)).map_err(|_| Memory)
+    Arc::new(alloc, outlook).map_err(|_| Memory)
 }

@@ -3,19 +3,21 @@
 ghost use Rattle.std.specs.Prelude.{◌≡◌, ◌<◌, ◌≤◌, ⊤, [], IfOk, IfSome, IsErrOf, length};
 ghost use Rattle.wl_edge.specs.Edge.{Rose};
 
+use crate::agent_sockets::AgentSockets;
 use crate::bells::SharedBell;
 use crate::bound::Bound;
-use crate::documents::{AgentUpstream, Source};
-use crate::doors::{Doors, discard_all, open_all};
+use crate::documents::{AgentUpstream, make_source};
+use crate::doors::{discard_all, open_all};
 use crate::figuring::{DocumentFaults, make_outlook};
-use crate::listening::{listen_for_readers, text_of};
+use crate::listening::listen_for_readers;
 use crate::mending::MendingGate;
 use crate::owners::{copy_of, one_more};
+use crate::rereading::{ConfigFile, Rereading};
 use crate::seats::{HostAttestor, HostClock, HostListener, Seats};
 use crate::settings::level_of;
 use crate::signers::{AgentSigner, AgentVoucher, SignedBy};
+use crate::targets::Targets;
 use document_signer::{DocumentSigner, SharedIdentities, SharingUpstream, share_identities};
-use event_log::PullCause;
 use log_output::Log;
 use page_server::serve_pages;
 use std::alloc::Global;
@@ -26,10 +28,10 @@ use std::rt::Clock;
 use std::sync::atomic::AtomicBool;
 use std::sync::{Arc, Wait};
 use std::thread::Threads;
-use wl_config::{Config, DocumentSource};
+use wl_config::Config;
 use wl_dealing::seat_count;
 use wl_edge::{EdgeFault, Upstream};
-use wl_edge_real::{FileUpstream, RealClock, RealGate, RealReady, RealUpstream, Stop, Unnamed};
+use wl_edge_real::{RealClock, RealGate, RealReady, Stop, Unnamed};
 use wl_octets::Memory;
 use wl_outlook::Outlook;
 use wl_saying::{SayingGate, SayingSigner, SayingUpstream};
@@ -48,8 +50,10 @@ pub struct RealHost<R> {
     stop: Arc<Stop>,
     /// The files of its sockets that have no names yet.
     unnamed: Vec<Unnamed>,
-    /// Under which names peers find its sockets, once they were prepared.
-    doors: Option<Arc<Doors>>,
+    /// Its sockets, once they were prepared.
+    sockets: Option<Arc<AgentSockets>>,
+    /// The configuration's file, until its sockets are prepared.
+    file: Option<ConfigFile>,
     faults: u64,
 }
 
@@ -87,26 +91,17 @@ fn make_upstream<R: Net + Files + Clock + Clone + Drop>(
     config: &Config,
     identities: &Option<SharedIdentities>,
     outlook: &Arc<Outlook>,
+    targets: &Targets<R>,
 ) -> Result<HostUpstream<R>, EdgeFault>
     ensures faults { IfOk result (λ u. ⟦<HostUpstream<R> as Upstream>⟧.faults u ≡ 0) }
     ensures told { IfOk result (λ u. IfSome (⟦<HostUpstream<R> as Upstream>⟧.told u)
         (λ log. log ≡ record { calls = []; number = 0 })) }
 {
-    let (source, cause) = match &config.documents {
-        DocumentSource::Socket(path) => {
-            let upstream = RealUpstream::start(copy_of(rt)?, alloc, text_of(alloc, path)?);
-            (Source::Socket(upstream), PullCause::Socket)
-        }
-        DocumentSource::File(path) => {
-            let upstream = FileUpstream::start(copy_of(rt)?, alloc, text_of(alloc, path)?);
-            (Source::File(upstream), PullCause::File)
-        }
-    };
+    let source = make_source(rt, alloc, &config.documents)?;
     let upstream = SayingUpstream::start(
         alloc,
-        AgentUpstream::start(source),
+        AgentUpstream::start(source, one_more(&targets.source)?),
         one_more(outlook)?,
-        cause,
         DocumentFaults,
     )?;
     let sharing = SharingUpstream::start(upstream, alloc, share(identities)?);
@@ -120,6 +115,7 @@ fn make_signer<R: Net + Clock + Clone + Drop>(
     config: &Config,
     identities: &Option<SharedIdentities>,
     outlook: &Arc<Outlook>,
+    targets: &Targets<R>,
     is_failing: Arc<AtomicBool>,
 ) -> Result<HostSigner<R>, Memory> {
     let by = match (&config.signer, share(identities)?) {
@@ -129,7 +125,7 @@ fn make_signer<R: Net + Clock + Clone + Drop>(
     };
     let signer = SayingSigner::start(
         alloc,
-        AgentSigner::start(by),
+        AgentSigner::start(copy_of(rt)?, alloc, by, one_more(&targets.signer)?),
         one_more(outlook)?,
         is_failing,
     );
@@ -146,6 +142,7 @@ fn make_signers<R: Net + Clock + Clone + Drop>(
     config: &Config,
     identities: &Option<SharedIdentities>,
     outlook: &Arc<Outlook>,
+    targets: &Targets<R>,
 ) -> Result<Vec<RealSigning<R>>, EdgeFault>
     ensures { IfOk result (λ s. 0 < length s.items) }
 {
@@ -161,6 +158,7 @@ fn make_signers<R: Net + Clock + Clone + Drop>(
                 config,
                 identities,
                 outlook,
+                targets,
                 one_more(&is_failing)?,
             )?,
             clock: TellingClock::start(RealClock::start(copy_of(rt)?)),
@@ -181,6 +179,7 @@ fn make_upkeep<R: Net + Files + Clock + Clone + Drop>(
     alloc: Global,
     config: &Config,
     outlook: &Arc<Outlook>,
+    targets: &Targets<R>,
 ) -> Result<Upkeep<HostUpstream<R>, HostSigner<R>, HostClock<R>>, EdgeFault>
     ensures faults { IfOk result (λ u. ⟦<HostUpstream<R> as Upstream>⟧.faults u.upstream ≡ 0) }
     ensures told { IfOk result (λ u. IfSome (⟦<HostUpstream<R> as Upstream>⟧.told u.upstream)
@@ -188,34 +187,43 @@ fn make_upkeep<R: Net + Files + Clock + Clone + Drop>(
     ensures signers { IfOk result (λ u. 0 < length u.signers.items) }
 {
     let identities = identities_of(alloc, config)?;
+    let upstream = make_upstream(rt, alloc, config, &identities, outlook, targets)?;
     Ok(Upkeep {
-        upstream: make_upstream(rt, alloc, config, &identities, outlook)?,
+        upstream,
         puller: TellingClock::start(RealClock::start(copy_of(rt)?)),
         keeper: TellingClock::start(RealClock::start(copy_of(rt)?)),
-        signers: make_signers(rt, alloc, config, &identities, outlook)?,
+        signers: make_signers(rt, alloc, config, &identities, outlook, targets)?,
     })
 }
 
 /// A gate of the real host.
 type HostGate<R> = MendingGate<SayingGate<RealGate<R>>, R>;
 
-/// The gate of a configuration, whose sockets have these doors.
-fn make_gate<R: Net + Files + Clock + Clone + Drop>(
+/// The gate of a configuration with these sockets, which is read again where it stands in this file.
+fn make_gate<
+    R: Net<Listener = TcpListener, Stream = TcpStream> + Files<File = File> + Clock + Clone + Drop,
+>(
     rt: &R,
     config: &Config,
     outlook: &Arc<Outlook>,
     stop: &Arc<Stop>,
-    log: &Arc<Log>,
-    doors: &Arc<Doors>,
+    sockets: &Arc<AgentSockets>,
+    targets: Targets<R>,
+    file: Option<ConfigFile>,
 ) -> Result<HostGate<R>, Memory> {
-    let gate = RealGate::start(copy_of(rt)?, config.poll_seconds, one_more(stop)?);
-    let sockets = u32::try_from(config.sockets.len()).unwrap_or(u32::MAX);
-    let gate = SayingGate::start(gate, one_more(outlook)?, sockets, one_more(stop)?);
+    let gate = RealGate::start(copy_of(rt)?, one_more(&targets.pace)?, one_more(stop)?);
+    let count = u32::try_from(config.sockets.len()).unwrap_or(u32::MAX);
+    let gate = SayingGate::start(gate, one_more(outlook)?, count, one_more(stop)?);
+    let rereading = match file {
+        Some(file) => Some(Rereading::start(file, targets, one_more(outlook)?)),
+        None => None,
+    };
     Ok(MendingGate::start(
         gate,
         copy_of(rt)?,
-        one_more(log)?,
-        one_more(doors)?,
+        one_more(outlook)?,
+        one_more(sockets)?,
+        rereading,
         one_more(stop)?,
     ))
 }
@@ -254,8 +262,14 @@ fn make_hub(alloc: Global, config: &Config) -> Result<Arc<AskHub<AgentVoucher>>,
 }
 
 impl<R: Files + Drop> RealHost<R> {
-    /// A host over this runtime, with this log. Nothing is bound yet.
-    pub fn start(rt: R, alloc: Global, log: Arc<Log>) -> Result<RealHost<R>, Memory> {
+    /// A host over this runtime, with this log. A configuration that stands in this file is read again once it changes. Nothing is
+    /// bound yet.
+    pub(crate) fn start(
+        rt: R,
+        alloc: Global,
+        log: Arc<Log>,
+        file: Option<ConfigFile>,
+    ) -> Result<RealHost<R>, Memory> {
         let Ok(stop) = Arc::new(alloc, Stop::start()) else {
             return Err(Memory);
         };
@@ -264,7 +278,8 @@ impl<R: Files + Drop> RealHost<R> {
             log,
             stop,
             unnamed: Vec::new(alloc),
-            doors: None,
+            sockets: None,
+            file,
             faults: 0,
         })
     }
@@ -273,8 +288,8 @@ impl<R: Files + Drop> RealHost<R> {
     pub fn remove_files(&mut self, alloc: Global) {
         let unnamed = mem::replace(&mut self.unnamed, Vec::new(alloc));
         discard_all(&self.rt, unnamed);
-        if let Some(doors) = &self.doors {
-            doors.remove_files(&self.rt);
+        if let Some(sockets) = &self.sockets {
+            sockets.remove_files(&self.rt);
         }
     }
 }
@@ -292,15 +307,15 @@ impl<R> RealHost<R> {
         }
     }
 
-    /// Keeps what was bound, and gives its doors.
-    fn keep(&mut self, alloc: Global, bound: Bound) -> Result<Arc<Doors>, Memory>
+    /// Keeps what was bound, and gives its sockets.
+    fn keep(&mut self, alloc: Global, bound: Bound) -> Result<Arc<AgentSockets>, Memory>
         ensures { self.new.faults ≡ self.old.faults }
     {
-        let (doors, unnamed) = bound.part(alloc);
+        let (sockets, unnamed) = bound.part(alloc);
         self.unnamed = unnamed;
-        let doors = doors?;
-        self.doors = Some(one_more(&doors)?);
-        Ok(doors)
+        let sockets = sockets?;
+        self.sockets = Some(one_more(&sockets)?);
+        Ok(sockets)
     }
 
     /// Counts a fault, except out of memory.
@@ -352,7 +367,8 @@ impl<
         config: &Config,
     ) -> Result<Parts<RealHost<R>>, EdgeFault> {
         let outlook = self.begin(alloc, config)?;
-        let upkeep = match make_upkeep(&self.rt, alloc, config, &outlook) {
+        let targets = Targets::start(alloc, config.poll_seconds)?;
+        let upkeep = match make_upkeep(&self.rt, alloc, config, &outlook, &targets) {
             Ok(upkeep) => upkeep,
             Err(fault) => return Err(self.count(fault)),
         };
@@ -379,8 +395,10 @@ impl<
             }
         };
         let Seats { bound, .. } = maker;
-        let doors = self.keep(alloc, bound)?;
-        let gate = make_gate(&self.rt, config, &outlook, &self.stop, &self.log, &doors)?;
+        let sockets = self.keep(alloc, bound)?;
+        let file = self.file.take();
+        let (rt, stop) = (&self.rt, &self.stop);
+        let gate = make_gate(rt, config, &outlook, stop, &sockets, targets, file)?;
         Ok(Parts {
             upkeep,
             gate,
@@ -392,9 +410,12 @@ impl<
 
     fn open(&mut self, alloc: Global) -> Result<(), EdgeFault> {
         let unnamed = mem::replace(&mut self.unnamed, Vec::new(alloc));
-        match open_all(&self.rt, alloc, unnamed, &self.log) {
-            Ok(()) => Ok(()),
-            Err(fault) => Err(self.count(fault)),
+        if let Err(fault) = open_all(&self.rt, alloc, unnamed, &self.log) {
+            return Err(self.count(fault));
         }
+        if let Some(sockets) = &self.sockets {
+            sockets.say_open_to_all(alloc, &self.log);
+        }
+        Ok(())
     }
 }

@@ -46,7 +46,7 @@ pub(crate) fn text_of(alloc: Global, path: &Octets) -> Result<String, EdgeFault>
 }
 
 /// Who may open the socket's file.
-fn guard_of(guard: SocketGuard) -> Guard
+pub(crate) fn guard_of(guard: SocketGuard) -> Guard
     ensures owner { result.owner ≡ guard.owner }
     ensures group { result.group ≡ guard.group }
     ensures mode { result.mode ≡ guard.mode }
@@ -59,7 +59,7 @@ fn guard_of(guard: SocketGuard) -> Guard
 }
 
 /// The origin of the callers of the socket of this number.
-fn origin_of(alloc: Global, number: u32, fact: &SocketFact) -> Result<Origin, Memory>
+pub(crate) fn origin_of(alloc: Global, number: u32, fact: &SocketFact) -> Result<Origin, Memory>
     ensures { IfOk result (λ o. o ≡ record { selectors = fact.now.selectors; socket = number; uid = None }) }
 {
     Origin::new(alloc, fact.selectors.copy(alloc)?, number, None)
@@ -97,6 +97,8 @@ fn start_listener(
 fn bind_path<R: Files + Net>(
     rt: &R,
     alloc: Global,
+    number: u32,
+    fact: &SocketFact,
     path: &Octets,
     guard: SocketGuard,
     bound: &mut Bound,
@@ -105,7 +107,7 @@ fn bind_path<R: Files + Net>(
     ensures { IfOk result (λ s. string_bytes s.path ≡ path.now) }
 {
     let text = text_of(alloc, path)?;
-    match bound.bind(rt, alloc, text.as_str(), guard_of(guard)) {
+    match bound.bind(rt, alloc, number, fact, text.as_str(), guard_of(guard)) {
         Ok(socket) => Ok(socket),
         Err(fault) => Err(say_unbound_at(rt, alloc, log, text.as_str(), fault)),
     }
@@ -115,6 +117,8 @@ fn bind_path<R: Files + Net>(
 fn bind_port<R: Files<File = File> + Net<Listener = TcpListener, Stream = TcpStream>>(
     rt: &R,
     alloc: Global,
+    number: u32,
+    fact: &SocketFact,
     text: &Octets,
     address: SocketAddr,
     bound: &mut Bound,
@@ -123,7 +127,7 @@ fn bind_port<R: Files<File = File> + Net<Listener = TcpListener, Stream = TcpStr
     ensures { IfOk result (λ r. string_bytes r.1 ≡ text.now) }
 {
     let name = text_of(alloc, text)?;
-    match bound.bind_port(rt, alloc, address) {
+    match bound.bind_port(rt, alloc, number, fact, address) {
         Ok(port) => Ok((port, name)),
         Err(fault) => Err(say_unbound_port(alloc, log, name.as_str(), fault)),
     }
@@ -149,7 +153,7 @@ fn listen_at<R: Files<File = File> + Net<Listener = TcpListener, Stream = TcpStr
 {
     let added = match &fact.place {
         SocketPlace::Path { path, guard } => {
-            let socket = bind_path(rt, alloc, path, *guard, bound, log)?;
+            let socket = bind_path(rt, alloc, origin.socket, fact, path, *guard, bound, log)?;
             listener.add(socket, origin, fact.connections)
         }
         SocketPlace::Loopback {
@@ -157,7 +161,8 @@ fn listen_at<R: Files<File = File> + Net<Listener = TcpListener, Stream = TcpStr
             address,
             connections_per_uid,
         } => {
-            let (port, name) = bind_port(rt, alloc, text, *address, bound, log)?;
+            let number = origin.socket;
+            let (port, name) = bind_port(rt, alloc, number, fact, text, *address, bound, log)?;
             listener.add_loopback(port, name, origin, fact.connections, *connections_per_uid)
         }
     };
@@ -215,7 +220,7 @@ fn listen_for_readers_at_path<R: Files + Net>(
         Ok(socket) => socket,
         Err(fault) => return Err(say_unbound_at(rt, alloc, log, text.as_str(), fault)),
     };
-    let door = Door::new(text, PAGES_GUARD, socket.file);
+    let door = Door::new(text, socket.file);
     match listener.add(socket, origin, PAGES_CONNECTIONS) {
         Ok(()) => Ok((listener, door)),
         Err(_) => Err(EdgeFault::Failed),

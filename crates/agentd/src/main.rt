@@ -5,6 +5,8 @@
 //! command why it ended with a status but 0.
 #![tactic(auto)]
 
+mod agent_socket;
+mod agent_sockets;
 mod bells;
 mod bound;
 mod documents;
@@ -16,15 +18,18 @@ mod lazy_file;
 mod listening;
 mod mending;
 mod owners;
+mod rereading;
 mod running;
 mod seats;
 mod settings;
 mod signers;
+mod targets;
 mod threads;
 
 use crate::ending::{explain_end, say_end};
 use crate::host::RealHost;
 use crate::lazy_file::LazyFile;
+use crate::rereading::{ConfigFile, FileMark};
 use crate::running::serve_here;
 use crate::settings::DEFAULT_LEVEL;
 use crate::threads::has_threads;
@@ -61,18 +66,19 @@ fn start_log(rt: &HostRuntime, alloc: Global) -> Result<Arc<Log>, Memory> {
     Arc::new(alloc, Log::start(own, DEFAULT_LEVEL)).map_err(|_| Memory)
 }
 
-/// The real host, which has this log.
+/// The real host, which has this log, and reads this configuration again where there is one.
 fn start_host(
     rt: &HostRuntime,
     alloc: Global,
     log: &Arc<Log>,
+    file: Option<ConfigFile>,
 ) -> Result<RealHost<HostRuntime>, Memory> {
     let own = rt.clone().map_err(|_| Memory)?;
     let log = Arc::try_clone(log).map_err(|_| Memory)?;
-    RealHost::start(own, alloc, log)
+    RealHost::start(own, alloc, log, file)
 }
 
-/// Serves by the configuration that this source has. The log says why it ended.
+/// Serves by the configuration that this source has, and by this file where that is read again. The log says why it ended.
 fn serve_by(
     rt: &HostRuntime,
     threads: &(impl Threads + Wait + Sync),
@@ -80,8 +86,9 @@ fn serve_by(
     configuration: impl Source + Drop,
     words: &[String],
     log: &Arc<Log>,
+    file: Option<ConfigFile>,
 ) -> u8 {
-    let Ok(binder) = start_host(rt, alloc, log) else {
+    let Ok(binder) = start_host(rt, alloc, log, file) else {
         return without_memory(rt, alloc);
     };
     let mut host = Host {
@@ -97,7 +104,8 @@ fn serve_by(
     status
 }
 
-/// Serves by the configuration in this file, which is read once. Where the threads that it needs can't be had, nothing is bound.
+/// Serves by the configuration in this file, which is read again once it changes. Where the threads that it needs can't be had,
+/// nothing is bound.
 fn serve_file(
     rt: &HostRuntime,
     threads: &(impl Threads + Wait + Sync),
@@ -108,19 +116,23 @@ fn serve_file(
     let Ok(log) = start_log(rt, alloc) else {
         return without_memory(rt, alloc);
     };
+    let mark = FileMark::at(rt, path).ok();
     let mut file = RealSource::start(LazyFile::start(rt, path));
     let Ok(configuration) = read_all(alloc, &mut file, READ_LIMIT) else {
         // serving fails at the same, and says so
         let again = RealSource::start(LazyFile::start(rt, path));
-        return serve_by(rt, threads, alloc, again, words, &log);
+        return serve_by(rt, threads, alloc, again, words, &log, None);
     };
     if !has_threads(threads, rt, alloc, configuration.as_slice()) {
         log.say(&Event::NoThread);
         say_end(&log, alloc, HOST_FAILED, &[], false);
         return HOST_FAILED;
     }
+    let Ok(file) = ConfigFile::start(alloc, path, mark, configuration.as_slice()) else {
+        return without_memory(rt, alloc);
+    };
     let source = RealSource::start(configuration.as_slice());
-    serve_by(rt, threads, alloc, source, words, &log)
+    serve_by(rt, threads, alloc, source, words, &log, file)
 }
 
 /// Runs a command on standard input, and writes why it ended.
@@ -133,7 +145,7 @@ fn run_on_input(
     let Ok(log) = start_log(rt, alloc) else {
         return without_memory(rt, alloc);
     };
-    let Ok(binder) = start_host(rt, alloc, &log) else {
+    let Ok(binder) = start_host(rt, alloc, &log, None) else {
         return without_memory(rt, alloc);
     };
     let mut host = Host {

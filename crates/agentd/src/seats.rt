@@ -15,8 +15,8 @@ use std::fs::{File, Files};
 use std::net::{Net, TcpListener, TcpStream};
 use std::rt::Clock;
 use std::sync::Arc;
-use wl_config::{ConnectionLimits, SocketAttestor, SocketFact};
-use wl_dealing::{deal, room_of};
+use wl_config::{ConnectionLimits, MAX_ALL_CONNECTIONS, SocketAttestor, SocketFact};
+use wl_dealing::deal;
 use wl_edge::{EdgeFault, Listener};
 use wl_edge_real::{BoundAt, Limits, RealBell, RealClock, RealListener, RealReady, Stop};
 use wl_octets::Memory;
@@ -68,21 +68,21 @@ fn limits_of(limits: ConnectionLimits) -> Limits {
 }
 
 impl<'a, R> Seats<'a, R> {
-    /// Keeps the doors of the seat with this listener, whose bell has a second owner now.
+    /// Keeps the seat with this listener, whose bell has a second owner now.
     fn share_bell(
         &mut self,
         alloc: Global,
         listener: &RealListener,
         bell: RealBell,
     ) -> Result<SharedBell, Memory> {
-        let Ok(replacements) = listener.share_replacements() else {
+        let Ok(changes) = listener.share_changes() else {
             return Err(Memory);
         };
         let Ok(bell) = Arc::new(alloc, bell) else {
             return Err(Memory);
         };
         let shared = SharedBell::share(&bell)?;
-        self.bound.end_seat(alloc, replacements, bell)?;
+        self.bound.keep_seat(changes, bell)?;
         Ok(shared)
     }
 }
@@ -138,7 +138,8 @@ impl<
             pass: None,
             end: None,
             ready,
-            room: room_of(dealt.as_slice()),
+            // its listener bounds what each socket serves at once, and may get more sockets
+            room: MAX_ALL_CONNECTIONS,
             starved: 0,
             budget: u64::from(self.limits.memory_mib) * MIB,
         };

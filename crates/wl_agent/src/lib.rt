@@ -18,5 +18,6 @@ mod unfit;
 
 pub use program::READ_LIMIT;
 pub use serve::{Host, config_path, run};
+pub use serve_ends::line_of_config_fault;
 pub use unfit::refusal;
 pub use wl_serve::{Binder, Parts};

@@ -62,9 +62,9 @@ fn put_config_fault(out: &mut Vec<u8>, fault: ConfigFault) -> Result<(), Memory>
     }
 }
 
-/// The line of a configuration's fault.
+/// The line of a configuration's fault, with its end of line.
 #[tactic(auto, unfolding(fault_laws::specs::Lines::config_line))]
-fn line_of_config_fault(alloc: Global, fault: ConfigFault) -> Result<Octets, Memory>
+pub fn line_of_config_fault(alloc: Global, fault: ConfigFault) -> Result<Octets, Memory>
     ensures { IfOk result (λ o. o ≡ config_line fault) }
 {
     let mut out = Vec::new(alloc);

@@ -83,6 +83,19 @@ pub struct SocketFact {
     pub selectors: Selectors,
 }
 
+impl SocketFact {
+    /// A copy.
+    pub fn copy(&self, alloc: Global) -> Result<SocketFact, Memory>
+        ensures { IfOk result (λ f. f ≡ self.now) }
+    {
+        Ok(SocketFact {
+            place: self.place.copy(alloc)?,
+            connections: self.connections,
+            selectors: self.selectors.copy(alloc)?,
+        })
+    }
+}
+
 /// Where documents come from.
 #[derive(Drop, PartialEq)]
 pub enum DocumentSource {
