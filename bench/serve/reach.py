@@ -184,4 +184,5 @@ def main():
     print(f"| and beside a greedy caller of another socket of its thread | {greedy:.0f} us, {greedy / alone:.2f} times |")
 
 
-main()
+if __name__ == "__main__":
+    main()
