@@ -243,7 +243,7 @@ impl AgentSocket {
         }
     }
 
-    /// Has the seat's listener close it, and removes its file. Its connections end once they have what is unsent. Out of memory all is
+    /// Has the seat's listener close it, and removes its file. Nothing more is read of its connections, which end once they have what is unsent. Out of memory all is
     /// as it was.
     pub(crate) fn close(
         &self,

@@ -141,7 +141,7 @@ impl Changes {
         self.push(Change::Replace(Replacement { number, listener }))
     }
 
-    /// Has the socket of this number closed. Links that came over it end once nothing comes of them and nothing is unsent.
+    /// Has the socket of this number closed. Nothing more is read of links that came over it, and each ends once nothing of it is unsent.
     pub fn close(&self, number: u32) -> Result<(), Memory> {
         self.push(Change::Close(number))
     }

@@ -272,8 +272,8 @@ fn is_closing(held: &Option<Held>) -> bool {
     }
 }
 
-/// What a receive answers. After a stop was asked for, or its socket was closed, one that finds nothing is the last; after an urgent
-/// stop nothing is read, and nothing of a link that was given up.
+/// What a receive answers. After a stop was asked for one that finds nothing is the last. After an urgent one nothing is read, nor once
+/// its socket was closed: a caller that goes on sending has no more calls. Nothing is read of a link that was given up.
 fn receive_until(
     stop: &Option<Arc<Stop>>,
     held: &Option<Held>,
@@ -286,14 +286,14 @@ fn receive_until(
     ensures got { stream.new.got.list ≡ stream.old.got.list ++ piece_of (heard_of result into.new) }
     ensures put { stream.new.put ≡ stream.old.put }
 {
-    if is_urgent(stop) {
+    if is_urgent(stop) || is_closing(held) {
         return Received::End;
     }
     if lateness(watch).is_some() {
         return Received::Failed;
     }
     match answer_of(stream.read(into)) {
-        Received::Idle if is_asked(stop) || is_closing(held) => Received::End,
+        Received::Idle if is_asked(stop) => Received::End,
         answer => answer,
     }
 }
