@@ -22,7 +22,7 @@ COMMENT = r"^\s*(?://[/!]?|--)(.*)$"
 OLD_PAGES = {"CHANGELOG.md"}
 # statements of lemmas, of so many letters at least, that stand in more than one place: no more than so many are left
 STATEMENT_LETTERS = 60
-REPEATED = 23
+REPEATED = 12
 faults = []
 
 

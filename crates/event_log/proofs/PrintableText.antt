@@ -50,7 +50,7 @@ digit_printed : (n : ℕ) → n < 16 → is_printed (hex_digit n) ≡ true
 unfolding hex_digit
 digit_printed n h = grind arith
 
-both_true : (c d : Bool) → c ≡ true → d ≡ true → (c && (d && true)) ≡ true
+pub both_true : (c d : Bool) → c ≡ true → d ≡ true → (c && (d && true)) ≡ true
 both_true c d h k = grind arith
 
 one_true : (c : Bool) → c ≡ true → (c && true) ≡ true
@@ -286,7 +286,7 @@ unsigned_printed entry cause =
     printed_append (text_field (codes "entry") entry) (sign_fields cause)
     (text_field_printed (codes "entry") entry refl) (sign_fields_printed cause)
 
-number_below : (key : List ℕ) (n : ℕ) → are_printed key ≡ true → nat_lt n (2 ^ 64) ≡ true → are_printed (number_field key n) ≡ true
+pub number_below : (key : List ℕ) (n : ℕ) → are_printed key ≡ true → nat_lt n (2 ^ 64) ≡ true → are_printed (number_field key n) ≡ true
 number_below key n h small = number_field_printed key n h (below n small)
 
 first_true : (c d : Bool) → (c && d) ≡ true → c ≡ true

@@ -1,4 +1,5 @@
-mod Says
+mod Common
+mod Sentences
 mod NoQuestionMarks
 mod NamedFaults
 mod Steps

@@ -1,20 +1,16 @@
 -- The first fault of a configuration is at a member that has a name.
 use Rattle.std.specs.Prelude.{◌≡◌, ℕ, ◌+◌, ◌==◌, ◌||◌, Bool, nat_lt, List, [], ◌∷◌, ◌++◌, length, flat_map, codes, Option, Some, None, Result, Ok, Err}
 use Rattle.std.proofs.Common.{refl, subst}
-use Rattle.serde_json.specs.Data.{Data}
-use Rattle.serde_json.specs.Find.{get}
+use Rattle.fault_laws.proofs.Common.{Data, get, or_fault, required, object_at, text_at, number_at, array_at, Place, ConfigFault, AreBounded, config_numbers, IsNamed, config_says}
 use Rattle.wl_selector.specs.declared.faults.SelectorFault.{SelectorFault}
 use Rattle.wl_selector.specs.Selectors.{selector_fault}
 use Rattle.list_laws.specs.Results.{◌>>=◌}
-use Rattle.json_members.specs.Members.{or_fault, required, object_at, text_at, number_at, array_at}
 use Rattle.json_members.specs.Arrays.{at_end}
 use Rattle.json_members.specs.Texts.{value_of}
 use Rattle.wl_document.specs.Places.{at_top, item_at}
-use Rattle.wl_document.specs.declared.fault.Place.{Place}
 use Rattle.wl_config.specs.declared.config.SocketFact.{SocketFact}
 use Rattle.wl_config.specs.declared.config.DocumentSource.TheVariants.{Socket, File}
 use Rattle.wl_config.specs.declared.config.LogLevel.TheVariants as log
-use Rattle.wl_config.specs.declared.fault.ConfigFault.{ConfigFault}
 use Rattle.wl_config.specs.declared.fault.ConfigFault.TheVariants as fault
 use Rattle.wl_config.specs.declared.limits.TheConstants.{CONFIG_LIMIT, MAX_SOCKETS, MAX_SOCKET_ITEMS, MAX_POLL_SECONDS, DEFAULT_POLL_SECONDS, MAX_SIGNERS, DEFAULT_SIGNERS, MAX_THREADS, DEFAULT_THREADS, MAX_LIMIT_SECONDS, DEFAULT_STALL_SECONDS, DEFAULT_OPENING_SECONDS, MIN_MEMORY_MIB, MAX_MEMORY_MIB, DEFAULT_MEMORY_MIB, MAX_SOCKET_SELECTORS, MAX_CONNECTIONS, DEFAULT_CONNECTIONS, DEFAULT_MODE, MAX_ID}
 use Rattle.wl_config.specs.Places.{at_socket}
@@ -28,9 +24,6 @@ use Rattle.wl_config.specs.Endpoints.{loopback_place_of, tcp_endpoint_of, endpoi
 use Rattle.wl_config.specs.Sockets.{says_workers, connections_of, selector_of, selector_list_of, texts_of, some_plain, socket_of, sockets_of}
 use Rattle.wl_config.specs.Configs.{Configuration, version_of, source_by, source_of, signer_of, suppliers_of, poll_seconds_of, signers_of, threads_of, stall_seconds_of, opening_seconds_of, memory_mib_of, limits_of, level_of, level_at, log_of, metrics_by, metrics_at, metrics_of, manner_of, config_sockets_of, config_of, configuration_of}
 use Rattle.fault_lines.specs.Names.{config_place, config_member, socket_member}
-use Rattle.fault_lines.specs.Lines.{AreBounded}
-use Rattle.fault_laws.specs.Lines.{config_numbers}
-use Rattle.fault_laws.specs.Sentences.{IsNamed, config_says}
 use Rattle.fault_laws.proofs.Steps.{FailsBy, next, either, needed, maybe, each, member, object, text, number, array}
 use Rattle.fault_laws.proofs.NoQuestionMarks.{item_named}
 use Rattle.fault_laws.proofs.NamedFaults.{InConfig, ConfigurationFault, config_named}

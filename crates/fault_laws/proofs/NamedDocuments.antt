@@ -2,19 +2,14 @@
 use Rattle.std.specs.Prelude.{◌≡◌, ℕ, ◌==◌, ◌||◌, Bool, nat_lt, List, [], length, codes, Option, Some, None, Result, Ok, Err}
 use Rattle.std.specs.Str.{bytes_eq}
 use Rattle.std.proofs.Common.{refl, subst}
-use Rattle.serde_json.specs.Data.{Data}
-use Rattle.serde_json.specs.Find.{get}
-use Rattle.spiffe_id.specs.declared.faults.IdFault.{IdFault}
+use Rattle.fault_laws.proofs.Common.{Data, get, IdFault, Place, DocFault, or_fault, required, object_at, text_at, number_at, array_at, AreBounded, fault_numbers, IsNamed, document_says}
 use Rattle.spiffe_id.specs.Faults.{domain_fault, id_fault, id_domain}
 use Rattle.wl_selector.specs.declared.faults.SelectorFault.{SelectorFault}
 use Rattle.wl_selector.specs.Selectors.{selector_fault}
 use Rattle.wl_entry.specs.declared.limits.TheConstants.{MAX_PART_LEN, MAX_SELECTORS, MAX_FEDERATED, MAX_DNS_NAMES, MAX_HINT_LEN, MAX_ENTRIES, MAX_BUNDLES}
 use Rattle.wl_document.specs.declared.limits.TheConstants.{DOCUMENT_LIMIT, MAX_SVIDS, MAX_DNS_NAME_LEN, MAX_TTL, DEFAULT_TTL}
-use Rattle.wl_document.specs.declared.fault.Place.{Place}
-use Rattle.wl_document.specs.declared.fault.DocFault.{DocFault}
 use Rattle.wl_document.specs.declared.fault.DocFault.TheVariants as fault
 use Rattle.wl_document.specs.Places.{at_top, at_bundle, at_entry, at_svid, item_at}
-use Rattle.json_members.specs.Members.{or_fault, required, object_at, text_at, number_at, array_at}
 use Rattle.json_members.specs.Arrays.{at_end}
 use Rattle.json_members.specs.Texts.{value_of}
 use Rattle.wl_document.specs.Checks.{decoded, no_id_fault, no_selector_fault}
@@ -28,9 +23,6 @@ use Rattle.wl_document.specs.States.{State}
 use Rattle.wl_entry.specs.Keys.{bundle_key, entry_key}
 use Rattle.sorted_lists.specs.Keys as keys
 use Rattle.fault_lines.specs.Names.{document_place, document_member, bundle_member, entry_member, svid_member}
-use Rattle.fault_lines.specs.Lines.{AreBounded}
-use Rattle.wl_replay.specs.Faults.{fault_numbers}
-use Rattle.fault_laws.specs.Sentences.{IsNamed, document_says}
 use Rattle.fault_laws.proofs.Steps.{FailsBy, next, either, needed, maybe, each, member, object, text, number, array}
 use Rattle.fault_laws.proofs.NoQuestionMarks.{item_named}
 use Rattle.fault_laws.proofs.NamedFaults.{InDocument, DocumentFault, document_named}

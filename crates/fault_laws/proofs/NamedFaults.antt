@@ -1,20 +1,15 @@
 -- The sentence of a fault at a member that has a name.
 use Rattle.std.specs.Prelude.{⊤, ℕ, ◌<◌, ◌^◌, List, ◌++◌, codes}
 use Rattle.std.proofs.Common.{refl}
-use Rattle.spiffe_id.specs.declared.faults.IdFault.{IdFault}
+use Rattle.fault_laws.proofs.Common.{IdFault, AreBounded, told_at, Place, DocFault, ConfigFault, fault_numbers, config_numbers, IsNamed, document_says, config_says, item, id_item}
 use Rattle.spiffe_id.specs.declared.faults.IdFault.TheVariants as id
-use Rattle.fault_lines.specs.Lines.{AreBounded}
-use Rattle.fault_lines.specs.Sentences.{place_of, is_list, kind_what, told_at}
+use Rattle.fault_lines.specs.Sentences.{place_of, is_list, kind_what}
 use Rattle.fault_lines.specs.Texts as say
-use Rattle.wl_document.specs.declared.fault.Place.{Place}
-use Rattle.wl_document.specs.declared.fault.DocFault.{DocFault}
 use Rattle.wl_document.specs.declared.fault.DocFault.TheVariants as document
-use Rattle.wl_config.specs.declared.fault.ConfigFault.{ConfigFault}
 use Rattle.wl_config.specs.declared.fault.ConfigFault.TheVariants as config
-use Rattle.wl_replay.specs.Faults.{fault_numbers, id_numbers}
-use Rattle.fault_laws.specs.Lines.{config_numbers}
-use Rattle.fault_laws.specs.Sentences.{IsNamed, document_says, config_says, name_in_document, name_in_config, item, later_item, id_item, id_says, kind_says}
-use Rattle.fault_laws.proofs.NoQuestionMarks.{told, around, bracketed, later, of_id, kind}
+use Rattle.wl_replay.specs.Faults.{id_numbers}
+use Rattle.fault_laws.specs.Sentences.{name_in_document, name_in_config, later_item, id_says, kind_says}
+use Rattle.fault_laws.proofs.NoQuestionMarks.{told, around, bracketed, later, of_id, chosen}
 
 -- the member has a name
 abbrev pub InDocument : Place → Type 0
@@ -53,7 +48,7 @@ ConfigurationFault config.Memory = ⊤
 
 kind_named : (p : Place) → IsNamed (kind_says p)
 unfolding kind_what
-kind_named p = kind (is_list (place_of p.part p.index p.field p.item)) say.wrong_list say.wrong_kind refl refl
+kind_named p = chosen (is_list (place_of p.part p.index p.field p.item)) say.wrong_list say.wrong_kind refl refl
 
 id_named : (e : IdFault) → AreBounded (id_numbers e) → IsNamed (id_says e)
 unfolding id_numbers

@@ -6,9 +6,8 @@ use Rattle.std.proofs.lemmas.Bool.Decides.{nat_tests}
 use Rattle.std.proofs.lemmas.List.Folds.{list_all-append}
 use Rattle.std.proofs.lemmas.Fmt.{decimal_by_steps}
 use Rattle.fault_lines.specs.Names.{item_name}
-use Rattle.fault_lines.specs.Sentences.{told_at}
-use Rattle.wl_document.specs.declared.fault.Place.{Place}
-use Rattle.fault_laws.specs.Sentences.{IsNamed, item, later_item, id_item}
+use Rattle.fault_laws.proofs.Common.{told_at, Place, IsNamed, item, id_item}
+use Rattle.fault_laws.specs.Sentences.{later_item}
 
 pub joined : (a b : List ℕ) → IsNamed a → IsNamed b → IsNamed (a ++ b)
 joined a b first second = list_all-append (λ b. not (b == 63)) a b ∙ ap₂ (λ x y. x && y) first second
@@ -33,7 +32,7 @@ item_named array member index front behind fits =
 pub bracketed : (p : Place) → p.item < 2 ^ 64 → IsNamed (item p)
 bracketed p fits = around (codes "[") (codes "]") p.item refl refl fits
 
-chosen : (b : Bool) (x y : List ℕ) → IsNamed x → IsNamed y → IsNamed (if b then x else y)
+pub chosen : (b : Bool) (x y : List ℕ) → IsNamed x → IsNamed y → IsNamed (if b then x else y)
 chosen true x y first second = first
 chosen false x y first second = second
 
@@ -42,9 +41,6 @@ later p fits = chosen (not (p.item == 0)) (item p) [] (bracketed p fits) refl
 
 pub of_id : (p : Place) → p.item < 2 ^ 64 → IsNamed (id_item p)
 of_id p fits = chosen ((p.part == 2) && (p.field == 4)) (item p) (later_item p) (bracketed p fits) (later p fits)
-
-pub kind : (b : Bool) (x y : List ℕ) → IsNamed x → IsNamed y → IsNamed (if b then x else y)
-kind b x y first second = chosen b x y first second
 
 pub told : (member suffix what : List ℕ) → IsNamed member → IsNamed suffix → IsNamed what → IsNamed (told_at (member ++ suffix) what)
 told member suffix what first second third =

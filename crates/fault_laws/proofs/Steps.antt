@@ -1,10 +1,10 @@
 -- Steps of a reader: where the fault of each step is at a member that has a name, so is that of the whole. P says this of a
 -- fault.
 use Rattle.std.specs.Prelude.{⊤, ℕ, ◌+◌, Bool, true, false, if◌then◌else◌, List, [], ◌∷◌, Option, Some, None, option_and_then, Result, Ok, Err}
-use Rattle.serde_json.specs.Data.{Data}
-use Rattle.serde_json.specs.Find.{get, as_object, as_str, as_number, as_u64, as_array}
+use Rattle.fault_laws.proofs.Common.{Data, get, or_fault, required, object_at, text_at, number_at, array_at}
+use Rattle.serde_json.specs.Find.{as_object, as_str, as_number, as_u64, as_array}
 use Rattle.list_laws.specs.Results.{◌>>=◌}
-use Rattle.json_members.specs.Members.{or_fault, required, optional, object_at, text_at, number_at, list_items, array_at}
+use Rattle.json_members.specs.Members.{optional, list_items}
 use Rattle.json_members.specs.Arrays.{each_from}
 
 abbrev pub FailsBy : {F A : Type 0} → (F → Type 0) → Result A F → Type 0

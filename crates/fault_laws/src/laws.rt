@@ -14,7 +14,7 @@ ghost use Rattle.fault_laws.specs.Sentences.{document_says, config_says, script_
 
 /// The line of each fault is explained by the sentence of that very fault. Its numbers are below 2^64, as those of any value
 /// of its type.
-#[tactic(auto, using(crate::proofs::Says::document_said, crate::proofs::Says::config_said, crate::proofs::Says::script_said))]
+#[tactic(auto, using(crate::proofs::Sentences::document_said, crate::proofs::Sentences::config_said, crate::proofs::Sentences::script_said))]
 pub fn fault_lines_are_explained()
     ensures document { (e : DocFault) → AreBounded (fault_numbers e) → explained_text (fault_line e) ≡ document_says e ++ 10 ∷ [] }
     ensures config { (e : ConfigFault) → AreBounded (config_numbers e) → explained_text (config_line e) ≡ config_says e ++ 10 ∷ [] }

@@ -3,30 +3,17 @@ use Rattle.std.proofs.Common.{◌≡◌, ℕ, ◌+◌, ◌==◌, ◌∙◌, Bool
 use Rattle.std.specs.List.{list_any, AllByRecursion}
 use Rattle.std.proofs.lemmas.Bool.{cases_Bool}
 use Rattle.std.proofs.lemmas.Int.{ints}
-use Rattle.list_laws.proofs.Elements.{all_filter, all_append}
-use Rattle.wl_octets.specs.declared.header.Header.{Header}
+use Rattle.h2_conn.proofs.Common.{all_filter, Header, REFUSED_STREAM, Body, Bytes, Headers, Priority, Reset, Settings, SettingsAck, PushPromise, Ping, GoAway, WindowUpdate, Continuation, Unknown, Frame, Setting, Out, RisesFrom, is_number, update_stream, new_stream, with_stream, with_control, with_size_update, has_size_update, with_step, set_initial_window, rises_from, ConnFault, Happening, State, OpenBlock, is_live, is_local_closed, with_remote_closed, Outcome, goes, fails, fault, with_control_frame, without_live_stream, stream_error, request_ends, with_window, is_idle, has_come, is_frame_size, after_table_size, set_one, after_setting, set_all, set_frame, peer, kind_rows, settings_rows, window_rows, Sound}
+use Rattle.list_laws.proofs.Elements.{all_append}
 use Rattle.h2_wire.specs.declared.limit.TheConstants.{MAX_WINDOW_SIZE, INITIAL_HEADER_TABLE_SIZE}
-use Rattle.h2_wire.specs.declared.error_code.TheConstants.{PROTOCOL_ERROR, FLOW_CONTROL_ERROR, REFUSED_STREAM}
+use Rattle.h2_wire.specs.declared.error_code.TheConstants.{PROTOCOL_ERROR, FLOW_CONTROL_ERROR}
 use Rattle.h2_wire.specs.declared.setting.TheConstants as setting
-use Rattle.h2_frame.specs.declared.frame.Body.{Body}
-use Rattle.h2_frame.specs.declared.frame.Body.TheVariants.{Bytes, Headers, Priority, Reset, Settings, SettingsAck, PushPromise, Ping, GoAway, WindowUpdate, Continuation, Unknown}
-use Rattle.h2_frame.specs.declared.frame.Frame.{Frame}
-use Rattle.h2_frame.specs.declared.frame.Setting.{Setting}
 use Rattle.h2_flow.specs.declared.stream.Stream as flow
-use Rattle.h2_flow.specs.Outboxes.{Out, RisesFrom, is_number, numbers, update_stream, new_stream, with_stream, without_stream, with_control, with_size_update, has_size_update, credit_of, with_step, with_connection_step, with_stream_step, first_over, with_initial, set_initial_window}
+use Rattle.h2_flow.specs.Outboxes.{numbers, without_stream, credit_of, with_connection_step, with_stream_step, first_over, with_initial}
 use Rattle.h2_flow.specs.Windows.{window_of}
-use Rattle.h2_flow.proofs.Orders.{rises_from}
 use Rattle.h2_conn.specs.declared.fault.ConnCause.TheVariants as cause
-use Rattle.h2_conn.specs.declared.fault.ConnFault.{ConnFault}
-use Rattle.h2_conn.specs.declared.happening.Happening.{Happening}
 use Rattle.h2_conn.specs.declared.happening.Happening.TheVariants as happening
 use Rattle.h2_conn.specs.declared.limits.TheConstants.{MAX_SETTINGS}
-use Rattle.h2_conn.specs.declared.state.State.{State}
-use Rattle.h2_conn.specs.declared.state.OpenBlock.{OpenBlock}
-use Rattle.h2_conn.specs.Streams.{is_live, is_local_closed, with_remote_closed}
-use Rattle.h2_conn.specs.Peer.{Outcome, goes, fails, fault, with_control_frame, without_live_stream, stream_error, request_ends, with_window, is_idle, has_come, is_frame_size, after_table_size, set_one, after_setting, set_all, set_frame, peer}
-use Rattle.h2_conn.specs.Kinds.{kind_rows, settings_rows, window_rows}
-use Rattle.h2_conn.specs.Sound.{Sound}
 use Rattle.h2_conn.specs.Windows.{window_step, initial_in, initial_of}
 use Rattle.h2_conn.proofs.Choice.{peer_is}
 use Rattle.h2_conn.proofs.Walk.{at_cond, Rows, Any, any_open, at_row, at_if, at_guards, at_data, at_head, at_resets, at_ping, at_continuation}

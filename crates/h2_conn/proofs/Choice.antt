@@ -1,18 +1,11 @@
 -- The table is the rows of each kind, after those of all kinds.
 use Rattle.std.proofs.Common.{◌≡◌, ℕ, ◌∙◌, true, false, List, Option, Some, None, Result, Ok, Err, refl, ap}
-use Rattle.wl_octets.specs.declared.header.Header.{Header}
-use Rattle.hpack.specs.declared.fault.HpackFault.{HpackFault}
-use Rattle.hpack.specs.Decoding.{Standing}
-use Rattle.h2_frame.specs.declared.frame.Body.{Body}
-use Rattle.h2_frame.specs.declared.frame.Body.TheVariants.{Bytes, Headers, Priority, Reset, Settings, SettingsAck, PushPromise, Ping, GoAway, WindowUpdate, Continuation, Unknown}
-use Rattle.h2_frame.specs.declared.frame.Frame.{Frame}
+use Rattle.h2_conn.proofs.Common.{Header, HpackFault, Standing, Body, Bytes, Headers, Priority, Reset, Settings, SettingsAck, PushPromise, Ping, GoAway, WindowUpdate, Continuation, Unknown, Frame, Happening, State, Outcome, fault, nothing, or_else, peer, BlockFragment, first_fragment, next_fragment, grows, decoding, with_decoder, closed_stream_row, ended_stream_row, guard_rows, kind_rows, header_list_rows, fragment_rows}
 use Rattle.h2_conn.specs.declared.fault.ConnCause.TheVariants as cause
 use Rattle.h2_conn.specs.declared.fault.ConnError.{ConnError}
 use Rattle.h2_conn.specs.declared.fault.ConnError.TheVariants as refusal
-use Rattle.h2_conn.specs.declared.happening.Happening.{Happening}
-use Rattle.h2_conn.specs.declared.state.State.{State}
-use Rattle.h2_conn.specs.Peer.{Outcome, fault, nothing, or_else, first_row, table, peer, even_stream, continuation_flood, BlockFragment, first_fragment, next_fragment, if_fragment, too_long, grows, is_wrong, if_wrong, if_right, with_headers, decoding, with_decoder, new_head_row, closed_stream_row, ended_stream_row, trailers_row}
-use Rattle.h2_conn.specs.Kinds.{Steps, guard_rows, Guards, kind_rows, header_list_rows, fragment_rows}
+use Rattle.h2_conn.specs.Peer.{first_row, table, even_stream, continuation_flood, if_fragment, too_long, is_wrong, if_wrong, if_right, with_headers, new_head_row, trailers_row}
+use Rattle.h2_conn.specs.Kinds.{Steps, Guards}
 
 -- the rows of a whole block, in the order in which a decoding decides
 abbrev whole_chain : State → BlockFragment → Result (List Header) HpackFault → Standing → Outcome

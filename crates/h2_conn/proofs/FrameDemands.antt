@@ -5,8 +5,7 @@ use Rattle.std.specs.List.{AllByRecursion}
 use Rattle.std.proofs.lemmas.Bool.{ltb-false}
 use Rattle.h2_frame.specs.declared.fault.FrameFault.{FrameFault}
 use Rattle.h2_frame.specs.declared.fault.FrameFault.TheVariants as faults
-use Rattle.h2_frame.specs.declared.frame.Body.{Body}
-use Rattle.h2_frame.specs.declared.frame.Body.TheVariants.{Bytes, Headers, Settings, SettingsAck, WindowUpdate, Continuation, Unknown}
+use Rattle.h2_conn.proofs.Common.{Body, Bytes, Headers, Settings, SettingsAck, WindowUpdate, Continuation, Unknown}
 use Rattle.h2_frame.specs.declared.head.Head.{Head}
 use Rattle.h2_frame.specs.Heads.{has_flag, front_of, head_of, is_wrong_length}
 use Rattle.h2_frame.specs.Payloads.{content_of, with_content, settings_of, body_of}

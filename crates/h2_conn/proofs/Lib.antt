@@ -1,3 +1,4 @@
+mod Common
 pub mod Choice
 pub mod Walk
 pub mod Queues

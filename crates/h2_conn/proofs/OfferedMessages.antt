@@ -3,26 +3,16 @@ use Rattle.std.proofs.Common.{◌≡◌, ℕ, zero, suc, ◌+◌, ◌==◌, ◌�
 use Rattle.std.specs.Cmp.Lexicographic.{bytes_decides}
 use Rattle.std.specs.List.{AllByRecursion, list_any}
 use Rattle.std.proofs.lemmas.Bool.{cases_Bool}
-use Rattle.list_laws.proofs.Elements.{all_filter}
-use Rattle.wl_octets.specs.declared.header.Header.{Header}
-use Rattle.h2_frame.specs.declared.frame.Body.TheVariants.{Reset}
-use Rattle.h2_frame.specs.declared.frame.Frame.{Frame}
+use Rattle.h2_conn.proofs.Common.{all_filter, Header, Reset, Frame, Out, RisesFrom, is_number, update_stream, with_control, with_head, with_message, without_waiting, with_trailers, new_stream, pull_of, rises_from, Happening, Phase, Open, Failed, OutOfMemory, State, is_live, is_remote_closed, with_local_closed, goes, with_control_frame, without_live_stream, peer, takes, with_head_on, with_trailers_on, with_message_on, without_waiting_on, after_reset, answer_ends, answers_end, ends_reset_count, after_pull, Sound}
 use Rattle.h2_flow.specs.declared.flow.Flow.{Flow}
 use Rattle.h2_flow.specs.declared.stream.Stream as flow
 use Rattle.h2_flow.specs.Windows.{allowed_of}
 use Rattle.h2_flow.specs.Streams.{Turn, headers_turn, data_turn, last_turn, next_turn, body_turn, head_turn, turn}
 use Rattle.h2_flow.specs.Pulls.{Round, round, rounds, all_work, all_rounds}
-use Rattle.h2_flow.specs.Outboxes.{Out, RisesFrom, is_number, is_open, update_stream, without_stream, with_control, with_head, with_offer, with_message, without_waiting, with_trailers, new_stream, pull_of}
-use Rattle.h2_flow.proofs.Orders.{rises_from}
-use Rattle.h2_conn.specs.declared.happening.Happening.{Happening}
+use Rattle.h2_flow.specs.Outboxes.{is_open, without_stream, with_offer}
 use Rattle.h2_conn.specs.declared.happening.Happening.TheVariants as happening
-use Rattle.h2_conn.specs.declared.phase.Phase.{Phase}
-use Rattle.h2_conn.specs.declared.phase.Phase.TheVariants.{Open, Failed, OutOfMemory}
-use Rattle.h2_conn.specs.declared.state.State.{State}
-use Rattle.h2_conn.specs.Streams.{is_live, is_remote_closed, with_local_closed}
-use Rattle.h2_conn.specs.Peer.{goes, with_control_frame, without_live_stream, peer}
-use Rattle.h2_conn.specs.Conns.{takes, with_head_on, with_trailers_on, with_message_on, without_waiting_on, after_reset, on_open, answer_ends, answers_end, ends_reset_count, after_pull, flush_of}
-use Rattle.h2_conn.specs.Sound.{Sound, SoundPhase}
+use Rattle.h2_conn.specs.Conns.{on_open, flush_of}
+use Rattle.h2_conn.specs.Sound.{SoundPhase}
 use Rattle.h2_conn.specs.Holding.{Claim, ClaimOf, ClaimOn, IsHeld, IsSilent, OpensNot, Lasts}
 use Rattle.h2_conn.proofs.Carries.{frame_carries}
 use Rattle.h2_conn.proofs.Walk.{at_cond}

@@ -1,16 +1,11 @@
 -- Laws of a connection.
 use Rattle.std.proofs.Common.{◌≡◌, ℕ, ◌==◌, ◌&&◌, ◌||◌, Bool, true, false, not, cond, List, [], ◌∷◌, refl, ap, ◌∙◌, arith}
 use Rattle.std.proofs.lemmas.Bool.Decides.{nat_tests}
-use Rattle.h2_flow.specs.Outboxes.{PullResult, pull_of, IsQuiet, is_open}
-use Rattle.h2_flow.proofs.Quiet.{pulls_once, removes_quietly}
-use Rattle.h2_conn.specs.declared.fault.ConnFault.{ConnFault}
-use Rattle.h2_conn.specs.declared.phase.Phase.{Phase}
-use Rattle.h2_conn.specs.declared.phase.Phase.TheVariants.{Open, Failed, OutOfMemory}
+use Rattle.h2_conn.proofs.Common.{pull_of, ConnFault, Phase, Open, Failed, OutOfMemory, State, is_live, is_remote_closed, with_local_closed, without_live_stream, with_head_on, with_trailers_on, with_message_on, without_waiting_on, after_reset, answer_ends, answers_end, ends_reset_count, after_pull}
+use Rattle.h2_flow.specs.Outboxes.{PullResult, IsQuiet, is_open}
+use Rattle.h2_flow.proofs.QuietPulls.{pulls_once, removes_quietly}
 use Rattle.h2_conn.specs.declared.phase.Totals.{Totals}
-use Rattle.h2_conn.specs.declared.state.State.{State}
-use Rattle.h2_conn.specs.Streams.{is_live, is_remote_closed, with_local_closed}
-use Rattle.h2_conn.specs.Peer.{without_live_stream}
-use Rattle.h2_conn.specs.Conns.{is_live_on, on_open, with_head_on, with_trailers_on, with_message_on, without_waiting_on, after_reset, answer_ends, answers_end, ends_reset_count, after_pull, flush_of}
+use Rattle.h2_conn.specs.Conns.{is_live_on, on_open, flush_of}
 
 -- ---- two flushes are one
 

@@ -5,32 +5,18 @@ use Rattle.std.proofs.lemmas.Bool.{cases_Bool, ltb-true}
 use Rattle.std.proofs.lemmas.Bool.Decides.{nat_tests}
 use Rattle.std.proofs.lemmas.List.{map-append, length-map}
 use Rattle.std.proofs.lemmas.List.Folds.{list_any-append}
-use Rattle.list_laws.proofs.Elements.{all_filter, all_append}
-use Rattle.wl_octets.specs.declared.header.Header.{Header}
-use Rattle.h2_wire.specs.declared.error_code.TheConstants.{REFUSED_STREAM}
-use Rattle.h2_frame.specs.declared.frame.Body.{Body}
-use Rattle.h2_frame.specs.declared.frame.Body.TheVariants.{Reset, SettingsAck, Ping, WindowUpdate}
-use Rattle.h2_frame.specs.declared.frame.Frame.{Frame}
+use Rattle.h2_conn.proofs.Common.{all_filter, Header, REFUSED_STREAM, Body, Reset, SettingsAck, Ping, WindowUpdate, Frame, Overflow, Out, is_number, RisesFrom, with_stream, with_control, with_size_update, with_step, set_initial_window, with_head, with_message, without_waiting, with_trailers, pull_of, rises_from, ConnFault, Happening, Phase, Open, Failed, OutOfMemory, State, OpenBlock, is_live, is_local_closed, with_remote_closed, with_local_closed, Outcome, goes, fails, fault, with_control_frame, without_live_stream, request_ends, peer, takes, with_head_on, with_trailers_on, with_message_on, without_waiting_on, after_reset, Sound}
+use Rattle.list_laws.proofs.Elements.{all_append}
 use Rattle.h2_frame.specs.Writing.{frame_encoding}
-use Rattle.h2_flow.specs.declared.overflow.Overflow.{Overflow}
 use Rattle.h2_flow.specs.declared.stream.Stream as other
-use Rattle.h2_flow.specs.Outboxes.{Out, has_stream, is_number, RisesFrom, numbers, IsAbove, with_stream, with_control, with_size_update, with_step, set_initial_window, with_head, with_message, without_waiting, with_trailers, pull_of}
-use Rattle.h2_flow.proofs.Orders.{rises_from}
+use Rattle.h2_flow.specs.Outboxes.{has_stream, numbers, IsAbove}
 use Rattle.h2_flow.proofs.Numbers.{KeepsNumbers, numbers_added, numbers_removed, numbers_controlled, numbers_shrunk, numbers_grown, numbers_initialed, numbers_headed, numbers_offered, numbers_withdrawn, numbers_closed, numbers_pulled}
-use Rattle.h2_conn.specs.declared.fault.ConnFault.{ConnFault}
 use Rattle.h2_conn.specs.declared.fault.ConnError.{ConnError}
-use Rattle.h2_conn.specs.declared.happening.Happening.{Happening}
 use Rattle.h2_conn.specs.declared.happening.Happening.TheVariants as happening
-use Rattle.h2_conn.specs.declared.phase.Phase.{Phase}
-use Rattle.h2_conn.specs.declared.phase.Phase.TheVariants.{Open, Failed, OutOfMemory}
-use Rattle.h2_conn.specs.declared.state.State.{State}
-use Rattle.h2_conn.specs.declared.state.OpenBlock.{OpenBlock}
 use Rattle.h2_conn.specs.declared.streams.Stream.{Stream}
-use Rattle.h2_conn.specs.Streams.{is_live, is_local_closed, without, remote_closed_if, with_remote_closed, local_closed_if, with_local_closed}
-use Rattle.h2_conn.specs.Peer.{Outcome, goes, fails, fault, with_control_frame, without_live_stream, request_ends, peer}
+use Rattle.h2_conn.specs.Streams.{without, remote_closed_if, local_closed_if}
 use Rattle.h2_conn.specs.Kinds.{Steps, Fits}
-use Rattle.h2_conn.specs.Conns.{takes, with_head_on, with_trailers_on, with_message_on, without_waiting_on, after_reset}
-use Rattle.h2_conn.specs.Sound.{number_of, IsLow, Ties, Sound, SoundPhase, SoundAfter}
+use Rattle.h2_conn.specs.Sound.{number_of, IsLow, Ties, SoundPhase, SoundAfter}
 use Rattle.h2_conn.specs.Naming.{Names, NamesAfter, NamesOn}
 use Rattle.h2_conn.proofs.Walk.{at_cond, IfOpen, Rows, Windows, Any, are_numbered, walk}
 

@@ -2,26 +2,13 @@
 use Rattle.std.proofs.Common.{◌≡◌, ℕ, ◌+◌, ◌==◌, ◌%◌, ◌∙◌, Bool, true, false, not, cond, ◌&&◌, ◌||◌, nat_lt, List, [], ◌∷◌, ◌++◌, length, count_by, Option, Some, None, Result, Ok, Err, refl, sym, ap, arith, zero-add}
 use Rattle.std.specs.List.{take_while}
 use Rattle.std.proofs.lemmas.List.Sums.{sum_by-cons, take_while-cons}
-use Rattle.wl_octets.specs.declared.header.Header.{Header}
+use Rattle.h2_conn.proofs.Common.{Header, HpackFault, Standing, Body, Bytes, Headers, Priority, Reset, Settings, SettingsAck, PushPromise, Ping, GoAway, WindowUpdate, Continuation, Unknown, Frame, Setting, Overflow, Out, pull_of, has_size_update, with_size_update, set_initial_window, with_step, with_head, with_message, without_waiting, with_trailers, ConnFault, Happening, State, OpenBlock, is_live, is_remote_closed, is_local_closed, with_remote_closed, with_local_closed, Outcome, goes, fails, fault, nothing, with_control_frame, without_live_stream, stream_error, request_ends, with_window, is_idle, has_come, is_frame_size, after_table_size, set_one, after_setting, set_all, set_frame, BlockFragment, first_fragment, next_fragment, grows, decoding, with_decoder, closed_stream_row, ended_stream_row, or_else, peer, guard_rows, header_list_rows, fragment_rows, kind_rows, settings_rows, window_rows, takes, with_head_on, with_trailers_on, with_message_on, without_waiting_on, after_reset, answer_ends, answers_end, ends_reset_count, after_pull}
 use Rattle.h2_headers.specs.Heads.{are_good_trailers}
-use Rattle.hpack.specs.declared.fault.HpackFault.{HpackFault}
-use Rattle.hpack.specs.Decoding.{Standing}
-use Rattle.h2_frame.specs.declared.frame.Body.{Body}
-use Rattle.h2_frame.specs.declared.frame.Body.TheVariants.{Bytes, Headers, Priority, Reset, Settings, SettingsAck, PushPromise, Ping, GoAway, WindowUpdate, Continuation, Unknown}
-use Rattle.h2_frame.specs.declared.frame.Frame.{Frame}
-use Rattle.h2_frame.specs.declared.frame.Setting.{Setting}
-use Rattle.h2_flow.specs.declared.overflow.Overflow.{Overflow}
-use Rattle.h2_flow.specs.Outboxes.{Out, PullResult, pull_of, is_written, has_size_update, with_size_update, set_initial_window, with_step, with_head, with_message, without_waiting, with_trailers}
+use Rattle.h2_flow.specs.Outboxes.{PullResult, is_written}
 use Rattle.h2_conn.specs.declared.fault.ConnCause.TheVariants as cause
-use Rattle.h2_conn.specs.declared.fault.ConnFault.{ConnFault}
-use Rattle.h2_conn.specs.declared.happening.Happening.{Happening}
 use Rattle.h2_conn.specs.declared.happening.Happening.TheVariants as happening
-use Rattle.h2_conn.specs.declared.state.State.{State}
-use Rattle.h2_conn.specs.declared.state.OpenBlock.{OpenBlock}
-use Rattle.h2_conn.specs.Streams.{is_live, is_remote_closed, is_local_closed, with_remote_closed, with_local_closed}
-use Rattle.h2_conn.specs.Peer.{Outcome, goes, fails, fault, nothing, with_control_frame, without_live_stream, stream_error, request_ends, with_window_update, with_window, is_idle, has_come, is_settings, is_continuation, interrupts, is_none, is_misplaced, continuations_of, is_empty_data, is_rapid, is_frame_size, after_table_size, set_one, after_setting, set_all, set_frame, reset_frame, data_on, with_data_count, BlockFragment, first_fragment, next_fragment, grows, decoding, with_new_stream, with_decoder, closed_stream_row, ended_stream_row, after_trailers, when, or_else, peer}
-use Rattle.h2_conn.specs.Kinds.{guard_rows, headers_rows, header_list_rows, block_rows, fragment_rows, kind_rows, data_rows, reset_rows, settings_rows, ping_rows, window_rows, head_rows, continuation_rows}
-use Rattle.h2_conn.specs.Conns.{takes, with_head_on, with_trailers_on, with_message_on, without_waiting_on, after_reset, answer_ends, answers_end, ends_reset_count, after_pull}
+use Rattle.h2_conn.specs.Peer.{with_window_update, is_settings, is_continuation, interrupts, is_none, is_misplaced, continuations_of, is_empty_data, is_rapid, reset_frame, data_on, with_data_count, with_new_stream, after_trailers, when}
+use Rattle.h2_conn.specs.Kinds.{headers_rows, block_rows, data_rows, reset_rows, ping_rows, head_rows, continuation_rows}
 use Rattle.h2_conn.specs.Counts.{Step, Came, Wrote, Head, Finish, Offer, Withdraw, Refuse, is_early, Leads, Reaches, is_data, is_head, is_empty, is_arrival, is_early_reset, ends_resets, restarts, since, ContinuationsAre, HasCounts}
 use Rattle.h2_conn.proofs.Choice.{peer_is}
 use Rattle.h2_conn.proofs.Walk.{at_cond}

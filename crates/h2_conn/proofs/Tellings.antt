@@ -1,15 +1,10 @@
 -- What a frame told says what came of the live streams.
 use Rattle.std.proofs.Common.{◌≡◌, ℕ, ◌+◌, ◌≤◌, ◌∙◌, Bool, true, false, cond, nat_lt, List, [], ◌∷◌, ◌++◌, Option, Some, None, refl, sym, ap, arith}
 use Rattle.std.proofs.lemmas.Bool.{ltb-true}
-use Rattle.h2_frame.specs.declared.frame.Body.TheVariants.{Reset}
-use Rattle.h2_frame.specs.declared.frame.Frame.{Frame}
-use Rattle.h2_conn.specs.declared.fault.ConnFault.{ConnFault}
-use Rattle.h2_conn.specs.declared.happening.Happening.{Happening}
+use Rattle.h2_conn.proofs.Common.{Reset, Frame, ConnFault, Happening, State, is_local_closed, with_remote_closed, Outcome, goes, fails, with_control_frame, without_live_stream, request_ends, peer}
 use Rattle.h2_conn.specs.declared.happening.Happening.TheVariants as happening
-use Rattle.h2_conn.specs.declared.state.State.{State}
 use Rattle.h2_conn.specs.declared.streams.Stream.{Stream}
-use Rattle.h2_conn.specs.Streams.{is_local_closed, without, with_remote_closed}
-use Rattle.h2_conn.specs.Peer.{Outcome, goes, fails, with_control_frame, without_live_stream, request_ends, peer}
+use Rattle.h2_conn.specs.Streams.{without}
 use Rattle.h2_conn.specs.Telling.{after_request, streams_told, TellsStreams}
 use Rattle.h2_conn.proofs.Walk.{at_cond, Rows, Windows, Any, any_open, are_numbered, walk}
 

@@ -1,28 +1,18 @@
 -- One walk of the connection's table: what holds of the states on the way, and of what each row gives, holds of what a frame does.
 use Rattle.std.proofs.Common.{◌≡◌, ℕ, ◌+◌, ◌<◌, ◌==◌, ◌^◌, ◌%◌, Bool, true, false, not, cond, ◌&&◌, nat_lt, List, [], ◌∷◌, ◌++◌, length, Option, Some, None, Result, Ok, Err, refl, arith}
-use Rattle.wl_octets.specs.declared.header.Header.{Header}
+use Rattle.h2_conn.proofs.Common.{Header, REFUSED_STREAM, HpackFault, Standing, Body, Bytes, Headers, Priority, Reset, Settings, SettingsAck, PushPromise, Ping, GoAway, WindowUpdate, Continuation, Unknown, Frame, Setting, Overflow, Out, has_size_update, with_stream, with_size_update, with_step, set_initial_window, State, OpenBlock, is_live, is_remote_closed, Outcome, goes, fault, nothing, with_control_frame, without_live_stream, stream_error, request_ends, with_window, is_idle, has_come, is_frame_size, after_table_size, set_one, after_setting, set_all, set_frame, BlockFragment, first_fragment, next_fragment, grows, decoding, with_decoder, closed_stream_row, ended_stream_row, or_else, peer, guard_rows, header_list_rows, fragment_rows, kind_rows, settings_rows, window_rows}
 use Rattle.h2_headers.specs.Heads.{are_good_trailers}
-use Rattle.h2_wire.specs.declared.error_code.TheConstants.{PROTOCOL_ERROR, FLOW_CONTROL_ERROR, STREAM_CLOSED, REFUSED_STREAM}
+use Rattle.h2_wire.specs.declared.error_code.TheConstants.{PROTOCOL_ERROR, FLOW_CONTROL_ERROR, STREAM_CLOSED}
 use Rattle.h2_wire.specs.declared.frame_type.TheConstants.{DATA, RST_STREAM, SETTINGS, CONTINUATION}
 use Rattle.h2_wire.specs.declared.limit.TheConstants.{MAX_WINDOW_SIZE, INITIAL_HEADER_TABLE_SIZE, MAX_LIVE_STREAMS}
 use Rattle.h2_wire.specs.declared.setting.TheConstants as setting
-use Rattle.hpack.specs.declared.fault.HpackFault.{HpackFault}
-use Rattle.hpack.specs.Decoding.{Standing}
-use Rattle.h2_frame.specs.declared.frame.Body.{Body}
-use Rattle.h2_frame.specs.declared.frame.Body.TheVariants.{Bytes, Headers, Priority, Reset, Settings, SettingsAck, PushPromise, Ping, GoAway, WindowUpdate, Continuation, Unknown}
-use Rattle.h2_frame.specs.declared.frame.Frame.{Frame}
-use Rattle.h2_frame.specs.declared.frame.Setting.{Setting}
-use Rattle.h2_flow.specs.declared.overflow.Overflow.{Overflow}
-use Rattle.h2_flow.specs.Outboxes.{Out, is_written, has_size_update, with_stream, with_size_update, with_step, set_initial_window}
+use Rattle.h2_flow.specs.Outboxes.{is_written}
 use Rattle.h2_conn.specs.declared.fault.ConnCause.{ConnCause}
 use Rattle.h2_conn.specs.declared.fault.ConnCause.TheVariants as cause
 use Rattle.h2_conn.specs.declared.happening.Happening.TheVariants as happening
 use Rattle.h2_conn.specs.declared.limits.TheConstants.{MAX_BLOCK_SIZE, MAX_CONTINUATIONS, MAX_SETTINGS, MAX_EMPTY_DATA, MAX_RAPID_RESETS}
-use Rattle.h2_conn.specs.declared.state.State.{State}
-use Rattle.h2_conn.specs.declared.state.OpenBlock.{OpenBlock}
-use Rattle.h2_conn.specs.Streams.{is_live, is_remote_closed}
-use Rattle.h2_conn.specs.Peer.{Outcome, goes, fault, nothing, with_control_frame, without_live_stream, stream_error, request_ends, with_window_update, with_window, is_idle, has_come, is_settings, is_continuation, interrupts, is_none, is_misplaced, continuations_of, is_empty_data, is_rapid, is_frame_size, after_table_size, set_one, after_setting, set_all, set_frame, reset_frame, data_on, with_data_count, BlockFragment, first_fragment, next_fragment, grows, decoding, with_new_stream, with_decoder, closed_stream_row, ended_stream_row, after_trailers, when, or_else, peer}
-use Rattle.h2_conn.specs.Kinds.{guard_rows, headers_rows, header_list_rows, block_rows, fragment_rows, kind_rows, data_rows, reset_rows, settings_rows, ping_rows, window_rows, head_rows, continuation_rows}
+use Rattle.h2_conn.specs.Peer.{with_window_update, is_settings, is_continuation, interrupts, is_none, is_misplaced, continuations_of, is_empty_data, is_rapid, reset_frame, data_on, with_data_count, with_new_stream, after_trailers, when}
+use Rattle.h2_conn.specs.Kinds.{headers_rows, block_rows, data_rows, reset_rows, ping_rows, head_rows, continuation_rows}
 use Rattle.h2_conn.proofs.Choice.{peer_is}
 
 -- ---- tests

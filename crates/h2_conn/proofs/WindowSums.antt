@@ -4,26 +4,18 @@ use Rattle.std.specs.List.{AllByRecursion}
 use Rattle.std.proofs.lemmas.Bool.{cases_Bool, ltb-true}
 use Rattle.std.proofs.lemmas.Int.{ints}
 use Rattle.std.proofs.lemmas.List.Sums.{sum_by-cons, take_while-cons}
-use Rattle.wl_octets.specs.declared.header.Header.{Header}
+use Rattle.h2_conn.proofs.Common.{Header, Reset, Frame, pull_of, update_stream, with_control, new_stream, with_head, with_message, without_waiting, with_trailers, Happening, State, is_live, is_remote_closed, with_local_closed, goes, with_control_frame, without_live_stream, peer, takes, with_head_on, with_trailers_on, with_message_on, without_waiting_on, after_reset, answer_ends, answers_end, ends_reset_count, after_pull, Sound}
 use Rattle.h2_wire.specs.declared.limit.TheConstants.{INITIAL_WINDOW_SIZE}
-use Rattle.h2_frame.specs.declared.frame.Body.TheVariants.{Reset}
-use Rattle.h2_frame.specs.declared.frame.Frame.{Frame}
 use Rattle.h2_flow.specs.declared.stream.Stream as flow
 use Rattle.h2_flow.specs.Streams.{Sent}
 use Rattle.h2_flow.specs.Histories.{data_on}
 use Rattle.h2_flow.specs.Windows.{window_of}
-use Rattle.h2_flow.specs.Outboxes.{pull_of, update_stream, with_control, new_stream, with_head, with_offer, with_message, without_waiting, with_trailers}
+use Rattle.h2_flow.specs.Outboxes.{with_offer}
 use Rattle.h2_flow.proofs.Numbers.{numbers_pulled}
 use Rattle.h2_flow.proofs.Sums.{Spent, pull_sums}
-use Rattle.h2_conn.specs.declared.happening.Happening.{Happening}
 use Rattle.h2_conn.specs.declared.happening.Happening.TheVariants as happening
-use Rattle.h2_conn.specs.declared.state.State.{State}
-use Rattle.h2_conn.specs.Streams.{is_live, is_remote_closed, with_local_closed}
-use Rattle.h2_conn.specs.Peer.{goes, with_control_frame, without_live_stream, peer}
-use Rattle.h2_conn.specs.Conns.{takes, with_head_on, with_trailers_on, with_message_on, without_waiting_on, after_reset, answer_ends, answers_end, ends_reset_count, after_pull}
 use Rattle.h2_conn.specs.Counts.{Step, Came, Wrote, Head, Finish, Offer, Withdraw, Refuse, Leads, Reaches}
 use Rattle.h2_conn.specs.Naming.{NamesTold}
-use Rattle.h2_conn.specs.Sound.{Sound}
 use Rattle.h2_conn.specs.Windows.{window_step, step_on, data_written, data_written_on, initial_of, last_initial, is_head_of, opens, since_opening, stream_sum, HasWindows, HasLowStream}
 use Rattle.h2_conn.proofs.Carries.{Has, h_closed, with_credit_step, on_connection, frame_carries}
 use Rattle.h2_conn.proofs.Walk.{at_cond}

@@ -1,12 +1,13 @@
+mod Common
 pub mod Turns
 pub mod Rounds
 pub mod Puts
 pub mod Places
-pub mod Quiet
+pub mod QuietPulls
 pub mod Numbers
 pub mod Offers
 pub mod Orders
 pub mod Sums
 pub mod Messages
 pub mod Progress
-pub mod Begun
+pub mod BegunCounts

@@ -4,13 +4,8 @@ use Rattle.std.proofs.lemmas.Bool.{cases_Bool, ltb-false}
 use Rattle.std.proofs.lemmas.Bool.Decides.{nat_tests}
 use Rattle.std.proofs.lemmas.Grind.{flat_map-append}
 use Rattle.std.proofs.lemmas.List.{length-take-le, take-append-drop, drop-drop, drop_all}
-use Rattle.h2_flow.specs.declared.flow.Flow.{Flow}
-use Rattle.h2_flow.specs.declared.stream.Stream.{Stream}
-use Rattle.h2_flow.specs.Windows.{allowed_of}
-use Rattle.h2_flow.specs.Streams.{content, Turn, no_turn, headers_turn, data_turn, last_turn, next_turn, body_turn, head_turn, turn}
-use Rattle.h2_flow.specs.Pulls.{Round, round, rounds, all_rounds, all_work}
-use Rattle.h2_flow.specs.Outboxes.{RisesFrom, Out, numbers, pull_of}
-use Rattle.h2_flow.specs.Progress.{data_bytes_on, all_data_on, find_stream, left_of}
+use Rattle.h2_flow.proofs.Common.{Flow, Stream, allowed_of, content, Turn, no_turn, headers_turn, data_turn, last_turn, next_turn, body_turn, head_turn, turn, Round, round, rounds, all_rounds, all_work, RisesFrom, Out, numbers, pull_of, left_of}
+use Rattle.h2_flow.specs.Progress.{data_bytes_on, all_data_on, find_stream}
 use Rattle.h2_flow.proofs.Orders.{number_of, rises_from}
 use Rattle.h2_flow.proofs.Numbers.{number_turn, numbers_round}
 

@@ -3,14 +3,8 @@ use Rattle.std.proofs.Common.{◌≡◌, inl, inr, ℕ, zero, suc, ◌+◌, ◌=
 use Rattle.std.proofs.lemmas.Bool.{cases_Bool}
 use Rattle.std.proofs.lemmas.List.{map-append, take-append-drop}
 use Rattle.std.proofs.Math.Seq.{map-set_same}
-use Rattle.h2_wire.specs.declared.limit.TheConstants.{MAX_WINDOW_SIZE}
-use Rattle.h2_flow.specs.declared.flow.Flow.{Flow}
+use Rattle.h2_flow.proofs.Common.{MAX_WINDOW_SIZE, Flow, Stream, window_of, allowed_of, Sent, Turn, headers_turn, data_turn, last_turn, next_turn, body_turn, head_turn, turn, Round, round, rounds, all_work, all_rounds, Out, is_number, update_stream, new_stream, with_offer, with_stream, without_stream, with_control, with_size_update, with_head, with_message, without_waiting, with_trailers, credit_of, with_connection_step, with_stream_step, with_step, first_over, with_initial, set_initial_window, pull_of, numbers}
 use Rattle.h2_flow.specs.declared.overflow.Overflow.{Overflow}
-use Rattle.h2_flow.specs.declared.stream.Stream.{Stream}
-use Rattle.h2_flow.specs.Windows.{window_of, allowed_of}
-use Rattle.h2_flow.specs.Streams.{Sent, Turn, headers_turn, data_turn, last_turn, next_turn, body_turn, head_turn, turn}
-use Rattle.h2_flow.specs.Pulls.{Round, round, rounds, all_work, all_rounds}
-use Rattle.h2_flow.specs.Outboxes.{Out, is_number, update_stream, new_stream, with_offer, with_stream, without_stream, with_control, with_size_update, with_head, with_message, without_waiting, with_trailers, credit_of, with_connection_step, with_stream_step, with_step, first_over, with_initial, set_initial_window, pull_of, numbers}
 use Rattle.h2_flow.proofs.Rounds.{SoFar, Left}
 
 -- ---- one stream is changed

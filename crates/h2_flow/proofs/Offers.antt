@@ -1,8 +1,7 @@
 -- Offering the same message again changes nothing more.
 use Rattle.std.proofs.Common.{◌≡◌, inl, inr, ℕ, ◌==◌, true, false, List, [], ◌∷◌, refl, sym, ap, ◌∙◌}
 use Rattle.std.proofs.lemmas.Bool.{cases_Bool}
-use Rattle.h2_flow.specs.declared.stream.Stream.{Stream}
-use Rattle.h2_flow.specs.Outboxes.{Out, update_stream, with_offer, with_message}
+use Rattle.h2_flow.proofs.Common.{Stream, Out, update_stream, with_offer, with_message}
 
 pub changed_here : (n : ℕ) (f : Stream → Stream) (s : Stream) (ss : List Stream) → (s.number == n) ≡ true → update_stream n f (s ∷ ss) ≡ f s ∷ ss
 changed_here n f s ss here = rw here refl

@@ -5,10 +5,8 @@ use Rattle.std.proofs.lemmas.Bool.{cases_Bool}
 use Rattle.std.proofs.lemmas.Int.{ints}
 use Rattle.std.proofs.lemmas.List.{length-map}
 use Rattle.std.proofs.Math.Seq.{take-append_seam}
-use Rattle.h2_wire.specs.declared.limit.TheConstants.{MAX_WINDOW_SIZE}
-use Rattle.h2_flow.specs.declared.stream.Stream.{Stream}
-use Rattle.h2_flow.specs.Windows.{window_of}
-use Rattle.h2_flow.specs.Outboxes.{IsAbove, new_stream, RisesFrom, update_stream, first_over, IsLowestOver}
+use Rattle.h2_flow.proofs.Common.{MAX_WINDOW_SIZE, Stream, window_of, IsAbove, new_stream, RisesFrom, update_stream, first_over}
+use Rattle.h2_flow.specs.Outboxes.{IsLowestOver}
 use Rattle.h2_flow.proofs.Numbers.{changed_numbers}
 
 abbrev pub number_of : Stream → ℕ

@@ -3,10 +3,7 @@ use Rattle.std.proofs.Common.{◌≡◌, ◌≢◌, inl, inr, ℕ, zero, suc, �
 use Rattle.std.specs.List.{list_any}
 use Rattle.std.proofs.lemmas.Bool.{cases_lt, cases_Bool}
 use Rattle.std.proofs.lemmas.List.{drop_more, take_more, drop_all}
-use Rattle.h2_wire.specs.declared.limit.TheConstants.{MAX_WINDOW_SIZE}
-use Rattle.h2_flow.specs.declared.stream.Stream.{Stream}
-use Rattle.h2_flow.specs.Outboxes.{is_number, update_stream, credit_of, first_over}
-use Rattle.h2_flow.specs.Windows.{window_of}
+use Rattle.h2_flow.proofs.Common.{MAX_WINDOW_SIZE, Stream, is_number, update_stream, credit_of, first_over, window_of}
 
 -- a place that isn't after the stream
 pub record IsBefore (n : ℕ) (xs : List Stream) (at : ℕ) : Type 0 where

@@ -5,11 +5,9 @@ use Rattle.std.specs.List.{AllByRecursion}
 use Rattle.std.proofs.lemmas.Bool.{cases_Bool, le-ltb, lt-ltb}
 use Rattle.std.proofs.Math.Seq.{drop-append_seam}
 use Rattle.list_laws.specs.Lists.{BeginsWith}
-use Rattle.h2_flow.specs.declared.stream.Stream.{Stream}
-use Rattle.h2_flow.specs.Streams.{Sent}
-use Rattle.h2_flow.specs.Outboxes.{Out, is_number, IsAbove, new_stream, RisesFrom, numbers, update_stream, with_stream, without_stream, with_control, with_size_update, with_head, with_offer, with_message, without_waiting, with_trailers, with_connection_step, with_stream_step, with_step, first_over, with_initial, set_initial_window, pull_of}
+use Rattle.h2_flow.proofs.Common.{Stream, Sent, Out, is_number, IsAbove, new_stream, RisesFrom, numbers, update_stream, with_stream, without_stream, with_control, with_size_update, with_head, with_offer, with_message, without_waiting, with_trailers, with_connection_step, with_stream_step, with_step, first_over, with_initial, set_initial_window, pull_of, left_of}
 use Rattle.h2_flow.specs.Histories.{Step, Add, Remove, Initial, Grow, Control, Shrink, Give, Offer, Withdraw, Finish, Pull, Leads, Reaches}
-use Rattle.h2_flow.specs.Progress.{all_data_on, Progress, no_progress, last_of, all_messages, begin_with, IsMore, after_writing, after_offer, after_step, progress_on, AllDiffer, WasOffered, find_stream, left_of, Matches, WritesWhatBegan, Finishes}
+use Rattle.h2_flow.specs.Progress.{all_data_on, Progress, no_progress, last_of, all_messages, begin_with, IsMore, after_writing, after_offer, after_step, progress_on, AllDiffer, WasOffered, find_stream, Matches, WritesWhatBegan, Finishes}
 use Rattle.h2_flow.proofs.Messages.{Stays, Begins, GoesOn, goes_pull}
 use Rattle.h2_flow.proofs.Sums.{reached_rises, granted}
 

@@ -3,7 +3,8 @@ use Rattle.std.proofs.Common.{◌≡◌, ℕ, List, [], ◌++◌, refl, sym, app
 use Rattle.std.proofs.lemmas.Grind.{flat_map-append}
 use Rattle.list_laws.specs.Lists.{GainsFront}
 use Rattle.list_laws.proofs.Fronts.{gains_before, gains_after}
-use Rattle.h2_flow.specs.Streams.{Sent, sent_bytes, ended_by}
+use Rattle.h2_flow.proofs.Common.{Sent}
+use Rattle.h2_flow.specs.Streams.{sent_bytes, ended_by}
 use Rattle.h2_flow.specs.Pulls.{bytes_of, ended_of}
 
 pub record Put (done : List Sent) (old new told tells : List ℕ) : Type 0 where

@@ -1,11 +1,10 @@
 -- Rounds until one writes nothing.
 use Rattle.std.proofs.Common.{◌≡◌, ◌⊎◌, inl, inr, ℕ, zero, suc, ◌+◌, ◌<◌, ◌≤◌, ◌==◌, false, List, [], ◌∷◌, ◌++◌, length, take, drop, get_or, set, refl, ap, ◌∙◌, arith, ne_eqb, append_assoc, append-nil}
 use Rattle.std.proofs.lemmas.List.{length-append, drop_more, take_more_set, drop-set-lt, take_all, drop_all}
-use Rattle.h2_flow.specs.declared.flow.Flow.{Flow}
-use Rattle.h2_flow.specs.declared.stream.Stream.{Stream}
+use Rattle.h2_flow.proofs.Common.{Flow, Stream, Sent, content, Turn, turn, Round, round, rounds, all_work, all_rounds}
 use Rattle.h2_wire.specs.Encoding.{head_bytes, frame_bytes}
-use Rattle.h2_flow.specs.Streams.{Sent, headers, content, Turn, turn}
-use Rattle.h2_flow.specs.Pulls.{Round, before_round, round, after_round, rounds, all_work, all_rounds, bytes_of}
+use Rattle.h2_flow.specs.Streams.{headers}
+use Rattle.h2_flow.specs.Pulls.{before_round, after_round, bytes_of}
 use Rattle.h2_flow.proofs.Turns.{Works, turn_works}
 
 -- ---- one round

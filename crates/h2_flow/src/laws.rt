@@ -11,7 +11,7 @@ ghost use Rattle.h2_flow.specs.Progress.{AllDiffer, all_data_on, count_all_begun
 
 /// A pull after a pull writes nothing, and changes nothing, also where streams were removed
 /// in between.
-#[tactic(auto, using(crate::proofs::Quiet::pulls_once, crate::proofs::Quiet::removes_quietly))]
+#[tactic(auto, using(crate::proofs::QuietPulls::pulls_once, crate::proofs::QuietPulls::removes_quietly))]
 pub fn pulls_once()
     ensures again { (outbox : Out) → IsQuiet (pull_of outbox).left }
     ensures removed { (stream : ℕ) (outbox : Out) → IsQuiet outbox → IsQuiet (without_stream stream outbox) }
@@ -46,7 +46,7 @@ pub fn windows_are_sums()
 /// other: with what is left of the last one it is all of them. Each was offered to that stream,
 /// and one begins only after the whole of the one before was written. A pull raises the count of
 /// begun messages by those that waited before it and do not after it.
-#[tactic(auto, using(crate::proofs::Progress::reached_prefix, crate::proofs::Progress::reached_progress, crate::proofs::Progress::pull_finishes, crate::proofs::Begun::pull_counts))]
+#[tactic(auto, using(crate::proofs::Progress::reached_prefix, crate::proofs::Progress::reached_progress, crate::proofs::Progress::pull_finishes, crate::proofs::BegunCounts::pull_counts))]
 pub fn writes_what_began()
     ensures prefix { (stream : ℕ) (steps : List Step) (outbox : Out) → Reaches steps outbox
         → BeginsWith (all_messages (progress_on stream steps).begun) (progress_on stream steps).written }

@@ -1,8 +1,8 @@
 -- What fits into a table.
 use Rattle.std.proofs.Common.{◌≡◌, ℕ, ◌+◌, ◌-◌, ◌<◌, ◌≤◌, List, [], ◌∷◌, ◌++◌, length, refl, sym, ap, ◌∙◌, arith, inl, inr}
 use Rattle.std.proofs.lemmas.Bool.{cases_lt, lt-ltb, le-ltb}
-use Rattle.wl_octets.specs.declared.header.Header.{Header}
-use Rattle.hpack.specs.Tables.{size_of, list_size, evict_to_fit}
+use Rattle.hpack.proofs.Common.{Header, size_of, list_size}
+use Rattle.hpack.specs.Tables.{evict_to_fit}
 
 pub list_size-append : (xs ys : List Header) → list_size (xs ++ ys) ≡ list_size xs + list_size ys
 unfolding list_size

@@ -1,15 +1,11 @@
 -- Blocks, representation by representation: they are read as they are encoded, and every block is read.
 use Rattle.std.proofs.Common.{◌≡◌, ℕ, zero, suc, ◌-◌, ◌<◌, ◌≤◌, Bool, true, false, List, [], ◌∷◌, ◌++◌, length, refl, sym, ap, subst, ◌∙◌, arith, inl, inr, Option, Some, None, Result, Ok, Err, slice_get, length-append, append-nil, append_assoc}
 use Rattle.std.proofs.lemmas.Bool.{cases_lt, lt-ltb, le-ltb}
-use Rattle.wl_octets.specs.declared.header.Header.{Header}
+use Rattle.hpack.proofs.Common.{Header, HpackFault, Table, size_of, list_size, ◌>>=◌, bind_ok, block_of, Represents}
 use Rattle.hpack.specs.declared.limit.TheConstants.{MAX_LIST_SIZE}
-use Rattle.hpack.specs.declared.fault.HpackFault.{HpackFault}
 use Rattle.hpack.specs.declared.fault.HpackFault.TheVariants as faults
-use Rattle.hpack.specs.Tables.{Table, size_of, list_size}
-use Rattle.list_laws.specs.Results.{◌>>=◌}
-use Rattle.list_laws.proofs.Results.{bind_ok}
-use Rattle.hpack.specs.Reading.{representation_at, after_representation, block_in, headers_of, block_of}
-use Rattle.hpack.specs.Grammar.{Represents, Names, ended, named, updated, IsBlock}
+use Rattle.hpack.specs.Reading.{representation_at, after_representation, block_in, headers_of}
+use Rattle.hpack.specs.Grammar.{Names, ended, named, updated, IsBlock}
 use Rattle.hpack.proofs.Eviction.{list_size-nil, list_size-cons}
 use Rattle.hpack.proofs.Representations.{represents_some, representation_takes, representation_again}
 

@@ -4,8 +4,7 @@ use Rattle.std.specs.List.{position}
 use Rattle.std.proofs.lemmas.Bool.{cases_lt, lt-ltb, le-ltb}
 use Rattle.std.proofs.lemmas.List.{length-append}
 use Rattle.std.proofs.lemmas.List.Quantifiers.{position-Some}
-use Rattle.wl_octets.specs.declared.header.Header.{Header}
-use Rattle.hpack.specs.Tables.{size_of, list_size, static_table, no_field}
+use Rattle.hpack.proofs.Common.{Header, size_of, list_size, static_table, no_field}
 use Rattle.hpack.specs.Writing.{integer_bytes, plain_string, same_field, same_name, name_bytes, field_bytes_at, field_bytes, block_bytes}
 use Rattle.hpack.proofs.Eviction.{list_size-cons}
 use Rattle.hpack.proofs.WrittenBlocks.{more_short}

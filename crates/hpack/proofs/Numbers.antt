@@ -1,11 +1,11 @@
 -- Integers are read as they are encoded, and every encoding is read.
 use Rattle.std.proofs.Common.{◌≡◌, ℕ, zero, suc, ◌+◌, ◌*◌, ◌%◌, ◌^◌, ◌<◌, ◌≤◌, List, [], ◌∷◌, ◌++◌, length, refl, sym, ap, ◌∙◌, arith, inl, inr, Result, Ok, Err}
 use Rattle.std.proofs.lemmas.Bool.{cases_lt, cases_eq, lt-ltb, le-ltb, eq-eqb, ne_eqb}
-use Rattle.hpack.specs.declared.fault.HpackFault.{HpackFault}
+use Rattle.hpack.proofs.Common.{HpackFault, integer_at, IsInteger}
 use Rattle.hpack.specs.declared.fault.HpackFault.TheVariants as faults
 use Rattle.list_laws.proofs.Results.{ok_first, ok_second}
-use Rattle.hpack.specs.Reading.{more_at, integer_at}
-use Rattle.hpack.specs.Grammar.{Continues, groups, IsInteger}
+use Rattle.hpack.specs.Reading.{more_at}
+use Rattle.hpack.specs.Grammar.{Continues, groups}
 
 -- some bytes begin with a text of this kind, and this stands after it
 pub record Took (bytes rest : List ℕ) (R : List ℕ → Type 0) : Type 0 where

@@ -3,16 +3,14 @@ use Rattle.std.proofs.Common.{◌≡◌, ℕ, ◌<◌, ◌≤◌, ◌==◌, nat_
 use Rattle.std.specs.Bool.{MatchBool}
 use Rattle.std.proofs.lemmas.Bool.{cases_lt, cases_eq, lt-ltb, le-ltb, eq-eqb, ne_eqb}
 use Rattle.std.proofs.lemmas.List.{take_at, drop_at, take-append-drop, length-append, length-take}
-use Rattle.wl_octets.specs.declared.header.Header.{Header}
-use Rattle.hpack.specs.declared.fault.HpackFault.{HpackFault}
+use Rattle.hpack.proofs.Common.{Header, HpackFault, entry_at, ◌>>=◌, bind_ok, integer_at, IsInteger, IsName, indexed_name, new_name}
 use Rattle.hpack.specs.declared.fault.HpackFault.TheVariants as faults
 use Rattle.hpack.specs.Huffman.{IsHuffman}
 use Rattle.hpack.specs.Tree.{huffman_text}
-use Rattle.hpack.specs.Tables.{entry_at, name_of}
-use Rattle.list_laws.specs.Results.{◌>>=◌}
-use Rattle.list_laws.proofs.Results.{bind_ok, ok_first, ok_second}
-use Rattle.hpack.specs.Reading.{integer_at, is_coded, string_at, name_at, literal_at}
-use Rattle.hpack.specs.Grammar.{IsInteger, IsString, IsName, indexed_name, new_name, IsLiteral}
+use Rattle.hpack.specs.Tables.{name_of}
+use Rattle.list_laws.proofs.Results.{ok_first, ok_second}
+use Rattle.hpack.specs.Reading.{is_coded, string_at, name_at, literal_at}
+use Rattle.hpack.specs.Grammar.{IsString, IsLiteral}
 use Rattle.hpack.proofs.Texts.{huffman_found, huffman_only}
 use Rattle.hpack.proofs.Numbers.{Took, integer_takes, integer_again, integer_some}
 

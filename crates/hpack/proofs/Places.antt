@@ -1,8 +1,8 @@
 -- The tree is that of the code: computed tests over all its nodes and all symbols.
 use Rattle.std.proofs.Common.{◌≡◌, ℕ, ◌+◌, ◌*◌, Bool, true, false, List, [], ◌∷◌, map, get_or, replicate, refl}
 use Rattle.std.specs.List.{range_with_len}
-use Rattle.hpack.specs.Huffman.{bits, word, length_of, number_of, code_offset}
-use Rattle.hpack.specs.Tree.{Branch, Node, Symbol, End, branch_at, walk}
+use Rattle.hpack.proofs.Common.{bits, Branch, Node, Symbol, End, branch_at, walk}
+use Rattle.hpack.specs.Huffman.{word, length_of, number_of, code_offset}
 
 -- how deep each node lies, and the number whose bits lead to it
 abbrev pub places : List (ℕ × ℕ)

@@ -1,7 +1,6 @@
 -- What is owed a fault that may be running out of memory.
-use Rattle.hpack.specs.declared.fault.HpackFault.{HpackFault}
+use Rattle.hpack.proofs.Common.{HpackFault, Refuses}
 use Rattle.hpack.specs.declared.fault.HpackFault.TheVariants as faults
-use Rattle.hpack.specs.Outcomes.{Refuses}
 
 pub Refuses-map : {P Q : Type 0} (fault : HpackFault) → (P → Q) → Refuses fault P → Refuses fault Q
 Refuses-map faults.Memory f due = tt

@@ -1,14 +1,11 @@
 -- Representations are read as they are encoded, and every encoding is read.
 use Rattle.std.proofs.Common.{◌≡◌, ℕ, ◌<◌, ◌≤◌, nat_lt, Bool, true, false, ◌||◌, if◌then◌else◌, List, [], ◌∷◌, ◌++◌, length, refl, ap, subst, arith, inl, inr, Option, Some, None, Result, Ok, Err, slice_index, length-append}
 use Rattle.std.proofs.lemmas.Bool.{cases_lt, lt-ltb, le-ltb, le-leb, lt-leb}
-use Rattle.wl_octets.specs.declared.header.Header.{Header}
-use Rattle.hpack.specs.declared.fault.HpackFault.{HpackFault}
+use Rattle.hpack.proofs.Common.{Header, HpackFault, Table, entry_at, ◌>>=◌, bind_ok, integer_at, IsName, indexed_name, new_name, Represents}
 use Rattle.hpack.specs.declared.fault.HpackFault.TheVariants as faults
-use Rattle.hpack.specs.Tables.{Table, entry_at, with_item, with_maximum}
-use Rattle.list_laws.specs.Results.{◌>>=◌}
-use Rattle.list_laws.proofs.Results.{bind_ok}
-use Rattle.hpack.specs.Reading.{integer_at, literal_at, representation_at}
-use Rattle.hpack.specs.Grammar.{IsName, indexed_name, new_name, IsLiteral, Represents, indexed, indexing, size_update, not_indexing}
+use Rattle.hpack.specs.Tables.{with_item, with_maximum}
+use Rattle.hpack.specs.Reading.{literal_at, representation_at}
+use Rattle.hpack.specs.Grammar.{IsLiteral, indexed, indexing, size_update, not_indexing}
 use Rattle.hpack.proofs.Numbers.{Took, integer_takes, integer_again, integer_some}
 use Rattle.hpack.proofs.Parts.{literal_takes, literal_again}
 

@@ -1,10 +1,6 @@
 -- What one step of a decoder says of blocks of the standard, and of all blocks so far.
 use Rattle.std.proofs.Common.{◌≡◌, ℕ, List, ◌∷◌, refl, sym, ap, subst, ◌∙◌, Result, Ok, Err, IfOk, IfErr}
-use Rattle.wl_octets.specs.declared.header.Header.{Header}
-use Rattle.hpack.specs.declared.fault.HpackFault.{HpackFault}
-use Rattle.hpack.specs.Outcomes.{Refuses}
-use Rattle.hpack.specs.Tables.{Table}
-use Rattle.hpack.specs.Reading.{block_of}
+use Rattle.hpack.proofs.Common.{Header, HpackFault, Refuses, Table, block_of}
 use Rattle.hpack.specs.Decoding.{Standing, Good, Broken, after_block, decode_block, Decodes, standing_after, StandsFor, Reads, ReadsAlone, IsNoBlock}
 use Rattle.hpack.proofs.Refusals.{Refuses-map, Refuses-bind, Refuses-all}
 use Rattle.hpack.proofs.Headers.{block_found, block_only}

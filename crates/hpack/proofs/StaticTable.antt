@@ -4,9 +4,9 @@ use Rattle.std.specs.List.{range_with_len}
 use Rattle.std.proofs.lemmas.Bool.{cases_lt, ne_eqb}
 use Rattle.std.proofs.lemmas.List.{get_or_past}
 use Rattle.std.proofs.lemmas.Option.{slice_get_read, slice_get_past}
-use Rattle.hpack.specs.Tables.{static_table, no_field, entry_or_fault, entry_at}
+use Rattle.hpack.proofs.Common.{static_table, no_field, entry_at, Header}
+use Rattle.hpack.specs.Tables.{entry_or_fault}
 use Rattle.std.specs.List.{slice_get}
-use Rattle.wl_octets.specs.declared.header.Header.{Header}
 use Rattle.hpack.specs.declared.fault.HpackFault.TheVariants as faults
 use Rattle.hpack.proofs.Bits.{each_below}
 

@@ -2,8 +2,7 @@
 use Rattle.std.proofs.Common.{◌≡◌, ℕ, ◌+◌, ◌*◌, ◌/◌, ◌%◌, ◌<◌, ◌&&◌, Bool, true, false, if◌then◌else◌, nat_lt, ◌==◌, List, [], ◌∷◌, length, get_or, refl, arith, zero, suc, add-zero}
 use Rattle.std.proofs.lemmas.Bool.{and_parts, ltb-true, eqb-true, false≢true}
 use Rattle.hpack.specs.declared.tables.TheConstants.{STEPS}
-use Rattle.hpack.specs.Huffman.{bits}
-use Rattle.hpack.specs.Tree.{Branch, Node, Symbol, End, branch_at, walk}
+use Rattle.hpack.proofs.Common.{bits, Branch, Node, Symbol, End, branch_at, walk}
 
 -- what an entry of the table stands for
 abbrev pub step_of : ℕ → ℕ → List ℕ × Branch

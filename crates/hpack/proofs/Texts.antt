@@ -3,11 +3,11 @@ use Rattle.std.proofs.Common.{◌≡◌, ℕ, zero, suc, ◌+◌, ◌*◌, ◌/�
 use Rattle.std.specs.List.{flat_map, AllByRecursion, list_all}
 use Rattle.std.proofs.lemmas.Bool.{and_parts, leb-true, lt-ltb, cases_lt, le-ltb}
 use Rattle.std.proofs.Math.Nat.{pow-succ', div-div-eq-div-mul}
-use Rattle.hpack.specs.declared.fault.HpackFault.{HpackFault}
+use Rattle.hpack.proofs.Common.{HpackFault, Refuses, bits, Branch, Node, Symbol, End, branch_at, walk}
 use Rattle.hpack.specs.declared.fault.HpackFault.TheVariants as faults
-use Rattle.hpack.specs.Outcomes.{Refuses, Gives, IsPaddingFault}
-use Rattle.hpack.specs.Huffman.{bits, bits_of, lengths, length_of, number_of, word, IsHuffman}
-use Rattle.hpack.specs.Tree.{on_zero, on_one, Branch, Node, Symbol, End, branch_of, branch_at, on_branch, walk, with_text, is_end, text_of, huffman_text}
+use Rattle.hpack.specs.Outcomes.{Gives, IsPaddingFault}
+use Rattle.hpack.specs.Huffman.{bits_of, lengths, length_of, number_of, word, IsHuffman}
+use Rattle.hpack.specs.Tree.{on_zero, on_one, branch_of, on_branch, with_text, is_end, text_of, huffman_text}
 use Rattle.hpack.proofs.Bits.{each_below}
 use Rattle.hpack.proofs.Places.{place, path, place_of, zeros, ones, walks, padding_paths, padding_walks}
 use Rattle.hpack.proofs.Walks.{read-append}

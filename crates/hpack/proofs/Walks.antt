@@ -1,13 +1,12 @@
 -- Reading along the tree: bits after bits, four at a time by the table of steps.
 use Rattle.std.proofs.Common.{◌≡◌, ℕ, ◌+◌, ◌*◌, ◌/◌, ◌%◌, ◌<◌, Bool, List, [], ◌∷◌, ◌++◌, get_or, refl, sym, ap, ◌∙◌, arith, append_assoc, zero-add, Ok, Err, Result}
 use Rattle.std.proofs.lemmas.Bool.{lt-ltb, le-ltb, ne_eqb}
-use Rattle.hpack.specs.declared.fault.HpackFault.{HpackFault}
+use Rattle.hpack.proofs.Common.{HpackFault, bits, Branch, Node, Symbol, End, branch_at, walk}
 use Rattle.hpack.specs.declared.fault.HpackFault.TheVariants as faults
 use Rattle.hpack.specs.Outcomes.{IsPaddingFault}
 use Rattle.hpack.specs.declared.tables.TheConstants.{STEPS}
-use Rattle.hpack.specs.Huffman.{bits}
 use Rattle.hpack.proofs.Steps.{step_of, are_steps-at, is_step-found, steps}
-use Rattle.hpack.specs.Tree.{Branch, Node, Symbol, End, branch_at, on_branch, walk, with_text, is_end, StepsBy}
+use Rattle.hpack.specs.Tree.{on_branch, with_text, is_end, StepsBy}
 
 -- bits that follow what was read
 abbrev pub read_on : List ℕ × Branch → List Bool → List ℕ × Branch

@@ -7,10 +7,9 @@ use Rattle.std.proofs.lemmas.List.Sums.{position_or_len_is}
 use Rattle.std.proofs.lemmas.List.Quantifiers.{position-Some}
 use Rattle.list_laws.proofs.Equality.{bytes_are}
 use Rattle.std.proofs.Math.Nat.{pow-suc}
-use Rattle.wl_octets.specs.declared.header.Header.{Header}
-use Rattle.hpack.specs.Tables.{Table, size_of, list_size, static_table, no_field, entry_at}
-use Rattle.hpack.specs.Reading.{is_coded, block_of}
-use Rattle.hpack.specs.Grammar.{Continues, groups, IsInteger, IsString, IsName, indexed_name, new_name, Represents, indexed, not_indexing, Names, ended, named, IsBlock}
+use Rattle.hpack.proofs.Common.{Header, Table, size_of, list_size, static_table, no_field, entry_at, block_of, IsInteger, IsName, indexed_name, new_name, Represents}
+use Rattle.hpack.specs.Reading.{is_coded}
+use Rattle.hpack.specs.Grammar.{Continues, groups, IsString, indexed, not_indexing, Names, ended, named, IsBlock}
 use Rattle.hpack.specs.Writing.{more_in, more_bytes, integer_bytes, plain_string, same_field, same_name, NoNameBelow, name_bytes, field_bytes_at, field_bytes, block_bytes}
 use Rattle.hpack.proofs.Eviction.{list_size-cons}
 use Rattle.hpack.proofs.Headers.{block_only}

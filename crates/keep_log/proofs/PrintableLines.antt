@@ -4,7 +4,7 @@ use Rattle.std.specs.Fmt.{decimal}
 use Rattle.event_log.specs.Texts.{hex_digit, escaped, is_printed, are_printed, word_field, number_field, text_field}
 use Rattle.event_log.specs.Events.{level_name}
 use Rattle.event_log.specs.declared.level.Level.TheVariants as level
-use Rattle.event_log.proofs.PrintableText.{printed_append, text_printed, number_printed, word_printed, number_field_printed, text_field_printed}
+use Rattle.event_log.proofs.PrintableText.{printed_append, text_printed, number_printed, word_printed, number_field_printed, text_field_printed, number_below, both_true}
 use Rattle.keep_log.specs.declared.event.WrittenSet.{WrittenSet}
 use Rattle.keep_log.specs.declared.event.KeepEvent.{KeepEvent}
 use Rattle.keep_log.specs.declared.event.KeepEvent.TheVariants.{Written, NotWritten, Answered, Ended, TokenFailed, JwksFailed}
@@ -21,24 +21,18 @@ second_of : (a b : Bool) → (a && b) ≡ true → b ≡ true
 second_of true b h = h
 second_of false b h = absurd (cc h)
 
-number_below : (key : List ℕ) (n : ℕ) → are_printed key ≡ true → nat_lt n (2 ^ 64) ≡ true → are_printed (number_field key n) ≡ true
-number_below key n h small = number_field_printed key n h (below n small)
-
 -- ---- hexadecimal
 
 digit_printed : (n : ℕ) → n < 16 → is_printed (hex_digit n) ≡ true
 unfolding hex_digit
 digit_printed n h = grind arith
 
-two_printed : (c d : Bool) → c ≡ true → d ≡ true → (c && (d && true)) ≡ true
-two_printed c d h k = grind arith
-
 pair_printed : (b : ℕ) → are_printed (hex_pair b) ≡ true
 unfolding hex_pair
 pair_printed b =
     let high : b / 16 % 16 < 16 = omega arith in
     let low : b % 16 < 16 = omega arith in
-    two_printed _ _ (digit_printed _ high) (digit_printed _ low)
+    both_true _ _ (digit_printed _ high) (digit_printed _ low)
 
 hex_printed : (bytes : List ℕ) → are_printed (hex bytes) ≡ true
 hex_printed [] = refl

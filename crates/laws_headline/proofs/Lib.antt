@@ -1,4 +1,4 @@
 pub mod Views
-pub mod Found
+pub mod FilteredLists
 pub mod Steps
 pub mod Agreement

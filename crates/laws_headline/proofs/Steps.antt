@@ -26,7 +26,7 @@ use Rattle.wl_store.proofs.UntouchedParts.{svid_put}
 use Rattle.wl_secrets.proofs.ViewModels.{shown_after, domain_after}
 use Rattle.laws_headline.specs.Own.{own_entries, own_bundles, HaveSameSvids}
 use Rattle.laws_headline.specs.Changes.{PublishesNothingNew, NoneHas, ForeignSyncs, ForeignClaims, ForeignSignings, ForeignFailures}
-use Rattle.laws_headline.proofs.Found.{found_kept, IsAmong, all_among, any_filtered, any_map}
+use Rattle.laws_headline.proofs.FilteredLists.{found_kept, IsAmong, all_among, any_filtered, any_map}
 
 -- what is kept after a step has the own data of the last publication
 record KeepsOwn (selectors : List (List ℕ)) (p : Publication) (s : Store) : Type 0 where

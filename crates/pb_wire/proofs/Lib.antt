@@ -4,7 +4,7 @@ pub mod Steps
 pub mod Forms
 pub mod Fields
 pub mod Messages
-pub mod Written
+pub mod ReadBack
 pub mod Texts
 pub mod Faults
 pub mod Strings

@@ -1,5 +1,5 @@
-pub mod Chosen
-pub mod Found
+pub mod Selections
+pub mod SearchResults
 pub mod Halves
 pub mod Places
 pub mod Marks

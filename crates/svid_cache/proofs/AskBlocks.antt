@@ -11,18 +11,13 @@ use Rattle.std.proofs.lemmas.Map.Text.{is_eq-slice_cmp}
 use Rattle.std.proofs.lemmas.List.{take-append-drop, drop_more, take_all, drop_all, get_or_default}
 use Rattle.std.proofs.lemmas.List.Edits.{map_over_more}
 use Rattle.std.proofs.lemmas.List.Elements.{filter-append}
-use Rattle.list_laws.specs.Lists.{Rises}
+use Rattle.svid_cache.proofs.Common.{Rises, ask_key, same_ask, Ask, Svid, all_such, kept_for, lasts, is_below, is_above, with_svid}
 use Rattle.wl_entry.specs.Fitness.{is_half_over, is_wanted}
-use Rattle.wl_entry.specs.Keys.{ask_key}
-use Rattle.wl_entry.specs.Same.{same_ask}
-use Rattle.wl_entry.specs.declared.asks.Ask.{Ask}
 use Rattle.wl_entry.specs.declared.signing.Signed.{Signed}
-use Rattle.wl_entry.specs.declared.signing.Svid.{Svid}
-use Rattle.list_laws.proofs.Elements.{all_such}
 use Rattle.list_laws.proofs.Equality.{same_bytes}
 use Rattle.list_laws.proofs.Order.{order}
 use Rattle.svid_cache.proofs.CacheFacts.{same_entry_id}
-use Rattle.svid_cache.specs.Caches.{kept_for, is_to_be_replaced, is_due, lasts, is_below, is_above, with_svid}
+use Rattle.svid_cache.specs.Caches.{is_to_be_replaced, is_due}
 use Rattle.svid_cache.specs.Queue.{half_second, due_second, first_second, NotBefore, OthersNotBefore, AllBegunBy, Filed, NoneBelow, clear_second}
 
 -- ---- what is found has what all have

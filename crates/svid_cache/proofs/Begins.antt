@@ -2,11 +2,8 @@
 use Rattle.std.specs.Prelude.{◌≡◌, ◌++◌, ℕ, ◌+◌, ◌<◌, ◌≤◌, max, List, [], ◌∷◌, take, filter, get_or, length, slice_index_or}
 use Rattle.std.proofs.Common.{arith, sym, ap, subst, ◌∙◌}
 use Rattle.std.proofs.lemmas.List.{take_more, take_all}
-use Rattle.list_laws.proofs.Elements.{all_append, all_filter, all_such, all_front, all_back}
-use Rattle.wl_entry.specs.declared.signing.Svid.{Svid}
-use Rattle.sorted_blocks.specs.Blocks.{join}
-use Rattle.sorted_blocks.proofs.BlockOfKey.{join_more}
-use Rattle.svid_cache.specs.Caches.{with_svid, is_below, is_above}
+use Rattle.svid_cache.proofs.Common.{all_append, all_filter, all_such, Svid, join, join_more, with_svid, is_below, is_above}
+use Rattle.list_laws.proofs.Elements.{all_front, all_back}
 use Rattle.svid_cache.specs.Queue.{IsEarliest, AllBegunBy}
 
 -- where all have begun they have at a later second

@@ -6,13 +6,10 @@ use Rattle.std.specs.List.Sorted.{IsStrictlySortedBy}
 use Rattle.std.proofs.Common.{Less, inl, inr, arith, refl, sym, ◌∙◌, ap, subst}
 use Rattle.std.proofs.lemmas.List.{drop-drop, length-drop}
 use Rattle.std.proofs.lemmas.Nat.{div-add-mod', div_below, mod_below}
-use Rattle.list_laws.specs.Lists.{Rises}
+use Rattle.svid_cache.proofs.Common.{Rises, ask_key, Ask, Svid}
 use Rattle.list_laws.specs.Keys.{place_at}
 use Rattle.list_laws.proofs.Equality.{bytes_are}
 use Rattle.list_laws.proofs.Order.{order}
-use Rattle.wl_entry.specs.Keys.{ask_key}
-use Rattle.wl_entry.specs.declared.asks.Ask.{Ask}
-use Rattle.wl_entry.specs.declared.signing.Svid.{Svid}
 use Rattle.svid_cache.specs.Queue.{NotBefore, OthersNotBefore, Filed}
 use Rattle.svid_cache.proofs.AskBlocks.{rises_drop}
 use Rattle.svid_cache.proofs.KeyTests.{above_is_other}

@@ -9,23 +9,18 @@ use Rattle.std.proofs.Common.{Ordering, Less, arith, refl, sym, ◌∙◌, subst
 use Rattle.std.proofs.lemmas.Slice.Eq.{bytes_eq-Decides}
 use Rattle.std.proofs.lemmas.Bool.{and_parts}
 use Rattle.std.proofs.lemmas.Bool.Decides.{nat_tests}
-use Rattle.list_laws.specs.Lists.{Rises}
-use Rattle.wl_entry.specs.Keys.{ask_key, svid_key}
+use Rattle.svid_cache.proofs.Common.{Rises, ask_key, svid_key, same_ask, Ask, Svid, all_append, all_filter, level_self, kept_for, Cached, lasts, is_below, is_above, with_svid}
 use Rattle.wl_entry.specs.Limits.{SignedWithin}
-use Rattle.wl_entry.specs.Same.{same_ask}
-use Rattle.wl_entry.specs.declared.asks.Ask.{Ask}
-use Rattle.wl_entry.specs.declared.signing.Svid.{Svid}
-use Rattle.list_laws.proofs.Elements.{all_append, all_filter, all_pass}
+use Rattle.list_laws.proofs.Elements.{all_pass}
 use Rattle.list_laws.proofs.AscendingKeys.{rises_filter}
 use Rattle.sorted_blocks.proofs.OneMoreItem.{all_past, rises_with}
-use Rattle.list_laws.proofs.Order.{level_self}
 use Rattle.wl_entry.specs.declared.signing.Signed.{Signed}
 use Rattle.wl_entry.specs.declared.unfit.Unfit.{Unfit}
 use Rattle.wl_entry.specs.declared.unfit.Unfit.TheVariants as unfit
 use Rattle.wl_entry.specs.Fitness.{signed_unfit}
 use Rattle.svid_cache.specs.declared.install.Installed.{Installed}
 use Rattle.svid_cache.specs.declared.install.Installed.TheVariants as installed
-use Rattle.svid_cache.specs.Caches.{install, unless_unfit, unless_older, kept_for, Cached, IsCached, is_listed, lasts, is_below, is_above, with_svid}
+use Rattle.svid_cache.specs.Caches.{install, unless_unfit, unless_older, IsCached, is_listed}
 
 abbrev order : List ℕ → List ℕ → Ordering
 order a b = slice_cmp nat_cmp a b

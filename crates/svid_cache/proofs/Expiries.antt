@@ -6,12 +6,9 @@ use Rattle.std.proofs.lemmas.Bool.{or_parts}
 use Rattle.std.proofs.lemmas.Bool.Decides.{nat_tests}
 use Rattle.std.proofs.lemmas.List.{take_more}
 use Rattle.std.proofs.lemmas.List.Folds.{list_any-append}
-use Rattle.wl_entry.specs.declared.signing.Svid.{Svid}
-use Rattle.list_laws.proofs.Elements.{all_append, all_filter, all_such}
-use Rattle.sorted_blocks.specs.Blocks.{join, with_item}
-use Rattle.sorted_blocks.proofs.BlockOfKey.{join_more}
-use Rattle.wl_entry.specs.Keys.{svid_key}
-use Rattle.svid_cache.specs.Caches.{Cached, lasts, has_ended, without_ended, with_svid, is_below, is_above}
+use Rattle.svid_cache.proofs.Common.{Svid, all_append, all_filter, all_such, join, join_more, svid_key, Cached, lasts, with_svid, is_below, is_above}
+use Rattle.sorted_blocks.specs.Blocks.{with_item}
+use Rattle.svid_cache.specs.Caches.{has_ended, without_ended}
 use Rattle.svid_cache.specs.Queue.{svid_end, NoneEndsBefore}
 
 or_assoc : (a b c : Bool) → ((a || b) || c) ≡ (a || (b || c))

@@ -7,14 +7,9 @@ use Rattle.std.specs.Ordering.{nat_cmp}
 use Rattle.std.specs.Cmp.Lexicographic.{slice_cmp}
 use Rattle.std.proofs.Common.{Less, arith, refl, sym, ◌∙◌, ap, subst}
 use Rattle.std.proofs.lemmas.Slice.Eq.{bytes_eq-Decides}
-use Rattle.list_laws.specs.Lists.{Rises}
-use Rattle.wl_entry.specs.Keys.{ask_key, svid_key}
-use Rattle.wl_entry.specs.Same.{same_ask}
-use Rattle.wl_entry.specs.declared.asks.Ask.{Ask}
-use Rattle.wl_entry.specs.declared.signing.Svid.{Svid}
+use Rattle.svid_cache.proofs.Common.{Rises, ask_key, svid_key, same_ask, Ask, Svid, level_self, kept_for}
 use Rattle.list_laws.specs.Keys.{item_at}
-use Rattle.list_laws.proofs.Order.{level_self}
-use Rattle.svid_cache.specs.Caches.{only, is_listed, kept_for}
+use Rattle.svid_cache.specs.Caches.{only, is_listed}
 
 -- whether there is one that passes
 abbrev pub passes : {X : Type 0} → (X → Bool) → Option X → Bool

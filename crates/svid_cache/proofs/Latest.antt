@@ -3,10 +3,8 @@ use Rattle.std.specs.Prelude.{ℕ, ◌+◌, ◌<◌, ◌≤◌, min, List, [], �
 use Rattle.std.specs.List.{AllByRecursion}
 use Rattle.std.proofs.Common.{arith, sym, ap, subst, ◌∙◌}
 use Rattle.std.proofs.lemmas.List.{take_more, take_all}
-use Rattle.list_laws.proofs.Elements.{all_append, all_such, all_front, all_back}
-use Rattle.wl_entry.specs.declared.signing.Svid.{Svid}
-use Rattle.sorted_blocks.specs.Blocks.{join}
-use Rattle.sorted_blocks.proofs.BlockOfKey.{join_more}
+use Rattle.svid_cache.proofs.Common.{all_append, all_such, Svid, join, join_more}
+use Rattle.list_laws.proofs.Elements.{all_front, all_back}
 use Rattle.svid_cache.specs.Queue.{IsLatest, NoneEndsBefore, svid_end}
 
 -- the seconds of the items so far and of one more

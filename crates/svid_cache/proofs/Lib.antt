@@ -1,3 +1,4 @@
+mod Common
 pub mod Blocks
 pub mod AskBlocks
 pub mod KeyTests
@@ -5,4 +6,4 @@ pub mod CacheFacts
 pub mod Latest
 pub mod Expiries
 pub mod Begins
-pub mod KeptAlready
+pub mod RepeatedKeeps

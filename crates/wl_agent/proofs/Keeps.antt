@@ -9,8 +9,8 @@ use Rattle.std.specs.Cmp.Lexicographic.{nat_list_eq_equiv, lists_equiv}
 use Rattle.std.proofs.Common.{Less, arith, refl, sym, subst}
 use Rattle.list_laws.specs.Lists.{Rises}
 use Rattle.sorted_lists.specs.Keys.{item_at}
-use Rattle.sorted_lists.proofs.Chosen.{all_append, keys_append}
-use Rattle.sorted_lists.proofs.Found.{found_has, found_all}
+use Rattle.sorted_lists.proofs.Selections.{all_append, keys_append}
+use Rattle.sorted_lists.proofs.SearchResults.{found_has, found_all}
 use Rattle.wl_entry.specs.Asks.{ask_of, is_ask_of}
 use Rattle.wl_entry.specs.Fitness.{signed_unfit}
 use Rattle.wl_entry.specs.Keys.{entry_key, svid_key}

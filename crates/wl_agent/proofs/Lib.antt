@@ -2,4 +2,4 @@ pub mod Keeps
 pub mod Statuses
 mod StatusRows
 mod RequestWords
-mod Sole
+mod Operands

@@ -1,6 +1,6 @@
 mod Arrays
 mod Walks
-mod Distinct
+mod NewNames
 pub mod Ranges
 pub mod Marks
 pub mod Parts

@@ -5,6 +5,7 @@ use Rattle.list_laws.specs.Lists.{BeginsWith}
 use Rattle.wl_edge.specs.Edge.{Rose, Gained, Sends}
 use Rattle.wl_edge.specs.Links.{LinkLog, with_taken, with_heard}
 use Rattle.wl_edge.specs.declared.link.Heard.{Heard as Answer}
+use Rattle.wl_edge.proofs.Sinks.{gained_none, gained_more}
 use Rattle.wl_control.specs.declared.asked.Verdict.{Verdict}
 use Rattle.wl_control.specs.declared.status.TheConstants.{WRITE_FAILED}
 use Rattle.wl_control.specs.Runs.{verdict_line}
@@ -16,12 +17,8 @@ pub link_same : (m : Option LinkLog) → LinkGains m m [] []
 link_same None = tt
 link_same (Some log) = rw (append-nil log.gave, append-nil log.took) refl
 
-pub sink_same : (m : Option (List ℕ)) → Gained m m []
-sink_same None = tt
-sink_same (Some taken) = rw (append-nil taken) refl
-
 pub passes_nothing : (m : Moment) → Passes m m [] [] []
-passes_nothing m = record { link = link_same m.link; sink = sink_same m.sink; receives = omega arith; sends = omega arith; writes = omega arith }
+passes_nothing m = record { link = link_same m.link; sink = gained_none m.sink; receives = omega arith; sends = omega arith; writes = omega arith }
 
 pub breaks_nothing : (sent text : List ℕ) (m : Moment) → Breaks sent text m m
 breaks_nothing sent text m = record { sent_part = []; text_part = []; passes = passes_nothing m; due_sent = (sent, refl); due_text = (text, refl) }
@@ -34,16 +31,10 @@ link_more (Some log) b c xs ys s u p r =
     let got = subst (λ (m : Option LinkLog). LinkGains m c ys u) p r in
     got ∙ rw (append_assoc log.gave xs ys, append_assoc log.took s u) refl
 
-pub sink_more : (a b c : Option (List ℕ)) (t v : List ℕ) → Gained a b t → Gained b c v → Gained a c (t ++ v)
-sink_more None b c t v p r = tt
-sink_more (Some taken) b c t v p r =
-    let got = subst (λ (m : Option (List ℕ)). Gained m c v) p r in
-    got ∙ rw (append_assoc taken t v) refl
-
 pub passes_more : (a b c : Moment) (xs ys : List Answer) (s u t v : List ℕ) → Passes a b xs s t → Passes b c ys u v → Passes a c (xs ++ ys) (s ++ u) (t ++ v)
 passes_more a b c xs ys s u t v p r = record {
   link = link_more a.link b.link c.link xs ys s u p.link r.link;
-  sink = sink_more a.sink b.sink c.sink t v p.sink r.sink;
+  sink = gained_more a.sink b.sink c.sink t v p.sink r.sink;
   receives = omega (arith, p.receives, r.receives);
   sends = omega (arith, p.sends, r.sends);
   writes = omega (arith, p.writes, r.writes);
@@ -91,7 +82,7 @@ sending_fails old mid new a b c whole rest s first last rose same =
 
 pub gives_one : (l m : Option LinkLog) (k : Option (List ℕ)) (r s w t u : ℕ) (a : Answer) → IfSome l (λ log. m ≡ Some (with_heard log a)) → r ≤ t → u ≡ s
     → Passes (record { link = l; sink = k; failed_receives = r; failed_sends = s; failed_writes = w }) (record { link = m; sink = k; failed_receives = t; failed_sends = u; failed_writes = w }) (a ∷ []) [] []
-gives_one l m k r s w t u a told later same = record { link = one l told; sink = sink_same k; receives = later; sends = omega arith; writes = omega arith }
+gives_one l m k r s w t u a told later same = record { link = one l told; sink = gained_none k; receives = later; sends = omega arith; writes = omega arith }
   where
     one : (l : Option LinkLog) → IfSome l (λ log. m ≡ Some (with_heard log a)) → LinkGains l m (a ∷ []) []
     one None told = tt
@@ -99,7 +90,7 @@ gives_one l m k r s w t u a told later same = record { link = one l told; sink =
 
 pub gives_none : (l m : Option LinkLog) (k : Option (List ℕ)) (r s w t u : ℕ) → LinkGains l m [] [] → r ≤ t → u ≡ s
     → Passes (record { link = l; sink = k; failed_receives = r; failed_sends = s; failed_writes = w }) (record { link = m; sink = k; failed_receives = t; failed_sends = u; failed_writes = w }) [] [] []
-gives_none l m k r s w t u none later same = record { link = none; sink = sink_same k; receives = later; sends = omega arith; writes = omega arith }
+gives_none l m k r s w t u none later same = record { link = none; sink = gained_none k; receives = later; sends = omega arith; writes = omega arith }
 
 -- ---- what is delivered
 

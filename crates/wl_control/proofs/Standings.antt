@@ -16,6 +16,7 @@ use Rattle.wl_edge.specs.declared.link.Heard.TheVariants as answer
 use Rattle.wl_client.specs.declared.fault.ClientFault.{ClientFault}
 use Rattle.wl_client.specs.declared.fault.ClientFault.TheVariants as faults
 use Rattle.h2_frame.specs.Reading.{reading_from, frames_of, frames_in}
+use Rattle.wl_edge.proofs.Sinks.{gained_none}
 use Rattle.wl_client.specs.Hearing.{frames_heard}
 use Rattle.wl_client.specs.Clients.{ClientState, Listening, Failed, Reply, fresh_state, heard, heard_in, heard_from, heard_on, IsListening, rest_in}
 use Rattle.wl_client.specs.Openings.{opening_of}
@@ -32,7 +33,7 @@ use Rattle.wl_control.specs.Runs.{bytes_of, bytes_in, is_end, idles_with, idles_
 use Rattle.wl_control.specs.Ends.{Moment, LinkGains, Passes, BreaksOff, BreaksSending, IsDecided, Ends, decided, fails_read, fails_send, fails_write, Breaks, SendsPart, Delivered, delivered, not_written, not_sent, Delivers, SendsAll}
 use Rattle.wl_control.specs.Standings.{reply_to, run_on, verdict_on, GoesOn, Starts, Standing, StepEnds}
 use Rattle.wl_control.proofs.Courses.{course_on}
-use Rattle.wl_control.proofs.Passages.{link_same, sink_same, passes_nothing, passes_more, rose_wide, gives_one, gives_none}
+use Rattle.wl_control.proofs.Passages.{link_same, passes_nothing, passes_more, rose_wide, gives_one, gives_none}
 
 -- ---- one answer more
 
@@ -431,7 +432,7 @@ unfolding breaks_first
 opening_fails q call bytes l m k r s w t u begun same still went =
     fails_send went.0 (record {
       breaks = breaks_first q _ _ went.2.0 (subst (λ (xs : List ℕ). BeginsWith xs went.2.0) (same ∙ begun.opening) went.2.1)
-          (record { link = went.2.2; sink = sink_same k; receives = omega arith; sends = went.1; writes = omega arith });
+          (record { link = went.2.2; sink = gained_none k; receives = omega arith; sends = went.1; writes = omega arith });
       written = ([], sym (ap (λ (c : Course). c.lines ++ []) (course_start q)));
     })
 
@@ -439,7 +440,7 @@ pub opening_sent : (q : Request) (call : Call) (bytes : List ℕ) (l m : Option 
     → Standing q (record { link = l; sink = k; failed_receives = r; failed_sends = s; failed_writes = w }) (record { link = m; sink = k; failed_receives = t; failed_sends = u; failed_writes = w }) call []
 opening_sent q call bytes l m k r s w t u begun same still went =
     stands_first q _ _ call begun
-    (record { link = subst (λ (xs : List ℕ). LinkGains l m [] xs) same went.0; sink = sink_same k; receives = omega arith; sends = went.1; writes = omega arith })
+    (record { link = subst (λ (xs : List ℕ). LinkGains l m [] xs) same went.0; sink = gained_none k; receives = omega arith; sends = went.1; writes = omega arith })
 
 -- ---- what a step answered
 

@@ -2,27 +2,14 @@
 use Rattle.std.proofs.Common.{◌≡◌, ℕ, ◌+◌, zero, suc, arith, Bool, false, List, [], Option, None, Result, Ok, Err, slice_set, replicate, sym, ap, subst, ◌∙◌}
 use Rattle.std.specs.Prelude.{IsOkAnd}
 use Rattle.std.proofs.lemmas.List.{length-replicate}
-use Rattle.wl_document.specs.declared.fault.DocFault.{DocFault}
-use Rattle.wl_document.specs.States.{State}
-use Rattle.wl_snapshot.specs.Snapshots.{Publication}
-use Rattle.wl_entry.specs.declared.signing.Signed.{Signed}
-use Rattle.wl_entry.specs.declared.tokens.JwtToken.{JwtToken}
-use Rattle.jwt_cache.specs.declared.rings.CachedToken.{CachedToken}
+use Rattle.wl_core.proofs.Common.{DocFault, State, Publication, Signed, JwtToken, CachedToken, after_claim, Stored, stored_after, Managed, Event, CONNS, Line, Seat, counted, seat_at, joined_seat, named_seat, feed_seat, turn_seat, IsReady, tokens_of, Moment, moment_after, after_identity, flight_in, with_told, token_seat, lines_at, no_identity_lines, join_lines, name_lines, told_lines, token_lines, Holds, WorksOn}
 use Rattle.jwt_cache.specs.Rings as rings
-use Rattle.wl_store.specs.Stores.{after_claim}
-use Rattle.wl_store.specs.Steps.{Stored, stored_after}
-use Rattle.wl_manager.specs.Managers.{Managed, first_managed}
-use Rattle.wl_core.specs.declared.events.Event.{Event}
+use Rattle.wl_manager.specs.Managers.{first_managed}
 use Rattle.wl_core.specs.declared.events.Event.TheVariants as events
-use Rattle.wl_core.specs.declared.events.TheConstants.{CONNS}
-use Rattle.wl_core.specs.declared.lines.Line.{Line}
-use Rattle.wl_core.specs.declared.seats.Seat.{Seat}
-use Rattle.wl_core.specs.Counts.{counted}
-use Rattle.wl_core.specs.Seats.{begun_at, seat_at, joined_seat, named_seat, feed_seat, turn_seat, IsReady}
-use Rattle.wl_core.specs.Tokens.{tokens_of}
-use Rattle.wl_core.specs.Moments.{Moment, moment_after, after_document, history_after_document, after_identity, after_no_identity, flight_in, with_told, token_seat, ask_of_seat, history_answered}
-use Rattle.wl_core.specs.Lines.{lines_at, document_lines, claim_lines, identity_lines, no_identity_lines, join_lines, name_lines, told_lines, token_lines, close_lines}
-use Rattle.wl_core.specs.Worlds.{Holds, Steps, WorldState, StandsFor, WorksOn}
+use Rattle.wl_core.specs.Seats.{begun_at}
+use Rattle.wl_core.specs.Moments.{after_document, history_after_document, after_no_identity, ask_of_seat, history_answered}
+use Rattle.wl_core.specs.Lines.{document_lines, claim_lines, identity_lines, close_lines}
+use Rattle.wl_core.specs.Worlds.{Steps, WorldState, StandsFor}
 
 pub sync_steps : (document : List ℕ) (old new : Managed) (seats : List (Option Seat)) (begun : ℕ) (lines : List Line) (m : Moment) → Holds old seats begun m
     → new.stored ≡ after_document document old.stored

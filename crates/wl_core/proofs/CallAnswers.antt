@@ -4,18 +4,11 @@ use Rattle.std.proofs.lemmas.List.{append-nil, set-set}
 use Rattle.std.specs.Prelude.{IsSome}
 use Rattle.h2_frame.specs.Reading.{End, reading_from}
 use Rattle.h2_conn.specs.declared.fault.ConnFault.{ConnFault}
-use Rattle.wl_snapshot.specs.Snapshots.{Publication}
-use Rattle.wl_session.specs.declared.asks.JwtOutcome.{JwtOutcome}
-use Rattle.wl_session.specs.declared.asks.SessionFault.{SessionFault}
+use Rattle.wl_core.proofs.Common.{Publication, JwtOutcome, SessionFault, SessionState, Running, Fallen, OutOfMemory, asks_in, failure_in, Line, Seat, Told, outcome_told, seat_at, told_seat, with_told, out_lines, failure_lines, told_lines, session_lines}
 use Rattle.wl_session.specs.declared.asks.SessionFault.TheVariants as faults
 use Rattle.wl_session.specs.Talks.{Said, then_}
-use Rattle.wl_session.specs.Sessions.{SessionState, Running, Fallen, OutOfMemory, asks_in, failure_in, state_of_fault, state_after, feed_said, Feeds, Turns, GivesOutcome}
-use Rattle.wl_core.specs.declared.lines.Line.{Line}
-use Rattle.wl_core.specs.declared.seats.Seat.{Seat}
-use Rattle.wl_session.specs.Steps.{IsTold, Told, runs_on, all_named, names_told, fed_by, fed_to, feed_told, turn_told, outcome_told}
-use Rattle.wl_core.specs.Seats.{seat_at, told_seat}
-use Rattle.wl_core.specs.Moments.{with_told}
-use Rattle.wl_core.specs.Lines.{out_lines, failure_lines, told_lines, session_lines}
+use Rattle.wl_session.specs.Sessions.{state_of_fault, state_after, feed_said, Feeds, Turns, GivesOutcome}
+use Rattle.wl_session.specs.Steps.{IsTold, runs_on, all_named, names_told, fed_by, fed_to, feed_told, turn_told}
 
 fed_on : (e : End) (shown : Option Publication) (caller : Option (List (List ℕ))) (due : Said) (old mid now : List ℕ) (s1 : SessionState)
     → due.fault ≡ None → mid ≡ old ++ due.bytes → s1 ≡ state_after e due shown → now ≡ mid ++ (names_told caller s1).bytes

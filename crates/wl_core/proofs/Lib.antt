@@ -1,3 +1,4 @@
+mod Common
 pub mod WideCounts
 pub mod StoreSteps
 pub mod TokenKeeps

@@ -4,34 +4,19 @@ use Rattle.std.specs.Prelude.{◌⊎◌}
 use Rattle.std.specs.List.{list_any}
 use Rattle.std.proofs.lemmas.Bool.Decides.{nat_tests}
 use Rattle.std.proofs.lemmas.List.{length-set, length-map, length-replicate, replicate-append-replicate, get_or-set_same}
-use Rattle.wl_document.specs.declared.fault.DocFault.{DocFault}
-use Rattle.wl_document.specs.States.{State}
-use Rattle.wl_entry.specs.declared.signing.Signed.{Signed}
-use Rattle.wl_entry.specs.declared.tokens.JwtToken.{JwtToken}
+use Rattle.wl_core.proofs.Common.{DocFault, State, Signed, JwtToken, Publication, Flight, after_claim, Stored, Managed, JwtAsk, fresh_session, asks_in, Event, CONNS, Seat, seat_at, joined_seat, named_seat, told_seat, feed_seat, turn_seat, KeptTokens, tokens_of, kept_token, outcome_of, Moment, reading_of, after_reading, signed_with, failed_with, flight_in, answer_ask, token_seat, moment_after, Holds, WorksOn}
 use Rattle.wl_snapshot.specs.Same.{same_view_model}
-use Rattle.wl_snapshot.specs.Snapshots.{Publication}
 use Rattle.wl_snapshot.specs.Views.{view_in}
 use Rattle.wl_snapshot.proofs.Equalities.{view_model_is}
-use Rattle.wl_store.specs.declared.tickets.Flight.{Flight}
-use Rattle.wl_store.specs.Stores.{Store, shows, publish, next_publication, after_claim}
-use Rattle.wl_store.specs.Steps.{Stored}
-use Rattle.wl_manager.specs.Managers.{Managed}
+use Rattle.wl_store.specs.Stores.{Store, shows, publish, next_publication}
 use Rattle.wl_subscribe.specs.Filed.{has_number}
 use Rattle.wl_subscribe.specs.Subscribed.{Subscribed, members_without, without_member, views_differ, affected_numbers}
 use Rattle.wl_subscribe.proofs.Filings.{or_weakened}
-use Rattle.wl_session.specs.declared.asks.JwtAsk.{JwtAsk}
-use Rattle.wl_session.specs.Sessions.{fresh_session, asks_in}
 use Rattle.wl_session.proofs.ViewFacts.{NewIs, fed_each, turned_each, outcome_each, fed_shown, outcome_shown, turned_shown, shown_on, weaker}
-use Rattle.wl_core.specs.declared.events.Event.{Event}
 use Rattle.wl_core.specs.declared.events.Event.TheVariants as events
-use Rattle.wl_core.specs.declared.events.TheConstants.{CONNS}
 use Rattle.wl_core.specs.declared.marks.Mark.{Mark}
-use Rattle.wl_core.specs.declared.seats.Seat.{Seat}
 use Rattle.wl_core.specs.Events.{IsWithin}
-use Rattle.wl_core.specs.Seats.{seat_at, joined_seat, named_seat, told_seat, feed_seat, turn_seat, with_session}
-use Rattle.wl_core.specs.Tokens.{KeptTokens, tokens_of, kept_token, outcome_of}
-use Rattle.wl_core.specs.Moments.{Moment, reading_of, after_reading, signed_with, failed_with, flight_in, answer_ask, token_seat, moment_after}
-use Rattle.wl_core.specs.Worlds.{Holds, WorksOn}
+use Rattle.wl_core.specs.Seats.{with_session}
 use Rattle.wl_core.specs.Marks.{Marked, no_mark, mark_at, none_marked, with_number, with_caller, marked_as, without_members, without_callers, marked_by, marked_after, noted_join, noted_caller, noted_name, noted, IsTurnMarked, IsMember, IsSubscribed, IsCaller, IsFollowed, IsFollowedAt, AreOwned, Follows, IsShownAt, IsTurnShown}
 
 -- ---- tests

@@ -5,23 +5,14 @@ use Rattle.h2_frame.specs.Reading.{End, reading_from}
 use Rattle.h2_conn.specs.declared.fault.ConnFault.{ConnFault}
 use Rattle.h2_conn.specs.declared.phase.Phase.{Phase}
 use Rattle.workload_proto.specs.declared.message.JwtItem.{JwtItem}
-use Rattle.wl_document.specs.declared.fault.DocFault.{DocFault}
-use Rattle.wl_document.specs.States.{State}
-use Rattle.wl_entry.specs.declared.signing.Signed.{Signed}
-use Rattle.wl_entry.specs.declared.tokens.JwtToken.{JwtToken}
-use Rattle.wl_snapshot.specs.Snapshots.{Publication}
+use Rattle.wl_core.proofs.Common.{DocFault, State, Signed, JwtToken, Publication, Flight, after_claim, Stored, stored_after, Managed, JwtAsk, JwtOutcome, SessionState, Running, Fallen, OutOfMemory, asks_in, Event, Seat, outcome_told, Told, seat_at, joined_seat, named_seat, told_seat, feed_seat, turn_seat, IsReady, KeptTokens, tokens_of, kept_token, outcome_of, Moment, reading_of, after_reading, signed_with, failed_with, flight_in, answer_ask, token_seat, moment_after, Holds, WorksOn}
 use Rattle.wl_snapshot.specs.Views.{ViewModel, view_in}
 use Rattle.wl_snapshot.specs.Answers.{answer_of, asks_of}
 use Rattle.wl_snapshot.specs.declared.answers.Answer.{Answer}
 use Rattle.wl_snapshot.specs.declared.answers.Answer.TheVariants.{Denied, Wait, TooLong, Message}
 use Rattle.wl_snapshot.specs.declared.answers.Method3.{Method3}
 use Rattle.wl_snapshot.specs.declared.token_asks.Wanted.{Wanted}
-use Rattle.wl_store.specs.declared.tickets.Flight.{Flight}
-use Rattle.wl_store.specs.Stores.{Store, shows, publish, next_publication, after_claim}
-use Rattle.wl_store.specs.Steps.{Stored, stored_after}
-use Rattle.wl_manager.specs.Managers.{Managed}
-use Rattle.wl_session.specs.declared.asks.JwtAsk.{JwtAsk}
-use Rattle.wl_session.specs.declared.asks.JwtOutcome.{JwtOutcome}
+use Rattle.wl_store.specs.Stores.{Store, shows, publish, next_publication}
 use Rattle.wl_session.specs.declared.asks.JwtOutcome.TheVariants as outcomes
 use Rattle.wl_session.specs.declared.served.CallKind.{CallKind}
 use Rattle.wl_session.specs.declared.served.CallKind.TheVariants.{Stream, Tokens, Check, Watch}
@@ -32,16 +23,11 @@ use Rattle.wl_session.specs.Kinds.{was_seen}
 use Rattle.wl_session.specs.Answering.{Turned, goes_on, has_ended, stream_answer, token_answer, call_answer, stage_turn, call_turn, calls_turn}
 use Rattle.wl_session.specs.Tokens.{change_first, is_asking, item_for, next_ask, give_call, give_on, give_first, first_unnamed}
 use Rattle.wl_session.specs.Talks.{Talking, Said, written}
-use Rattle.wl_session.specs.Sessions.{SessionState, Running, Fallen, OutOfMemory, feed_said, turn_said, given_said, unnamed_in, asks_in}
+use Rattle.wl_session.specs.Sessions.{feed_said, turn_said, given_said, unnamed_in}
 use Rattle.wl_session.specs.Settled.{MayFollow, MayTurn}
-use Rattle.wl_core.specs.declared.events.Event.{Event}
 use Rattle.wl_core.specs.declared.events.Event.TheVariants as events
-use Rattle.wl_core.specs.declared.seats.Seat.{Seat}
-use Rattle.wl_session.specs.Steps.{fed_by, feed_told, turn_told, outcome_told, unnamed_count, Told, HasMemory}
-use Rattle.wl_core.specs.Seats.{seat_at, joined_seat, named_seat, told_seat, feed_seat, turn_seat, with_session, IsReady, AreReady}
-use Rattle.wl_core.specs.Tokens.{KeptTokens, tokens_of, kept_token, outcome_of}
-use Rattle.wl_core.specs.Moments.{Moment, reading_of, after_reading, signed_with, failed_with, flight_in, answer_ask, token_seat, moment_after}
-use Rattle.wl_core.specs.Worlds.{Holds, WorksOn}
+use Rattle.wl_session.specs.Steps.{fed_by, feed_told, turn_told, unnamed_count, HasMemory}
+use Rattle.wl_core.specs.Seats.{with_session, AreReady}
 use Rattle.wl_session.proofs.Attestations.{first_here, first_later, first_of_none, left_among, none_left, left_none, names_leave_none}
 
 -- ---- no call is left without a name

@@ -1,14 +1,10 @@
 -- Who comes and goes on a connection.
 use Rattle.std.proofs.Common.{◌≡◌, ℕ, ◌+◌, List, [], ◌∷◌, ◌++◌, Option, Some, None, slice_set, replicate, refl}
 use Rattle.std.proofs.lemmas.List.{replicate-append-replicate}
-use Rattle.wl_session.specs.declared.asks.SessionFault.{SessionFault}
-use Rattle.wl_session.specs.Sessions.{SessionState, fresh_session, failure_in}
-use Rattle.wl_core.specs.declared.lines.Line.{Line}
+use Rattle.wl_core.proofs.Common.{SessionFault, SessionState, fresh_session, failure_in, Line, Seat, Told, seat_at, joined_seat, named_seat, join_lines, name_lines, told_lines, out_lines, failure_lines}
 use Rattle.wl_core.specs.declared.lines.Line.TheVariants as lines
-use Rattle.wl_core.specs.declared.seats.Seat.{Seat}
-use Rattle.wl_session.specs.Steps.{IsTold, Told}
-use Rattle.wl_core.specs.Seats.{seat_at, joined_seat, named_seat}
-use Rattle.wl_core.specs.Lines.{join_lines, caller_line, name_lines, told_lines, out_lines, failure_lines}
+use Rattle.wl_session.specs.Steps.{IsTold}
+use Rattle.wl_core.specs.Lines.{caller_line}
 use Rattle.wl_core.proofs.CallAnswers.{seat_set, seat_left, seat_said, told_said, told_lines_of}
 
 -- one connection more on which there is no session

@@ -3,22 +3,12 @@ use Rattle.std.proofs.Common.{◌≡◌, ◌≢◌, ℕ, ◌==◌, ◌<◌, Bool
 use Rattle.std.proofs.lemmas.List.{append-nil, length-replicate, get_or-replicate, get_or-set_same, get_or-set_other}
 use Rattle.std.proofs.lemmas.Bool.{eqb-true}
 use Rattle.std.proofs.lemmas.Bool.Decides.{nat_tests}
-use Rattle.wl_entry.specs.declared.tokens.JwtToken.{JwtToken}
-use Rattle.wl_session.specs.declared.asks.JwtAsk.{JwtAsk}
-use Rattle.wl_session.specs.Sessions.{SessionState, Running, Fallen, OutOfMemory, fresh_session, asks_in, failure_in}
+use Rattle.wl_core.proofs.Common.{JwtToken, JwtAsk, SessionState, Running, Fallen, OutOfMemory, fresh_session, asks_in, failure_in, CONNS, Event, Line, Seat, Told, seat_at, joined_seat, named_seat, told_seat, feed_seat, turn_seat, KeptTokens, tokens_of, kept_token, outcome_of, Moment, moment_after, reading_of, flight_in, answer_ask, token_seat, with_told, after_claim, stored_after, lines_at, join_lines, told_lines, token_lines}
 use Rattle.wl_session.proofs.SessionFacts.{settled_fresh}
-use Rattle.wl_core.specs.declared.events.TheConstants.{CONNS}
-use Rattle.wl_core.specs.declared.events.Event.{Event}
 use Rattle.wl_core.specs.declared.events.Event.TheVariants as events
-use Rattle.wl_core.specs.declared.lines.Line.{Line}
-use Rattle.wl_core.specs.declared.seats.Seat.{Seat}
-use Rattle.wl_session.specs.Steps.{Told}
-use Rattle.wl_core.specs.Seats.{seat_at, joined_seat, named_seat, told_seat, feed_seat, turn_seat}
-use Rattle.wl_core.specs.Tokens.{KeptTokens, tokens_of, kept_token, outcome_of}
-use Rattle.wl_core.specs.Moments.{Beginning, Moment, moment, moment_after, reading_of, after_document, flight_in, answer_ask, token_seat, with_told, seat}
-use Rattle.wl_store.specs.Stores.{after_claim, asks_to_claim, flights_from}
-use Rattle.wl_store.specs.Steps.{stored_after}
-use Rattle.wl_core.specs.Lines.{transcript, lines_at, join_lines, told_lines, ask_lines, token_lines}
+use Rattle.wl_core.specs.Moments.{Beginning, moment, after_document, seat}
+use Rattle.wl_store.specs.Stores.{asks_to_claim, flights_from}
+use Rattle.wl_core.specs.Lines.{transcript, ask_lines}
 use Rattle.wl_session.specs.Items.{Item, items_said, talk, feed_items, turn_items}
 use Rattle.wl_core.specs.Traces.{ask_items, gain, joined_trace, trace_after, trace, told_from, told_to}
 use Rattle.wl_core.proofs.Readiness.{room_after}

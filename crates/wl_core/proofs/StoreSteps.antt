@@ -5,27 +5,21 @@ use Rattle.sorted_lists.specs.Keys.{item_at}
 use Rattle.wl_entry.specs.Keys.{entry_key, svid_key}
 use Rattle.wl_entry.specs.Same.{same_ask}
 use Rattle.wl_entry.specs.declared.asks.Ask.{Ask}
-use Rattle.wl_entry.specs.declared.signing.Signed.{Signed}
+use Rattle.wl_core.proofs.Common.{Signed, DocFault, State, CachedToken, Publication, Flight, Stored, stored_after, Line, after_reading, flight_in, signed_with, after_identity, failed_with, no_identity_lines}
 use Rattle.wl_entry.proofs.Sames.{ask_self}
-use Rattle.wl_document.specs.declared.fault.DocFault.{DocFault}
 use Rattle.wl_document.specs.declared.fault.DocFault.TheVariants as faults
 use Rattle.wl_document.specs.Checks.{Faults}
-use Rattle.wl_document.specs.States.{State}
-use Rattle.jwt_cache.specs.declared.rings.CachedToken.{CachedToken}
 use Rattle.jwt_cache.specs.Rings as rings
 use Rattle.svid_cache.specs.declared.install.Installed.{Installed}
-use Rattle.wl_snapshot.specs.Snapshots.{Publication}
 use Rattle.wl_snapshot.specs.Untouched.{SameBut}
-use Rattle.wl_store.specs.declared.tickets.Flight.{Flight}
 use Rattle.wl_store.specs.declared.tickets.Ticket.{Ticket}
 use Rattle.wl_store.specs.Flights.{flight_of}
 use Rattle.wl_store.specs.Stores.{has_ticket, install, after_signed}
-use Rattle.wl_store.specs.Steps.{Stored, stored_after, after_sync, after_failed}
+use Rattle.wl_store.specs.Steps.{after_sync, after_failed}
 use Rattle.wl_manager.specs.Tokens.{history_after}
-use Rattle.wl_core.specs.declared.lines.Line.{Line}
 use Rattle.wl_core.specs.declared.lines.Line.TheVariants as lines
-use Rattle.wl_core.specs.Moments.{after_reading, history_read, flight_in, flight_as, signed_with, after_identity, failed_with, after_no_identity}
-use Rattle.wl_core.specs.Lines.{published_lines, reading_lines, installed_line, identity_lines_by, identity_lines, no_identity_lines}
+use Rattle.wl_core.specs.Moments.{history_read, flight_as, after_no_identity}
+use Rattle.wl_core.specs.Lines.{published_lines, reading_lines, installed_line, identity_lines_by, identity_lines}
 
 -- where the publication stays, none of its entries and SVIDs is another
 pub untouched : (ids : List (List ℕ)) (p q : Publication) → q ≡ p → SameBut ids p q

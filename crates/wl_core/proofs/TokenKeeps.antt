@@ -2,23 +2,14 @@
 use Rattle.std.proofs.Common.{◌≡◌, ℕ, List, [], ◌∷◌, ◌++◌, Option, Some, None, refl, sym, ap, subst, ◌∙◌}
 use Rattle.wl_entry.specs.Fitness.{token_unfit}
 use Rattle.wl_entry.specs.declared.asks.Ask.{Ask}
-use Rattle.wl_entry.specs.declared.tokens.JwtToken.{JwtToken}
-use Rattle.jwt_cache.specs.declared.rings.CachedToken.{CachedToken}
+use Rattle.wl_core.proofs.Common.{JwtToken, CachedToken, Stored, Managed, JwtAsk, JwtOutcome, SessionState, failure_in, Line, Seat, Told, outcome_told, KeptTokens, kept_token, outcome_of, answer_ask, session_lines, token_lines}
 use Rattle.jwt_cache.specs.Rings as rings
-use Rattle.wl_store.specs.Steps.{Stored}
-use Rattle.wl_manager.specs.Managers.{Managed}
 use Rattle.wl_manager.specs.declared.keeping.Keeping.{Keeping}
 use Rattle.wl_manager.specs.declared.keeping.Keeping.TheVariants as keeping
-use Rattle.wl_session.specs.declared.asks.JwtAsk.{JwtAsk}
-use Rattle.wl_session.specs.declared.asks.JwtOutcome.{JwtOutcome}
 use Rattle.wl_session.specs.declared.asks.JwtOutcome.TheVariants as outcomes
-use Rattle.wl_session.specs.Sessions.{SessionState, failure_in}
-use Rattle.wl_core.specs.declared.lines.Line.{Line}
-use Rattle.wl_core.specs.declared.seats.Seat.{Seat}
-use Rattle.wl_session.specs.Steps.{Told, outcome_told}
-use Rattle.wl_core.specs.Tokens.{KeptTokens, kept_token, outcome_by, outcome_of, history_by, history_after_token}
-use Rattle.wl_core.specs.Moments.{answer_ask, ask_of_seat, history_answered}
-use Rattle.wl_core.specs.Lines.{idle_lines, session_lines, ask_lines, token_lines}
+use Rattle.wl_core.specs.Tokens.{outcome_by, history_by, history_after_token}
+use Rattle.wl_core.specs.Moments.{ask_of_seat, history_answered}
+use Rattle.wl_core.specs.Lines.{idle_lines, ask_lines}
 
 -- ---- keeping
 

@@ -1,24 +1,13 @@
 -- What the transcript tells one caller.
 use Rattle.std.proofs.Common.{◌≡◌, ℕ, ◌==◌, Bool, true, false, if◌then◌else◌, List, [], ◌∷◌, ◌++◌, map, Option, Some, None, Result, Ok, Err, refl, sym, ap, ◌∙◌}
 use Rattle.std.proofs.lemmas.List.{append-nil}
-use Rattle.wl_document.specs.declared.fault.DocFault.{DocFault}
-use Rattle.wl_document.specs.States.{State}
-use Rattle.wl_entry.specs.declared.signing.Signed.{Signed}
+use Rattle.wl_core.proofs.Common.{DocFault, State, Signed, Publication, Flight, Stored, SessionFault, failure_in, Line, Seat, Told, no_identity_lines, name_lines, out_lines, failure_lines, session_lines, after_identity}
 use Rattle.svid_cache.specs.declared.install.Installed.{Installed}
 use Rattle.svid_cache.specs.declared.install.Installed.TheVariants as installed
-use Rattle.wl_snapshot.specs.Snapshots.{Publication}
-use Rattle.wl_store.specs.declared.tickets.Flight.{Flight}
 use Rattle.wl_store.specs.Stores.{install}
-use Rattle.wl_store.specs.Steps.{Stored}
-use Rattle.wl_session.specs.declared.asks.SessionFault.{SessionFault}
 use Rattle.wl_session.specs.declared.asks.SessionFault.TheVariants as faults
-use Rattle.wl_session.specs.Sessions.{failure_in}
-use Rattle.wl_core.specs.declared.lines.Line.{Line}
 use Rattle.wl_core.specs.declared.lines.Line.TheVariants as lines
-use Rattle.wl_core.specs.declared.seats.Seat.{Seat}
-use Rattle.wl_session.specs.Steps.{Told}
-use Rattle.wl_core.specs.Lines.{published_lines, reading_lines, ticket_line, installed_line, identity_lines_by, no_identity_lines, name_lines, out_lines, failure_lines, session_lines, idle_lines, close_lines}
-use Rattle.wl_core.specs.Moments.{after_identity}
+use Rattle.wl_core.specs.Lines.{published_lines, reading_lines, ticket_line, installed_line, identity_lines_by, idle_lines, close_lines}
 use Rattle.wl_core.specs.Traces.{told_from}
 
 pub told_append : (conn : ℕ) (before : List ℕ) (first more : List Line) → told_from conn before (first ++ more) ≡ told_from conn (told_from conn before first) more

@@ -1,10 +1,10 @@
 -- Counts of 64 bits.
 use Rattle.std.proofs.Common.{◌≡◌, ℕ, ◌+◌, arith, List, ◌++◌, sum_by, refl, ◌∙◌}
 use Rattle.std.proofs.lemmas.List.Sums.{sum-map, sum_by-append}
-use Rattle.wl_session.specs.Sessions.{SessionState, Running, Fallen, OutOfMemory, Began}
-use Rattle.wl_core.specs.declared.lines.Line.{Line}
+use Rattle.wl_core.proofs.Common.{SessionState, Running, Fallen, OutOfMemory, Line, counted}
+use Rattle.wl_session.specs.Sessions.{Began}
 use Rattle.wl_session.specs.Steps.{begun_in, HasMemory}
-use Rattle.wl_core.specs.Counts.{counted, octets_in, octets_of}
+use Rattle.wl_core.specs.Counts.{octets_in, octets_of}
 
 pub began_is : (s : SessionState) (n : ℕ) → HasMemory s → Began s n → n ≡ begun_in s
 began_is (Running e t shown) n memory began = began

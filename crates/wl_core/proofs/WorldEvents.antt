@@ -3,19 +3,14 @@ use Rattle.std.proofs.Common.{◌≡◌, ℕ, ◌+◌, arith, false, List, [], �
 use Rattle.std.proofs.lemmas.List.{append-nil, append_assoc}
 use Rattle.list_laws.specs.Lists.{GainsFront}
 use Rattle.list_laws.proofs.Fronts.{gains_all, gains_before, gains_after}
-use Rattle.wl_manager.specs.Managers.{Managed}
+use Rattle.wl_core.proofs.Common.{Managed, Event, Seat, seat_at, IsReady, Moment, moment_after, Line, lines_at, counted, Holds, WorksOn, Publication, Stored}
 use Rattle.wl_core.specs.declared.counts.Counts.{Counts}
-use Rattle.wl_core.specs.declared.events.Event.{Event}
-use Rattle.wl_core.specs.declared.seats.Seat.{Seat}
-use Rattle.wl_core.specs.Seats.{begun_at, seat_at, HasMemoryAt, IsReady}
-use Rattle.wl_core.specs.Moments.{Beginning, Moment, moment, moment_after}
-use Rattle.wl_core.specs.declared.lines.Line.{Line}
-use Rattle.wl_core.specs.Lines.{lines_at, says, says_all, transcript}
-use Rattle.wl_core.specs.Counts.{counted, octets_of, responses, counts_of}
-use Rattle.wl_core.specs.Worlds.{WorldState, Holds, StandsFor, WorksOn}
+use Rattle.wl_core.specs.Seats.{begun_at, HasMemoryAt}
+use Rattle.wl_core.specs.Moments.{Beginning, moment}
+use Rattle.wl_core.specs.Lines.{says, says_all, transcript}
+use Rattle.wl_core.specs.Counts.{octets_of, responses, counts_of}
+use Rattle.wl_core.specs.Worlds.{WorldState, StandsFor}
 use Rattle.wl_core.proofs.WideCounts.{octets_more}
-use Rattle.wl_snapshot.specs.Snapshots.{Publication}
-use Rattle.wl_store.specs.Steps.{Stored}
 
 pub stands_on : (w new : WorldState) (d : Beginning) (past : List Event) (e : Event) (added : ℕ) → StandsFor w d past → new.has_failed ≡ false
     → ((m : Moment) → Holds w.managed w.seats w.begun_before m → Holds new.managed new.seats new.begun_before (moment_after e m))

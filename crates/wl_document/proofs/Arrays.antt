@@ -2,15 +2,12 @@
 use Rattle.std.proofs.Common.{◌≡◌, ◌<◌, ◌≤◌, ℕ, List, length, map, Ok, Err, nat_lt, if◌then◌else◌, Result, ◌∙◌, ap}
 use Rattle.std.proofs.lemmas.Bool.{lt-ltb, le-ltb}
 use Rattle.std.proofs.lemmas.List.{length-map}
-use Rattle.serde_json.specs.Data.{Data}
+use Rattle.wl_document.proofs.Common.{Data, ◌>>=◌, DocFault, Kind, TooMany}
 use Rattle.serde_json.specs.View.{view}
 use Rattle.serde_json.specs.declared.value.Value.{Value}
-use Rattle.list_laws.specs.Results.{◌>>=◌}
 use Rattle.json_members.specs.Members.{array_at}
 use Rattle.wl_document.specs.Members.{list_at}
 use Rattle.wl_document.specs.declared.fault.Place.{Place}
-use Rattle.wl_document.specs.declared.fault.DocFault.{DocFault}
-use Rattle.wl_document.specs.declared.fault.DocFault.TheVariants.{Kind, TooMany}
 
 module _ (n : ℕ) (p : Place) (d : Data) (vs : List Value) where
   abbrev judged : ℕ → List Data → Result (List Data) DocFault

@@ -1,11 +1,9 @@
 -- What a check tells that held, and one that did not.
 use Rattle.std.proofs.Common.{◌≡◌, Option, Some, None, Result, Ok, Err, refl, sym, subst}
-use Rattle.serde_json.specs.Data.{Data}
-use Rattle.list_laws.proofs.Results.{ok_is}
+use Rattle.wl_document.proofs.Common.{Data, ok_is, DocFault, Missing, Kind, NoSelectors, Duplicate, NoOwnBundle, TooMany, TooLong}
 use Rattle.json_members.specs.Members.{optional, Says}
 use Rattle.wl_document.specs.Checks.{Faults, Gives}
-use Rattle.wl_document.specs.declared.fault.DocFault.{DocFault}
-use Rattle.wl_document.specs.declared.fault.DocFault.TheVariants.{NotJson, Version, Missing, Kind, Id, Selector, NoSelectors, Duplicate, ForeignDomain, Base64, NoOwnBundle, TooMany, TooLong, Memory}
+use Rattle.wl_document.specs.declared.fault.DocFault.TheVariants.{NotJson, Version, Id, Selector, ForeignDomain, Base64, Memory}
 
 pub optional_ok : {X P : Type 0} (read : Data → Result X DocFault) (x : X) (o : Option Data) (y : X) → optional read x o ≡ Ok y → (x ≡ y → P) → ((v : Data) → read v ≡ Ok y → P) → P
 optional_ok read x None y h none some = none (ok_is h)

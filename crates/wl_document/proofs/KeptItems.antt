@@ -7,21 +7,15 @@ use Rattle.std.specs.Ordering.{nat_cmp, match_ordering}
 use Rattle.std.specs.declared.cmp.Ordering.{Ordering}
 use Rattle.std.specs.declared.cmp.Ordering.TheVariants.{Less, Equal, Greater}
 use Rattle.std.specs.Cmp.Lexicographic.{slice_cmp}
-use Rattle.serde_json.specs.Data.{Data}
+use Rattle.wl_document.proofs.Common.{Data, Bundle, Entry, each_from, Kept, put, DocFault, NoOwnBundle, DocSvid, ok_is}
 use Rattle.wl_entry.specs.Limits.{EntryWithin, BundleWithin}
-use Rattle.wl_entry.specs.declared.bundles.Bundle.{Bundle}
-use Rattle.wl_entry.specs.declared.entries.Entry.{Entry}
-use Rattle.json_members.specs.Arrays.{each_from}
-use Rattle.wl_document.specs.Kept.{Kept, kept_has, put, kept_at, KeptWithin}
+use Rattle.wl_document.specs.Kept.{kept_has, kept_at, KeptWithin}
 use Rattle.wl_entry.specs.Keys.{bundle_key, entry_key}
 use Rattle.wl_document.specs.Svids.{doc_svid_key}
 use Rattle.wl_document.specs.States.{SvidWithin}
 use Rattle.wl_document.specs.Documents.{has_x509}
 use Rattle.wl_document.specs.Walks.{bundle_beside, kept_bundles, kept_own_bundles, entry_beside, kept_entries, svid_beside, kept_svids}
-use Rattle.wl_document.specs.declared.fault.DocFault.{DocFault}
-use Rattle.wl_document.specs.declared.fault.DocFault.TheVariants.{NoOwnBundle}
-use Rattle.wl_document.specs.declared.state.DocSvid.{DocSvid}
-use Rattle.list_laws.proofs.Results.{ok_is, bind_then, when_ok}
+use Rattle.list_laws.proofs.Results.{bind_then, when_ok}
 use Rattle.wl_document.proofs.Orders.{keyed_put, keyed_none}
 use Rattle.wl_document.proofs.Withins.{bundle_within, entry_within, svid_within}
 

@@ -1,3 +1,4 @@
+mod Common
 mod Arrays
 mod Walks
 mod Orders

@@ -8,7 +8,8 @@ use Rattle.std.specs.declared.cmp.Ordering.{Ordering}
 use Rattle.std.specs.declared.cmp.Ordering.TheVariants.{Less, Equal, Greater}
 use Rattle.std.specs.Cmp.Lexicographic.{slice_cmp}
 use Rattle.list_laws.specs.Lists.{Rises}
-use Rattle.wl_document.specs.Kept.{Kept, put, IsKeyed}
+use Rattle.wl_document.proofs.Common.{Kept, put}
+use Rattle.wl_document.specs.Kept.{IsKeyed}
 
 abbrev pub rest : List (List ℕ) → List (List ℕ)
 rest [] = []

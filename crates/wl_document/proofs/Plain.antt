@@ -11,11 +11,8 @@ use Rattle.std.specs.declared.cmp.Ordering.{Ordering}
 use Rattle.std.specs.declared.cmp.Ordering.TheVariants.{Less, Equal, Greater}
 use Rattle.std.specs.Cmp.{partial_equiv_from_equiv}
 use Rattle.std.specs.Cmp.Lexicographic.{slice_cmp, texts_ties, nat_list_eq_equiv}
-use Rattle.serde_json.specs.Data.{Data}
-use Rattle.wl_entry.specs.declared.bundles.Bundle.{Bundle}
-use Rattle.wl_entry.specs.declared.entries.Entry.{Entry}
-use Rattle.list_laws.specs.Results.{◌>>=◌}
-use Rattle.json_members.specs.Arrays.{each_from, at_end}
+use Rattle.wl_document.proofs.Common.{Data, Bundle, Entry, ◌>>=◌, each_from, Kept, put, DocFault, NoOwnBundle, DocSvid}
+use Rattle.json_members.specs.Arrays.{at_end}
 use Rattle.wl_document.specs.Arrays.{was_given, put_by, ascending_onto, ascending}
 use Rattle.wl_document.specs.Bundles.{bundle_of, read_bundles, bundles_of}
 use Rattle.wl_document.specs.Entries.{entry_of, read_entries, entries_of}
@@ -24,11 +21,8 @@ use Rattle.wl_entry.specs.Keys.{bundle_key, entry_key}
 use Rattle.wl_document.specs.Svids.{svid_of, doc_svid_key, read_svids, svids_of}
 use Rattle.wl_document.specs.States.{State}
 use Rattle.wl_document.specs.Documents.{has_x509, own_bundles_of, Top, top_of, state_of}
-use Rattle.wl_document.specs.Kept.{Kept, kept_has, put, kept_at, IsKeyed}
+use Rattle.wl_document.specs.Kept.{kept_has, kept_at, IsKeyed}
 use Rattle.wl_document.specs.Walks.{bundle_beside, kept_bundles, kept_own_bundles, entry_beside, kept_entries, svid_beside, kept_svids, kept_state}
-use Rattle.wl_document.specs.declared.fault.DocFault.{DocFault}
-use Rattle.wl_document.specs.declared.fault.DocFault.TheVariants.{NoOwnBundle}
-use Rattle.wl_document.specs.declared.state.DocSvid.{DocSvid}
 use Rattle.wl_document.proofs.Orders.{rest, first, keyed_put, keyed_none}
 
 -- ---- one map

@@ -1,14 +1,11 @@
 -- A fault is one of the whole: of checks in their order, and of the items of an array.
 use Rattle.std.proofs.Common.{◌≡◌, ℕ, ◌<◌, List, map, drop, length, Result, get_or, ap}
-use Rattle.serde_json.specs.Data.{Data}
+use Rattle.wl_document.proofs.Common.{Data, ◌>>=◌, each_from, DocFault, Missing, Kind, NoSelectors, Duplicate, NoOwnBundle, TooMany, TooLong}
 use Rattle.serde_json.specs.View.{view}
 use Rattle.serde_json.specs.declared.value.Value.{Value}
-use Rattle.list_laws.specs.Results.{◌>>=◌}
-use Rattle.json_members.specs.Arrays.{each_from}
 use Rattle.json_members.proofs.Walks.{each_stops}
 use Rattle.wl_document.specs.Checks.{Faults}
-use Rattle.wl_document.specs.declared.fault.DocFault.{DocFault}
-use Rattle.wl_document.specs.declared.fault.DocFault.TheVariants.{NotJson, Version, Missing, Kind, Id, Selector, NoSelectors, Duplicate, ForeignDomain, Base64, NoOwnBundle, TooMany, TooLong, Memory}
+use Rattle.wl_document.specs.declared.fault.DocFault.TheVariants.{NotJson, Version, Id, Selector, ForeignDomain, Base64, Memory}
 
 -- a fault of the first check is a fault of the whole
 pub faults_first : {X Y : Type 0} (e : DocFault) (r : Result X DocFault) (f : X → Result Y DocFault) → Faults e r → Faults e (r >>= f)

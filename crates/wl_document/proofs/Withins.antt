@@ -2,13 +2,10 @@
 use Rattle.std.proofs.Common.{◌≡◌, ℕ, ◌+◌, ◌≤◌, ◌==◌, List, [], ◌∷◌, length, codes, Bool, true, false, if◌then◌else◌, nat_lt, nat_le, Result, Ok, ◌∙◌, ap, subst, arith, length-append}
 use Rattle.std.proofs.lemmas.Bool.{ltb-false, leb-true}
 use Rattle.std.specs.Cmp.{first_so, second_so}
-use Rattle.serde_json.specs.Data.{Data}
+use Rattle.wl_document.proofs.Common.{Data, Bundle, Entry, DocSvid, each_from, DocFault, Missing, Kind, TooMany, TooLong, Duplicate, NoSelectors, ok_is}
 use Rattle.serde_json.specs.Find.{get}
 use Rattle.wl_entry.specs.Limits.{EntryWithin, BundleWithin}
-use Rattle.wl_entry.specs.declared.bundles.Bundle.{Bundle}
-use Rattle.wl_entry.specs.declared.entries.Entry.{Entry}
-use Rattle.wl_document.specs.declared.state.DocSvid.{DocSvid}
-use Rattle.json_members.specs.Arrays.{each_from, at_end}
+use Rattle.json_members.specs.Arrays.{at_end}
 use Rattle.json_members.specs.Members.{required, text_at, array_at, object_at}
 use Rattle.wl_document.specs.Places.{at_bundle, at_entry, at_svid}
 use Rattle.wl_document.specs.Members.{text_of, list_at, list_of, list_or_empty, name_of, is_name, base64_at, base64_of, number_of, at_most, text_within, text_or_empty, id_of}
@@ -17,9 +14,7 @@ use Rattle.wl_document.specs.Entries.{selector_of, selector_list_of, selectors_o
 use Rattle.wl_document.specs.Svids.{svid_name_of, svid_of}
 use Rattle.wl_document.specs.States.{SvidWithin}
 use Rattle.wl_document.specs.declared.fault.Place.{Place}
-use Rattle.wl_document.specs.declared.fault.DocFault.{DocFault}
-use Rattle.wl_document.specs.declared.fault.DocFault.TheVariants.{Missing, Kind, TooMany, TooLong, Duplicate, NoSelectors}
-use Rattle.list_laws.proofs.Results.{ok_is, bind_then, unless_ok, when_ok}
+use Rattle.list_laws.proofs.Results.{bind_then, unless_ok, when_ok}
 use Rattle.wl_selector.proofs.Members.{sorted_short}
 use Rattle.wl_document.proofs.Checks.{optional_ok}
 

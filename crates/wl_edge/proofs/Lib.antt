@@ -2,3 +2,4 @@ pub mod Sources
 pub mod Sinks
 pub mod RecordedCalls
 pub mod KnownSockets
+pub mod LinksGiven

@@ -1,3 +1,3 @@
-mod Longer
+mod Prefixes
 mod Pieces
 mod Places

@@ -7,14 +7,7 @@ use Rattle.wl_edge.specs.declared.listener.AcceptKind.{AcceptKind}
 use Rattle.wl_edge.specs.declared.listener.AcceptKind.TheVariants as kind
 use Rattle.wl_edge.specs.declared.listener.Accepted.{Accepted}
 use Rattle.wl_edge.specs.declared.listener.Accepted.TheVariants.{Link, Idle, End, Failed}
-
-given_append : (xs ys : List AcceptKind) → links_given (xs ++ ys) ≡ links_given xs + links_given ys
-given_append [] ys =
-    let none : links_given [] ≡ 0 = refl in
-    omega (arith, none)
-given_append (x ∷ xs) ys =
-    let one : AcceptKind → ℕ = λ z. cond (is_link z) 1 0 in
-    omega (arith, given_append xs ys, sum_by-cons one x xs, sum_by-cons one x (xs ++ ys))
+use Rattle.wl_edge.proofs.LinksGiven.{given_append}
 
 open_with : (log : ListenerLog) (new : Option ListenerLog) (answer : AcceptKind) → new ≡ Some (with_kind log answer) → length log.finished < links_given log.kinds → HasOpenLink new
 open_with log new answer is holds =

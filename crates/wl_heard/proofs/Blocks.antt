@@ -1,10 +1,7 @@
 -- The header blocks of answers are short.
 use Rattle.std.proofs.Common.{◌<◌, Bool, false, [], length}
-use Rattle.hpack.specs.Writing.{block_bytes}
+use Rattle.wl_heard.proofs.Common.{block_bytes, response_fields, trailer_fields, refused_fields, Refusal, small_head, small_trailers, small_refusal}
 use Rattle.hpack.proofs.Lengths.{block_small}
-use Rattle.grpc_wire.specs.Answers.{response_fields, trailer_fields, refused_fields}
-use Rattle.grpc_wire.specs.declared.refusal.Refusal.{Refusal}
-use Rattle.wl_session.proofs.Sizes.{small_head, small_trailers, small_refusal}
 
 pub head_short : length (block_bytes response_fields) < 16384
 head_short = block_small response_fields small_head

@@ -1,35 +1,23 @@
 -- All frames of a client's bytes are of its one call.
 use Rattle.std.proofs.Common.{◌≡◌, ℕ, ◌<◌, ◌≤◌, ◌^◌, ◌==◌, Bool, true, false, cond, List, [], ◌∷◌, ◌++◌, length, map, Option, Some, None, Result, Ok, Err, refl, sym, ap, subst, ◌∙◌, arith, append_assoc}
 use Rattle.std.specs.List.{AllByRecursion}
-use Rattle.list_laws.specs.Lists.{BeginsWith}
-use Rattle.wl_octets.specs.declared.header.Header.{Header}
+use Rattle.wl_heard.proofs.Common.{BeginsWith, Header, HpackFault, decode_block, Body, Frame, Reading, frame_encoding, FitsBody, End, Rest, Fault, ClientFault, Heard, Message, Stage, Listener, call_stream, http_fault, grpc_code, Hearing, status_heard, first_heard, list_heard, block_heard, cut_heard, data_heard, is_in_place, control_heard, body_heard, frame_heard, after_hearing, frames_heard, fresh_listener, heard_in, IsOfOneCall}
 use Rattle.hpack.specs.declared.fault.HpackFault.TheVariants as header_faults
-use Rattle.hpack.specs.declared.fault.HpackFault.{HpackFault}
-use Rattle.hpack.specs.Decoding.{decode_block}
 use Rattle.hpack.proofs.Lengths.{block_small}
-use Rattle.h2_frame.specs.declared.frame.Body.{Body}
 use Rattle.h2_frame.specs.declared.frame.Body.TheVariants as bodies
-use Rattle.h2_frame.specs.declared.frame.Frame.{Frame}
-use Rattle.h2_frame.specs.Reading.{Opening, Reading, preface, after_preface, frames_of, reading_from, read_on}
-use Rattle.h2_frame.specs.Writing.{frame_encoding}
-use Rattle.h2_conn.specs.Kinds.{Fits, FitsBody}
+use Rattle.h2_frame.specs.Reading.{Opening, preface, after_preface, frames_of, reading_from, read_on}
+use Rattle.h2_conn.specs.Kinds.{Fits}
 use Rattle.h2_conn.proofs.FrameDemands.{frames_fit}
 use Rattle.grpc_wire.specs.declared.method.Method.{Method}
-use Rattle.grpc_wire.specs.Messages.{End, Rest, Fault, framed, reading_from as messages_from}
+use Rattle.grpc_wire.specs.Messages.{framed, reading_from as messages_from}
 use Rattle.wl_client.specs.declared.fault.ClientFault.TheVariants as faults
-use Rattle.wl_client.specs.declared.fault.ClientFault.{ClientFault}
-use Rattle.wl_client.specs.declared.reply.Heard.{Heard}
-use Rattle.wl_client.specs.declared.reply.Heard.TheVariants.{Message}
-use Rattle.wl_client.specs.declared.listener.Stage.{Stage}
 use Rattle.wl_client.specs.declared.listener.Stage.TheVariants as stages
 use Rattle.wl_client.specs.declared.listener.OpenBlock.{OpenBlock}
-use Rattle.wl_client.specs.declared.listener.Listener.{Listener}
-use Rattle.wl_client.specs.Openings.{call_stream, call_fields, settings_frame, head_frame, message_frame, opening_of}
-use Rattle.wl_client.specs.Statuses.{http_fault, grpc_code}
-use Rattle.wl_client.specs.Hearing.{fails, Hearing, silent, status_heard, first_heard, last_heard, list_heard, decoded_heard, block_heard, longer, continued, credit, credits_of, credits, cut_heard, data_heard, is_in_place, control_heard, body_heard, frame_heard, after_hearing, frames_heard, fresh_listener}
-use Rattle.wl_client.specs.Clients.{heard_in, heard_from, heard}
+use Rattle.wl_client.specs.Openings.{call_fields, settings_frame, head_frame, message_frame, opening_of}
+use Rattle.wl_client.specs.Hearing.{fails, silent, last_heard, decoded_heard, longer, continued, credit, credits_of, credits}
+use Rattle.wl_client.specs.Clients.{heard_from, heard}
 use Rattle.wl_client.proofs.Heads.{head_fits}
-use Rattle.wl_heard.specs.Calls.{IsOfOneCall, client_bytes, bytes_fed, ClientsAreAnswered}
+use Rattle.wl_heard.specs.Calls.{client_bytes, bytes_fed, ClientsAreAnswered}
 use Rattle.wl_heard.proofs.WholeFrames.{Holds, holds_none, holds_both, holds_spelled, holds_ping, found_all}
 use Rattle.wl_heard.proofs.FedFrames.{AllOfCall, all_front, all_read, more_read, moves_make}
 use Rattle.wl_heard.proofs.Hearers.{calls_are_heard}

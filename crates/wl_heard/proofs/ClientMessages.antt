@@ -1,35 +1,21 @@
 -- A client hears the messages in DATA of its stream.
 use Rattle.std.proofs.Common.{◌≡◌, inl, inr, ℕ, ◌==◌, ◌&&◌, Bool, true, false, cond, List, [], ◌∷◌, ◌++◌, map, Option, Some, None, Result, Ok, Err, is_none, refl, sym, ap, subst, ◌∙◌, append-nil, append_assoc, eqb-true, eq-eqb}
 use Rattle.std.proofs.lemmas.Bool.{cases_Bool}
-use Rattle.list_laws.specs.Lists.{BeginsWith}
-use Rattle.wl_octets.specs.declared.header.Header.{Header}
-use Rattle.hpack.specs.declared.fault.HpackFault.{HpackFault}
+use Rattle.wl_heard.proofs.Common.{BeginsWith, Header, HpackFault, decode_block, NO_ERROR, Body, Frame, at_cond, End, Rest, Fault, reading_from, ClientFault, Heard, Message, Stage, Opening, Answering, Ended, Listener, call_stream, http_fault, grpc_code, Hearing, status_heard, first_heard, list_heard, block_heard, cut_heard, data_heard, is_in_place, control_heard, body_heard, frame_heard, after_hearing, frames_heard, fresh_listener, state_after, heard_in, bytes_after, steps_of, steps_fit, data_in, frames_written}
 use Rattle.hpack.specs.declared.fault.HpackFault.TheVariants as header_faults
-use Rattle.hpack.specs.Decoding.{decode_block}
-use Rattle.h2_wire.specs.declared.error_code.TheConstants.{NO_ERROR}
-use Rattle.h2_frame.specs.declared.frame.Body.{Body}
 use Rattle.h2_frame.specs.declared.frame.Body.TheVariants as bodies
-use Rattle.h2_frame.specs.declared.frame.Frame.{Frame}
 use Rattle.h2_frame.specs.Reading as reader
-use Rattle.h2_conn.proofs.Walk.{at_cond}
-use Rattle.grpc_wire.specs.Messages.{End, Rest, Fault, IsOpen, Reading, messages_in, messages_of, reading_from, read_on}
+use Rattle.grpc_wire.specs.Messages.{IsOpen, Reading, messages_in, messages_of, read_on}
 use Rattle.grpc_wire.proofs.Cuts.{reads_on}
 use Rattle.workload_proto.specs.declared.limits.TheConstants.{MAX_RESPONSE_LEN}
-use Rattle.wl_client.specs.declared.fault.ClientFault.{ClientFault}
 use Rattle.wl_client.specs.declared.fault.ClientFault.TheVariants as faults
-use Rattle.wl_client.specs.declared.reply.Heard.{Heard}
-use Rattle.wl_client.specs.declared.reply.Heard.TheVariants.{Head, Message, Status}
-use Rattle.wl_client.specs.declared.listener.Stage.{Stage}
-use Rattle.wl_client.specs.declared.listener.Stage.TheVariants.{Opening, Answering, Ended}
+use Rattle.wl_client.specs.declared.reply.Heard.TheVariants.{Head, Status}
 use Rattle.wl_client.specs.declared.listener.OpenBlock.{OpenBlock}
-use Rattle.wl_client.specs.declared.listener.Listener.{Listener}
-use Rattle.wl_client.specs.Openings.{call_stream}
-use Rattle.wl_client.specs.Statuses.{http_fault, grpc_code}
-use Rattle.wl_client.specs.Hearing.{Hearing, silent, fails, status_heard, head_heard, first_heard, last_heard, list_heard, decoded_heard, block_heard, longer, continued, cut_heard, data_heard, is_in_place, is_answering, control_heard, body_heard, frame_heard, after_hearing, frames_heard, fresh_listener}
-use Rattle.wl_client.specs.Clients.{state_after, heard_in, heard_from, heard}
-use Rattle.wl_responses.specs.Moves.{bytes_after, steps_of, replies_in}
-use Rattle.wl_responses.proofs.MoveSteps.{steps_fit, messages_are_cut}
-use Rattle.wl_heard.specs.Written.{data_of, data_on, data_in, frames_written}
+use Rattle.wl_client.specs.Hearing.{silent, fails, head_heard, last_heard, decoded_heard, longer, continued, is_answering}
+use Rattle.wl_client.specs.Clients.{heard_from, heard}
+use Rattle.wl_responses.specs.Moves.{replies_in}
+use Rattle.wl_responses.proofs.MoveSteps.{messages_are_cut}
+use Rattle.wl_heard.specs.Written.{data_of, data_on}
 use Rattle.wl_heard.specs.Clients.{messages_told, whole_messages, HasHeardAll, IsOfContent, FailsByContent, ClientsHearSessions}
 use Rattle.wl_heard.proofs.FramesInBytes.{written_data, sessions_are_read}
 

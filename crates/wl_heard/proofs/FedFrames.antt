@@ -1,18 +1,14 @@
 -- The frames that came to a session are those of the bytes that were fed to it.
 use Rattle.std.proofs.Common.{◌≡◌, ℕ, zero, suc, List, [], ◌∷◌, ◌++◌, Option, Some, None, refl, sym, subst}
 use Rattle.std.specs.List.{AllByRecursion}
-use Rattle.h2_frame.specs.declared.frame.Frame.{Frame}
-use Rattle.h2_frame.specs.Reading.{End, Opening, Rest, Fault, Reading, preface, after_preface, reading_from, read_on}
+use Rattle.wl_heard.proofs.Common.{Frame, Reading, ConnFault, Publication, JwtOutcome, Talking, Step, Move, steps_of, IsOfOneCall, MakesOneCall}
+use Rattle.h2_frame.specs.Reading.{End, Opening, Rest, Fault, preface, after_preface, reading_from, read_on}
 use Rattle.h2_frame.proofs.Cuts.{reads_on}
-use Rattle.h2_conn.specs.declared.fault.ConnFault.{ConnFault}
-use Rattle.wl_snapshot.specs.Snapshots.{Publication}
-use Rattle.wl_session.specs.declared.asks.JwtOutcome.{JwtOutcome}
-use Rattle.wl_session.specs.Talks.{Talking, Said}
+use Rattle.wl_session.specs.Talks.{Said}
 use Rattle.wl_session.specs.Sessions.{SessionState, Running, Fallen, OutOfMemory, feed_said}
 use Rattle.wl_session.specs.Steps.{unnamed_count, fed_by, feed_told, turn_told, outcome_told}
-use Rattle.wl_responses.specs.Steps.{Step}
-use Rattle.wl_responses.specs.Moves.{Move, Fed, TurnedOn, GivenTo, session_after, onto_frames, onto_ending, onto_names, onto_fed, onto_reading, onto_move, steps_of}
-use Rattle.wl_heard.specs.Calls.{IsOfOneCall, MakesOneCall, bytes_fed}
+use Rattle.wl_responses.specs.Moves.{Fed, TurnedOn, GivenTo, session_after, onto_frames, onto_ending, onto_names, onto_fed, onto_reading, onto_move}
+use Rattle.wl_heard.specs.Calls.{bytes_fed}
 
 abbrev pub AllOfCall : List Frame → Type 0
 AllOfCall fs = AllByRecursion IsOfOneCall fs

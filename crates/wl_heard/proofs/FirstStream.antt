@@ -1,15 +1,8 @@
 -- A connection on which header blocks come on the call's stream alone opens no other stream.
 use Rattle.std.proofs.Common.{◌≡◌, Option, ℕ, ◌≤◌, arith}
-use Rattle.h2_frame.specs.declared.frame.Body.{Body}
-use Rattle.h2_frame.specs.declared.frame.Body.TheVariants.{Bytes, Headers, Priority, Reset, Settings, SettingsAck, PushPromise, Ping, GoAway, WindowUpdate, Continuation, Unknown}
-use Rattle.h2_frame.specs.declared.frame.Frame.{Frame}
-use Rattle.h2_conn.specs.declared.state.State.{State}
-use Rattle.h2_conn.specs.declared.state.OpenBlock.{OpenBlock}
-use Rattle.h2_conn.specs.Streams.{is_local_closed, with_remote_closed}
-use Rattle.h2_conn.specs.Peer.{Outcome, goes, fails, with_control_frame, without_live_stream, request_ends, peer}
-use Rattle.h2_conn.proofs.Walk.{at_cond, IsNumbered, Rows, Any, Windows, walk}
-use Rattle.wl_client.specs.Openings.{call_stream}
-use Rattle.wl_heard.specs.Calls.{IsCallBody, IsOfOneCall}
+use Rattle.wl_heard.proofs.Common.{Body, Bytes, Headers, Priority, Reset, Settings, SettingsAck, PushPromise, Ping, GoAway, WindowUpdate, Continuation, Unknown, Frame, State, OpenBlock, is_local_closed, with_remote_closed, Outcome, goes, fails, with_control_frame, without_live_stream, request_ends, peer, at_cond, Rows, Windows, walk, call_stream, IsOfOneCall}
+use Rattle.h2_conn.proofs.Walk.{IsNumbered, Any}
+use Rattle.wl_heard.specs.Calls.{IsCallBody}
 
 abbrev pub IsFirst : State → Type 0
 IsFirst q = q.last_stream_id ≤ call_stream

@@ -3,36 +3,26 @@ use Rattle.std.proofs.Common.{◌≡◌, inl, inr, ℕ, ◌==◌, Bool, true, fa
 use Rattle.std.specs.List.{AllByRecursion}
 use Rattle.std.proofs.lemmas.Bool.{cases_Bool}
 use Rattle.h2_frame.specs.declared.frame.Body.TheVariants as bodies
-use Rattle.h2_frame.specs.declared.frame.Frame.{Frame}
+use Rattle.wl_heard.proofs.Common.{Frame, Sent, headers, ConnFault, Happening, Phase, Open, Failed, OutOfMemory, frame_result, after_frame_fault, CallEvent, verdict, standing_of_head, standing_at, event_at, calls_after, with_call, calls_turn, name_first, give_first, Talking, after_event, after_body, after_happening, after_happenings, after_frame, written, frame_said, break_said, turn_said, name_said, given_said, Step, FrameCame, BytesBroke, CallAttested, TurnTaken, OutcomeCame, step_said, talk_after, FitsStep, AllFit, unwritten, frames_due, frames_of, steps_of, steps_fit, frame_of, IsControl, greeting_frames, control_frames, due_frames, step_frames, frames_written, data_in, Lasts, l_refusal, l_turns, l_names, l_gives}
 use Rattle.h2_frame.specs.Reading.{Rest}
 use Rattle.h2_frame.specs.Reading as reader
-use Rattle.h2_flow.specs.Streams.{Sent, headers, content}
+use Rattle.h2_flow.specs.Streams.{content}
 use Rattle.h2_flow.specs.Pulls.{bytes_of}
 use Rattle.h2_flow.specs.Progress.{all_data_on}
-use Rattle.h2_conn.specs.declared.fault.ConnFault.{ConnFault}
-use Rattle.h2_conn.specs.declared.happening.Happening.{Happening}
 use Rattle.h2_conn.specs.declared.happening.Happening.TheVariants as happening
-use Rattle.h2_conn.specs.declared.phase.Phase.{Phase}
-use Rattle.h2_conn.specs.declared.phase.Phase.TheVariants.{Open, Failed, OutOfMemory}
-use Rattle.h2_conn.specs.Conns.{frame_result, frame_fault_on, after_frame_fault}
-use Rattle.grpc_conn.specs.declared.event.CallEvent.{CallEvent}
+use Rattle.h2_conn.specs.Conns.{frame_fault_on}
 use Rattle.grpc_conn.specs.declared.event.CallEvent.TheVariants as events
-use Rattle.grpc_conn.specs.Verdicts.{verdict}
-use Rattle.grpc_conn.specs.Calls.{standing_of_head, standing_at, event_at, calls_after, with_call}
-use Rattle.wl_session.specs.Answering.{calls_turn}
-use Rattle.wl_session.specs.Tokens.{name_first, give_first}
-use Rattle.wl_session.specs.Talks.{Talking, settings_bytes, after_event, after_body, after_happening, after_happenings, after_frame, greeting, written, frame_said, break_said}
-use Rattle.wl_session.specs.Sessions.{with_turned, turn_said, name_said, given_said}
-use Rattle.wl_responses.specs.Steps.{Step, FrameCame, BytesBroke, CallAttested, TurnTaken, OutcomeCame, step_said, talk_after, FitsStep, AllFit, unwritten, frames_due, frames_of, control_due}
+use Rattle.wl_session.specs.Talks.{settings_bytes, greeting}
+use Rattle.wl_session.specs.Sessions.{with_turned}
+use Rattle.wl_responses.specs.Steps.{control_due}
 use Rattle.wl_responses.specs.Replies.{AnsweringTurn, Replies, begin_with, replies_with, waiting_on, turn_on, replies_on}
-use Rattle.wl_responses.specs.Moves.{steps_of, bytes_of_steps}
+use Rattle.wl_responses.specs.Moves.{bytes_of_steps}
 use Rattle.wl_responses.proofs.Bytes.{steps_write_frames}
-use Rattle.wl_responses.proofs.MoveSteps.{sessions_take_steps, steps_fit}
-use Rattle.wl_heard.specs.Written.{frame_of, IsControl, settings_frame, greeting_frames, control_frames, due_frames, step_frames, frames_written, data_of, data_on, data_in, TalksAreRead, ControlIsRead, DataIsRead, SessionsAreRead, SessionDataIsRead}
+use Rattle.wl_responses.proofs.MoveSteps.{sessions_take_steps}
+use Rattle.wl_heard.specs.Written.{settings_frame, data_of, data_on, TalksAreRead, ControlIsRead, DataIsRead, SessionsAreRead, SessionDataIsRead}
 use Rattle.wl_heard.proofs.WholeFrames.{AreFound, Holds, holds_none, found_none, found_both, found_all, found_spelled, found_sents, IsShortSent}
 use Rattle.wl_heard.proofs.SoundConnections.{Tidy, fresh_tidy, frame_tidy, broken_tidy, head_tidy, trailers_tidy, message_tidy, silence_tidy, reset_tidy, flush_tidy, pull_short}
 use Rattle.wl_heard.proofs.Blocks.{head_short, last_short, refusal_short}
-use Rattle.wl_session.proofs.PhaseWalk.{Lasts, l_refusal, l_turns, l_names, l_gives}
 
 -- ---- each connection of a talk
 

@@ -1,21 +1,8 @@
 -- The header blocks of each stream: its head is Response-Headers, and its last block one that may be.
 use Rattle.std.proofs.Common.{◌≡◌, ℕ, zero, suc, ◌+◌, ◌==◌, nat_lt, Bool, true, false, cond, List, [], ◌∷◌, ◌++◌, length, drop, Option, Some, None, refl, sym, ap, subst}
 use Rattle.std.specs.List.{AllByRecursion}
-use Rattle.list_laws.proofs.Elements.{all_append}
-use Rattle.hpack.specs.Writing.{block_bytes}
-use Rattle.h2_flow.specs.declared.flow.Flow.{Flow}
-use Rattle.h2_flow.specs.declared.flow.TableSizeUpdate.{TableSizeUpdate}
-use Rattle.h2_flow.specs.declared.stream.Stream.{Stream}
-use Rattle.h2_flow.specs.Windows.{allowed_of}
-use Rattle.h2_flow.specs.Streams.{Sent, headers, content, Turn, no_turn, size_update_bytes, headers_turn, data_turn, last_turn, next_turn, body_turn, head_turn, turn}
-use Rattle.h2_flow.specs.Pulls.{Round, round, rounds, all_work, all_rounds}
-use Rattle.h2_flow.specs.Outboxes.{Out, pull_of}
-use Rattle.h2_conn.specs.declared.phase.Phase.{Phase}
-use Rattle.h2_conn.specs.declared.phase.Phase.TheVariants.{Open, Failed, OutOfMemory}
-use Rattle.h2_conn.specs.Conns.{ends_reset_count, after_pull, flush_of}
-use Rattle.h2_conn.proofs.Walk.{at_cond}
-use Rattle.grpc_wire.specs.Answers.{response_fields}
-use Rattle.wl_responses.specs.Steps.{frames_due}
+use Rattle.wl_heard.proofs.Common.{all_append, block_bytes, Flow, TableSizeUpdate, Stream, allowed_of, Sent, headers, Turn, no_turn, size_update_bytes, headers_turn, data_turn, last_turn, next_turn, body_turn, head_turn, turn, Round, round, rounds, all_work, all_rounds, Out, pull_of, Phase, Open, Failed, OutOfMemory, ends_reset_count, after_pull, flush_of, at_cond, response_fields, frames_due}
+use Rattle.h2_flow.specs.Streams.{content}
 use Rattle.wl_responses.specs.Statuses.{On, OnPhase}
 use Rattle.wl_responses.proofs.OutboxStreams.{answers_on}
 

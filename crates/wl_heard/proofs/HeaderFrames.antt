@@ -2,26 +2,19 @@
 use Rattle.std.proofs.Common.{◌≡◌, inl, inr, ℕ, ◌==◌, ◌≤◌, Bool, true, false, not, if◌then◌else◌, List, [], ◌∷◌, ◌++◌, map, Some, None, IsOkAnd, refl, sym, ap, subst, ◌∙◌, eqb-true}
 use Rattle.std.specs.List.{AllByRecursion}
 use Rattle.std.proofs.lemmas.Bool.{cases_Bool}
-use Rattle.list_laws.proofs.Elements.{all_append, all_such}
-use Rattle.wl_octets.specs.declared.header.Header.{Header}
+use Rattle.wl_heard.proofs.Common.{all_append, Header, Standing, decode_block, block_bytes, Body, Frame, TableSizeUpdate, Sent, headers, size_update_bytes, response_fields, Step, FrameCame, BytesBroke, CallAttested, TurnTaken, OutcomeCame, talk_after, AllFit, frames_of, GoesOn, IsRefused, IsAnswered, steps_of, steps_fit, frame_of, greeting_frames, control_frames, due_frames, step_frames, frames_written, Closes, small_head, small_trailers, small_refusal}
+use Rattle.list_laws.proofs.Elements.{all_such}
 use Rattle.hpack.specs.declared.limit.TheConstants.{MAX_LIST_SIZE}
-use Rattle.hpack.specs.Decoding.{Standing, Good, decode_block}
+use Rattle.hpack.specs.Decoding.{Good}
 use Rattle.hpack.specs.Tables.{list_size, first_table}
-use Rattle.hpack.specs.Writing.{block_bytes}
-use Rattle.h2_frame.specs.declared.frame.Body.{Body}
 use Rattle.h2_frame.specs.declared.frame.Body.TheVariants as bodies
-use Rattle.h2_frame.specs.declared.frame.Frame.{Frame}
 use Rattle.h2_frame.specs.Reading as reader
-use Rattle.h2_flow.specs.declared.flow.TableSizeUpdate.{TableSizeUpdate}
-use Rattle.h2_flow.specs.Streams.{Sent, headers, content, size_update_bytes}
-use Rattle.grpc_wire.specs.Answers.{response_fields}
-use Rattle.wl_responses.specs.Steps.{Step, FrameCame, BytesBroke, CallAttested, TurnTaken, OutcomeCame, talk_after, AllFit, frames_of}
-use Rattle.wl_responses.specs.Statuses.{Ending, GoesOn, IsRefused, IsAnswered}
-use Rattle.wl_responses.specs.Moves.{steps_of, bytes_of_steps}
-use Rattle.wl_responses.proofs.MoveSteps.{sessions_take_steps, steps_fit}
-use Rattle.wl_heard.specs.Written.{frame_of, IsControlBody, greeting_frames, control_frames, due_frames, step_frames, frames_written}
-use Rattle.wl_heard.specs.Statuses.{Closes, HeaderList, decoder_after, list_of, lists_on, IsWholeBlock, IsDue, HasHeaders, HeadersAreRead, SessionHeadersAreRead}
-use Rattle.wl_session.proofs.Sizes.{small_head, small_trailers, small_refusal}
+use Rattle.h2_flow.specs.Streams.{content}
+use Rattle.wl_responses.specs.Statuses.{Ending}
+use Rattle.wl_responses.specs.Moves.{bytes_of_steps}
+use Rattle.wl_responses.proofs.MoveSteps.{sessions_take_steps}
+use Rattle.wl_heard.specs.Written.{IsControlBody}
+use Rattle.wl_heard.specs.Statuses.{HeaderList, decoder_after, list_of, lists_on, IsWholeBlock, IsDue, HasHeaders, HeadersAreRead, SessionHeadersAreRead}
 use Rattle.wl_heard.proofs.Lists.{IsGood, Decoded, block_decoded}
 use Rattle.wl_heard.proofs.FramesInBytes.{talks_are_read, control_is_read}
 use Rattle.wl_heard.proofs.HeaderBlocks.{IsBlockOf, SentFits}

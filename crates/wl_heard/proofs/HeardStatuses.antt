@@ -1,32 +1,15 @@
 -- The status that a client hears is that of the ending that its call was given.
 use Rattle.std.proofs.Common.{◌≡◌, ◌⊎◌, inl, inr, ℕ, ◌==◌, ◌&&◌, Bool, true, false, not, cond, is_none, is_some, List, [], ◌∷◌, ◌++◌, map, Option, Some, None, Result, Ok, Err, IsOkAnd, IfOk, refl, sym, ap, subst, ◌∙◌, eqb-true}
 use Rattle.std.specs.List.{AllByRecursion}
-use Rattle.list_laws.proofs.Elements.{all_append}
-use Rattle.wl_octets.specs.declared.header.Header.{Header}
-use Rattle.hpack.specs.Decoding.{decode_block}
-use Rattle.h2_wire.specs.declared.error_code.TheConstants.{NO_ERROR}
-use Rattle.h2_frame.specs.declared.frame.Body.{Body}
+use Rattle.wl_heard.proofs.Common.{all_append, Header, decode_block, NO_ERROR, Body, Frame, response_fields, End, Rest, Fault, reading_from, ClientFault, Heard, Message, Stage, Opening, Answering, Ended, Listener, call_stream, http_fault, grpc_code, Hearing, status_heard, first_heard, list_heard, block_heard, cut_heard, data_heard, is_in_place, control_heard, body_heard, frame_heard, after_hearing, frames_heard, fresh_listener, state_after, heard_in, Step, bytes_after, steps_of, steps_fit, frames_written, ClosesCall}
 use Rattle.h2_frame.specs.declared.frame.Body.TheVariants as bodies
-use Rattle.h2_frame.specs.declared.frame.Frame.{Frame}
 use Rattle.h2_frame.specs.Reading as reader
-use Rattle.grpc_wire.specs.Answers.{response_fields}
-use Rattle.grpc_wire.specs.Messages.{End, Rest, Fault, reading_from}
-use Rattle.wl_client.specs.declared.fault.ClientFault.{ClientFault}
 use Rattle.wl_client.specs.declared.fault.ClientFault.TheVariants as faults
-use Rattle.wl_client.specs.declared.reply.Heard.{Heard}
-use Rattle.wl_client.specs.declared.reply.Heard.TheVariants.{Head, Message, Status}
-use Rattle.wl_client.specs.declared.listener.Stage.{Stage}
-use Rattle.wl_client.specs.declared.listener.Stage.TheVariants.{Opening, Answering, Ended}
-use Rattle.wl_client.specs.declared.listener.Listener.{Listener}
-use Rattle.wl_client.specs.Openings.{call_stream}
-use Rattle.wl_client.specs.Statuses.{http_fault, grpc_code, grpc_text}
-use Rattle.wl_client.specs.Hearing.{Hearing, silent, fails, status_heard, first_heard, list_heard, block_heard, cut_heard, data_heard, is_ended, is_answering, is_in_place, control_heard, body_heard, frame_heard, after_hearing, frames_heard, fresh_listener}
-use Rattle.wl_client.specs.Clients.{Failed, state_after, heard_in}
-use Rattle.wl_responses.specs.Steps.{Step}
-use Rattle.wl_responses.specs.Moves.{bytes_after, steps_of}
-use Rattle.wl_responses.proofs.MoveSteps.{steps_fit}
-use Rattle.wl_heard.specs.Written.{frames_written}
-use Rattle.wl_heard.specs.Statuses.{ClosesCall, IsDue, IsHeardOf, StatusIsLast, HasStatusIn, IfListening, EndsBody, IsEnded, StatusesAreHeard, IsHttpOfCall, FailsAsGiven, HttpRefusalsAreHeard}
+use Rattle.wl_client.specs.declared.reply.Heard.TheVariants.{Head, Status}
+use Rattle.wl_client.specs.Statuses.{grpc_text}
+use Rattle.wl_client.specs.Hearing.{silent, fails, is_ended, is_answering}
+use Rattle.wl_client.specs.Clients.{Failed}
+use Rattle.wl_heard.specs.Statuses.{IsDue, IsHeardOf, StatusIsLast, HasStatusIn, IfListening, EndsBody, IsEnded, StatusesAreHeard, IsHttpOfCall, FailsAsGiven, HttpRefusalsAreHeard}
 use Rattle.wl_heard.proofs.ClientMessages.{clients_hear_sessions}
 use Rattle.wl_heard.proofs.FramesInBytes.{sessions_are_read}
 use Rattle.wl_heard.proofs.Marks.{Ready}

@@ -1,52 +1,26 @@
 -- What a client hears of a talk that has one call, over all steps.
 use Rattle.std.proofs.Common.{◌≡◌, ◌⊎◌, inl, inr, ℕ, ◌==◌, ◌≤◌, Bool, true, false, cond, List, [], ◌∷◌, ◌++◌, length, map, Option, Some, None, is_none, Result, Ok, Err, refl, sym, ap, subst, ◌∙◌, arith, append-nil, length-append, ne_eqb}
 use Rattle.std.specs.List.{AllByRecursion}
-use Rattle.h2_wire.specs.declared.error_code.TheConstants.{NO_ERROR}
-use Rattle.h2_frame.specs.declared.frame.Body.{Body}
+use Rattle.wl_heard.proofs.Common.{NO_ERROR, Body, Frame, Stream, Sent, round, rounds, all_rounds, Out, pull_of, without_stream, ConnFault, Phase, Open, Failed, OutOfMemory, State, Sound, SoundPhase, flush_of, after_frame_fault, after_pull, ends_reset_count, answer_ends, answers_end, is_remote_closed, with_local_closed, without_live_stream, at_cond, Publication, JwtOutcome, ServedCall, Turned, calls_turn, is_unnamed, name_first, is_asking, give_first, Talking, after_frame, written, frame_said, break_said, turn_said, name_said, given_said, Step, FrameCame, BytesBroke, CallAttested, TurnTaken, OutcomeCame, step_said, talk_after, FitsStep, AllFit, unwritten, frames_due, frames_of, Move, bytes_after, steps_of, first_of_none, steps_fit, ClientFault, Stage, Ended, Listener, call_stream, Hearing, is_in_place, control_heard, body_heard, frame_heard, frames_heard, fresh_listener, state_after, heard_in, frame_of, IsControl, greeting_frames, control_frames, due_frames, step_frames, frames_written, data_in, BeginsWith, MakesOneCall, l_turns, l_names, l_gives}
 use Rattle.h2_frame.specs.declared.frame.Body.TheVariants as bodies
-use Rattle.h2_frame.specs.declared.frame.Frame.{Frame}
 use Rattle.h2_frame.specs.Reading as reader
-use Rattle.h2_flow.specs.declared.stream.Stream.{Stream}
-use Rattle.h2_flow.specs.Streams.{Sent}
-use Rattle.h2_flow.specs.Pulls.{round, rounds, all_rounds}
-use Rattle.h2_flow.specs.Outboxes.{Out, pull_of, without_stream}
-use Rattle.h2_conn.specs.declared.fault.ConnFault.{ConnFault}
-use Rattle.h2_conn.specs.declared.phase.Phase.{Phase}
 use Rattle.h2_conn.specs.declared.phase.Totals.{Totals}
-use Rattle.h2_conn.specs.declared.phase.Phase.TheVariants.{Open, Failed, OutOfMemory}
-use Rattle.h2_conn.specs.declared.state.State.{State}
-use Rattle.h2_conn.specs.Sound.{Sound, SoundPhase}
 use Rattle.h2_conn.proofs.WindowSums.{sound_pull}
-use Rattle.h2_conn.specs.Conns.{flush_of, after_frame_fault, after_pull, ends_reset_count, answer_ends, answers_end}
-use Rattle.h2_conn.specs.Streams.{is_remote_closed, with_local_closed}
-use Rattle.h2_conn.specs.Peer.{without_live_stream}
-use Rattle.h2_conn.proofs.Walk.{at_cond}
 use Rattle.grpc_conn.specs.declared.standing.Call.{Call}
-use Rattle.wl_snapshot.specs.Snapshots.{Publication}
-use Rattle.wl_session.specs.declared.asks.JwtOutcome.{JwtOutcome}
-use Rattle.wl_session.specs.declared.served.ServedCall.{ServedCall}
-use Rattle.wl_session.specs.Answering.{Turned, has_ended, calls_turn}
-use Rattle.wl_session.specs.Tokens.{is_unnamed, name_on, name_first, is_asking, give_on, give_first}
-use Rattle.wl_session.specs.Talks.{Talking, fresh_talk, after_frame, written, frame_said, break_said}
-use Rattle.wl_session.specs.Sessions.{with_turned, turn_said, name_said, given_said}
-use Rattle.wl_responses.specs.Steps.{Step, FrameCame, BytesBroke, CallAttested, TurnTaken, OutcomeCame, step_said, talk_after, FitsStep, AllFit, unwritten, frames_due, frames_of, control_due}
-use Rattle.wl_responses.specs.Moves.{Move, bytes_after, steps_of, replies_in}
-use Rattle.wl_session.proofs.Attestations.{first_of_none}
-use Rattle.wl_responses.proofs.MoveSteps.{steps_fit}
-use Rattle.wl_client.specs.declared.fault.ClientFault.{ClientFault}
+use Rattle.wl_session.specs.Answering.{has_ended}
+use Rattle.wl_session.specs.Tokens.{name_on, give_on}
+use Rattle.wl_session.specs.Talks.{fresh_talk}
+use Rattle.wl_session.specs.Sessions.{with_turned}
+use Rattle.wl_responses.specs.Steps.{control_due}
+use Rattle.wl_responses.specs.Moves.{replies_in}
 use Rattle.wl_client.specs.declared.fault.ClientFault.TheVariants as faults
-use Rattle.wl_client.specs.declared.listener.Stage.{Stage}
-use Rattle.wl_client.specs.declared.listener.Stage.TheVariants.{Ended}
 use Rattle.wl_session.specs.declared.served.Stage as server
 use Rattle.wl_session.specs.declared.served.Stage.TheVariants as stages
-use Rattle.wl_client.specs.declared.listener.Listener.{Listener}
-use Rattle.wl_client.specs.Openings.{call_stream}
-use Rattle.wl_client.specs.Hearing.{Hearing, silent, fails, is_in_place, control_heard, body_heard, frame_heard, frames_heard, fresh_listener}
-use Rattle.wl_client.specs.Clients.{state_after, heard_in, heard}
-use Rattle.wl_heard.specs.Written.{frame_of, IsControlBody, IsControl, settings_frame, greeting_frames, control_frames, due_frames, step_frames, frames_written, data_in}
-use Rattle.list_laws.specs.Lists.{BeginsWith}
+use Rattle.wl_client.specs.Hearing.{silent, fails}
+use Rattle.wl_client.specs.Clients.{heard}
+use Rattle.wl_heard.specs.Written.{IsControlBody, settings_frame}
 use Rattle.wl_heard.specs.Clients.{messages_told, whole_messages, HasHeardAll, IsOfContent, FailsByContent}
-use Rattle.wl_heard.specs.Calls.{ComesOfOneCall, MakesOneCall, IsSaidOfCall, FailsAsSaid, CallsAreHeard}
+use Rattle.wl_heard.specs.Calls.{ComesOfOneCall, IsSaidOfCall, FailsAsSaid, CallsAreHeard}
 use Rattle.wl_heard.proofs.FramesInBytes.{control_is_read, data_both, sents_data, step_data, written_data}
 use Rattle.wl_heard.proofs.ClientMessages.{told_both, Knows, IfKnows, frames_go, fresh_knows, clients_hear_sessions}
 use Rattle.wl_heard.proofs.WholeFrames.{Holds, holds_none, found_all, nothing_read}
@@ -54,7 +28,6 @@ use Rattle.wl_heard.proofs.ResetStreams.{IsMildBody, IsMild, CleanState}
 use Rattle.wl_heard.proofs.MildQueues.{NeatState, Neat, unwritten_neat}
 use Rattle.wl_heard.proofs.FirstStream.{IsFirst}
 use Rattle.wl_client.proofs.Hearings.{heard_two, then_ok, then_err}
-use Rattle.wl_session.proofs.PhaseWalk.{l_turns, l_names, l_gives}
 use Rattle.wl_heard.proofs.Marks.{Mark, Bare, Headed, Closing, Alone, At, Kept, Lands, Ready, kept_weaker, lands_kept, lands_weaker, lands_none, lands_first, lands_one, lands_both}
 use Rattle.wl_heard.proofs.Turns.{Only, next_mark, IsSilent, pull_heard, over_parts}
 use Rattle.wl_heard.proofs.OnlyStream.{OnlyOf, OnlyOn, pulled_only, FirstOn, first_lasts, CameHere, came_lasts, flush_last}

@@ -1,17 +1,9 @@
 -- Where a client hears a refusal by HTTP in the answer to its one call, it hears its number.
 use Rattle.std.proofs.Common.{◌≡◌, List, [], Result, Ok, Err}
-use Rattle.h2_frame.specs.declared.frame.Frame.{Frame}
+use Rattle.wl_heard.proofs.Common.{Frame, talk_after, Move, steps_of, steps_fit, ClientFault, Listener, frames_heard, fresh_listener, state_after, heard_in, frames_written, MakesOneCall}
 use Rattle.h2_frame.specs.Reading as reader
-use Rattle.wl_responses.specs.Steps.{talk_after}
-use Rattle.wl_responses.specs.Moves.{Move, steps_of}
-use Rattle.wl_responses.proofs.MoveSteps.{steps_fit}
-use Rattle.wl_client.specs.declared.fault.ClientFault.{ClientFault}
 use Rattle.wl_client.specs.declared.fault.ClientFault.TheVariants as faults
-use Rattle.wl_client.specs.declared.listener.Listener.{Listener}
-use Rattle.wl_client.specs.Hearing.{frames_heard, fresh_listener}
-use Rattle.wl_client.specs.Clients.{ClientState, Listening, Failed, state_after, heard_in}
-use Rattle.wl_heard.specs.Written.{frames_written}
-use Rattle.wl_heard.specs.Calls.{MakesOneCall}
+use Rattle.wl_client.specs.Clients.{ClientState, Listening, Failed}
 use Rattle.wl_heard.proofs.Marks.{Kept, Lands}
 use Rattle.wl_heard.proofs.Hearers.{Exact, Follows, steps_heard}
 

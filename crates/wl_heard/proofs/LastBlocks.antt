@@ -2,46 +2,25 @@
 use Rattle.std.proofs.Common.{◌≡◌, inl, inr, ℕ, ◌==◌, Bool, true, false, not, List, [], ◌∷◌, find, Option, Some, None, refl, sym, ap, subst, ◌∙◌, eq-eqb, eqb-true}
 use Rattle.std.specs.List.{AllByRecursion}
 use Rattle.std.proofs.lemmas.Bool.{cases_Bool}
-use Rattle.wl_octets.specs.declared.header.Header.{Header}
-use Rattle.hpack.specs.Writing.{block_bytes}
-use Rattle.h2_frame.specs.declared.fault.FrameFault.{FrameFault}
-use Rattle.h2_frame.specs.declared.frame.Frame.{Frame}
+use Rattle.wl_heard.proofs.Common.{Header, block_bytes, FrameFault, Frame, Happening, Phase, Open, Failed, OutOfMemory, result_of, frame_result, after_frame_fault, Outcome, goes, fails, peer, SoundPhase, response_fields, trailer_fields, refused_fields, Refusal, CallEvent, verdict, standing_of_head, standing_at, event_at, calls_after, with_call, Publication, JwtOutcome, ServedCall, Turned, is_unnamed, name_first, is_asking, give_first, Talking, after_event, after_body, after_happening, after_happenings, after_frame, written, frame_said, break_said, turn_said, name_said, given_said, first_of_none, Step, FrameCame, BytesBroke, CallAttested, TurnTaken, OutcomeCame, step_said, talk_after, AllFit, unwritten, frames_of, GoesOn, IsRefused, IsAnswered, Closes, ClosesCall, Lasts, l_refusal, l_turns, l_names, l_gives}
 use Rattle.h2_flow.specs.declared.stream.Stream as flow
 use Rattle.h2_flow.specs.Outboxes.{new_stream}
-use Rattle.h2_conn.specs.declared.happening.Happening.{Happening}
 use Rattle.h2_conn.specs.declared.happening.Happening.TheVariants as happening
-use Rattle.h2_conn.specs.declared.phase.Phase.{Phase}
-use Rattle.h2_conn.specs.declared.phase.Phase.TheVariants.{Open, Failed, OutOfMemory}
-use Rattle.h2_conn.specs.Conns.{told_list, result_of, frame_result, after_frame_fault}
+use Rattle.h2_conn.specs.Conns.{told_list}
 use Rattle.h2_conn.specs.Kinds.{Fits}
-use Rattle.h2_conn.specs.Peer.{Outcome, goes, fails, peer}
-use Rattle.h2_conn.specs.Sound.{SoundPhase}
-use Rattle.grpc_wire.specs.Answers.{response_fields, trailer_fields, refused_fields}
-use Rattle.grpc_wire.specs.declared.refusal.Refusal.{Refusal}
-use Rattle.grpc_conn.specs.declared.event.CallEvent.{CallEvent}
 use Rattle.grpc_conn.specs.declared.event.CallEvent.TheVariants as events
-use Rattle.grpc_conn.specs.Verdicts.{verdict}
-use Rattle.grpc_conn.specs.Calls.{standing_of_head, standing_at, event_at, calls_after, with_call}
-use Rattle.wl_snapshot.specs.Snapshots.{Publication}
-use Rattle.wl_session.specs.declared.asks.JwtOutcome.{JwtOutcome}
 use Rattle.wl_session.specs.declared.served.Stage.{Stage}
 use Rattle.wl_session.specs.declared.served.Stage.TheVariants.{Unnamed, Ready, Asking}
-use Rattle.wl_session.specs.declared.served.ServedCall.{ServedCall}
-use Rattle.wl_session.specs.Answering.{Turned}
-use Rattle.wl_session.specs.Tokens.{change_first, is_unnamed, name_on, name_first, stream_of, first_unnamed, is_asking, give_on, give_first}
-use Rattle.wl_session.specs.Talks.{Talking, after_event, after_body, after_happening, after_happenings, after_frame, written, frame_said, break_said}
-use Rattle.wl_session.specs.Sessions.{turn_said, name_said, given_said}
-use Rattle.wl_session.proofs.Attestations.{first_here, first_later, first_of_none}
-use Rattle.wl_responses.specs.Steps.{Step, FrameCame, BytesBroke, CallAttested, TurnTaken, OutcomeCame, step_said, talk_after, AllFit, unwritten, frames_of}
+use Rattle.wl_session.specs.Tokens.{change_first, name_on, stream_of, first_unnamed, give_on}
+use Rattle.wl_session.proofs.Attestations.{first_here, first_later}
 use Rattle.wl_responses.specs.Replies.{stage_on}
-use Rattle.wl_responses.specs.Statuses.{On, OnPhase, Ending, GoesOn, IsRefused, IsAnswered, HasEnding, stream_told, event_told, ending_at, is_headed, ending_named, ending_given}
+use Rattle.wl_responses.specs.Statuses.{On, OnPhase, Ending, HasEnding, stream_told, event_told, ending_at, is_headed, ending_named, ending_given}
 use Rattle.wl_responses.proofs.OutboxStreams.{differ, phase_weaker, head_on, trailers_on, message_on, withdrawn_on, reset_on}
 use Rattle.wl_responses.proofs.Asides.{NoneOn, Aside, over, on, refusal_apart, calls_aside, name_aside, give_aside}
 use Rattle.wl_responses.proofs.Endings.{turns_give, names_give, tokens_give, call_is, found_has}
 use Rattle.wl_responses.proofs.Verdicts.{verdicts_give}
 use Rattle.wl_responses.proofs.Peers.{IsFree, frame_any}
-use Rattle.wl_heard.specs.Statuses.{IsGivenAt, by_verdict, by_attestor, by_view, by_token, Closes, ClosesCall}
-use Rattle.wl_session.proofs.PhaseWalk.{Lasts, l_refusal, l_turns, l_names, l_gives}
+use Rattle.wl_heard.specs.Statuses.{IsGivenAt, by_verdict, by_attestor, by_view, by_token}
 use Rattle.wl_heard.proofs.SoundConnections.{Tidy}
 use Rattle.wl_heard.proofs.FramesInBytes.{steps_tidy}
 use Rattle.wl_heard.proofs.HeaderBlocks.{LastFits, HasHead, IsClear, HasLast, HasBlocks, SentFits, flush_blocks, due_fits}

@@ -1,3 +1,4 @@
+mod Common
 pub mod WholeFrames
 pub mod Rounds
 pub mod Queues

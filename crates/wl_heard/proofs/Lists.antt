@@ -1,22 +1,16 @@
 -- What the header lists of answers say to a client, and that each block of them is decoded.
 use Rattle.std.proofs.Common.{◌≡◌, ℕ, ◌<◌, ◌≤◌, true, false, List, ◌∷◌, ◌++◌, [], Some, None, Result, Ok, refl, arith}
 use Rattle.std.specs.Fmt.{digits}
-use Rattle.wl_octets.specs.declared.header.Header.{Header}
-use Rattle.hpack.specs.declared.fault.HpackFault.{HpackFault}
+use Rattle.wl_heard.proofs.Common.{Header, HpackFault, Standing, decode_block, block_bytes, TableSizeUpdate, size_update_bytes, response_fields, trailer_fields, refused_fields, Refusal, NoIdentity, LongResponse, Unsigned, Unattested, UnknownService, http_fault, grpc_code, small_head, small_trailers, small_refusal}
 use Rattle.hpack.specs.declared.limit.TheConstants.{MAX_LIST_SIZE}
 use Rattle.hpack.specs.Tables.{Table, list_size, with_maximum}
 use Rattle.hpack.specs.Reading.{block_of, headers_of, block_in, representation_at, integer_at}
-use Rattle.hpack.specs.Decoding.{Standing, Good, Broken, decode_block}
-use Rattle.hpack.specs.Writing.{block_bytes}
+use Rattle.hpack.specs.Decoding.{Good, Broken}
 use Rattle.hpack.proofs.WrittenBlocks.{block_again}
-use Rattle.h2_flow.specs.declared.flow.TableSizeUpdate.{TableSizeUpdate}
 use Rattle.h2_flow.specs.declared.flow.TableSizeUpdate.TheVariants.{Unasked, Due, Written}
-use Rattle.h2_flow.specs.Streams.{size_update_bytes}
-use Rattle.grpc_wire.specs.Answers.{response_fields, trailer_fields, refused_fields, percent_encoded}
-use Rattle.grpc_wire.specs.declared.refusal.Refusal.{Refusal}
-use Rattle.grpc_wire.specs.declared.refusal.Refusal.TheVariants.{BadMethod, BadContent, UnknownPath, Compressed, Insecure, Flag, LongRequest, Count, Undecodable, NoAudience, BadId, NoIdentity, LongResponse, Unsigned, Unattested, UnknownService}
-use Rattle.wl_client.specs.Statuses.{http_fault, http_fault_of, grpc_code}
-use Rattle.wl_session.proofs.Sizes.{small_head, small_trailers, small_refusal}
+use Rattle.grpc_wire.specs.Answers.{percent_encoded}
+use Rattle.grpc_wire.specs.declared.refusal.Refusal.TheVariants.{BadMethod, BadContent, UnknownPath, Compressed, Insecure, Flag, LongRequest, Count, Undecodable, NoAudience, BadId}
+use Rattle.wl_client.specs.Statuses.{http_fault_of}
 
 -- ---- lists
 

@@ -1,16 +1,8 @@
 -- How far the answer on a client's stream is, as the connection has it and as the client has heard it.
 use Rattle.std.proofs.Common.{◌≡◌, ◌⊎◌, ℕ, nat_lt, true, false, List, [], ◌∷◌, ◌++◌, length, Option, Some, None, Result, Ok, Err, sym, subst}
-use Rattle.wl_octets.specs.declared.header.Header.{Header}
-use Rattle.h2_frame.specs.declared.frame.Frame.{Frame}
-use Rattle.h2_flow.specs.declared.stream.Stream.{Stream}
-use Rattle.wl_client.specs.declared.fault.ClientFault.{ClientFault}
+use Rattle.wl_heard.proofs.Common.{Header, Frame, Stream, ClientFault, Stage, Opening, Answering, Ended, Listener, Heard, Hearing, after_hearing, frame_heard, frames_heard}
 use Rattle.wl_client.specs.declared.fault.ClientFault.TheVariants as faults
-use Rattle.wl_client.specs.declared.listener.Stage.{Stage}
-use Rattle.wl_client.specs.declared.listener.Stage.TheVariants.{Opening, Answering, Ended}
-use Rattle.wl_client.specs.declared.listener.Listener.{Listener}
-use Rattle.wl_client.specs.declared.reply.Heard.{Heard}
 use Rattle.wl_client.proofs.Hearings.{heard_two}
-use Rattle.wl_client.specs.Hearing.{Hearing, after_hearing, frame_heard, frames_heard}
 use Rattle.wl_heard.proofs.Lists.{IsHead, IsEnd, IsWhole, BlockOf, IsGood}
 
 -- ---- what was given to the stream

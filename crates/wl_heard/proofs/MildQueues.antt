@@ -2,39 +2,17 @@
 use Rattle.std.proofs.Common.{◌≡◌, ◌⊎◌, inl, inr, ℕ, ◌+◌, ◌≤◌, ◌<◌, ◌^◌, ◌==◌, cond, not, Bool, true, false, List, [], ◌∷◌, map, Option, Some, None, refl, arith, eqb-true, eq-eqb}
 use Rattle.std.specs.List.{AllByRecursion}
 use Rattle.std.proofs.lemmas.Bool.{cases_Bool}
-use Rattle.hpack.specs.Writing.{block_bytes}
-use Rattle.h2_frame.specs.declared.frame.Body.TheVariants.{Reset}
-use Rattle.h2_frame.specs.declared.fault.FrameFault.{FrameFault}
-use Rattle.h2_frame.specs.declared.frame.Frame.{Frame}
-use Rattle.h2_flow.specs.declared.stream.Stream.{Stream}
-use Rattle.h2_flow.specs.Outboxes.{is_number, update_stream, with_offer, with_head, with_trailers, with_message, without_waiting, without_stream, with_control, numbers, pull_of}
-use Rattle.h2_conn.specs.declared.happening.Happening.{Happening}
+use Rattle.wl_heard.proofs.Common.{block_bytes, Reset, FrameFault, Frame, Stream, is_number, update_stream, with_offer, with_head, with_trailers, with_message, without_waiting, without_stream, with_control, numbers, pull_of, Happening, Phase, Open, Failed, OutOfMemory, State, is_live, Outcome, goes, fails, with_control_frame, without_live_stream, peer, Sound, SoundPhase, takes, result_of, frame_result, after_frame_fault, with_head_on, with_trailers_on, with_message_on, without_waiting_on, after_reset, on_open, peer_sound, CallEvent, verdict, standing_of_head, standing_at, event_at, calls_after, with_call, response_fields, trailer_fields, refused_fields, Talking, after_event, after_body, after_happening, after_happenings, after_frame, live_below, call_stream, Step, FrameCame, BytesBroke, CallAttested, TurnTaken, OutcomeCame, FitsStep, unwritten, IsOfOneCall, Lasts, l_refusal, l_turns, l_names, l_gives}
 use Rattle.h2_conn.specs.declared.happening.Happening.TheVariants as happening
-use Rattle.h2_conn.specs.declared.phase.Phase.{Phase}
-use Rattle.h2_conn.specs.declared.phase.Phase.TheVariants.{Open, Failed, OutOfMemory}
-use Rattle.h2_conn.specs.declared.state.State.{State}
-use Rattle.h2_conn.specs.Streams.{is_live}
 use Rattle.h2_conn.specs.Kinds.{Fits}
 use Rattle.h2_conn.specs.Naming.{NamesTold}
-use Rattle.h2_conn.specs.Peer.{Outcome, goes, fails, with_control_frame, without_live_stream, peer}
-use Rattle.h2_conn.specs.Sound.{Sound, SoundPhase}
-use Rattle.h2_conn.specs.Conns.{takes, result_of, frame_result, after_frame_fault, with_head_on, with_trailers_on, with_message_on, without_waiting_on, after_reset, on_open}
-use Rattle.h2_conn.proofs.Sounds.{peer_sound, peer_names}
+use Rattle.h2_conn.proofs.Sounds.{peer_names}
 use Rattle.h2_conn.proofs.Tellings.{frame_tells}
-use Rattle.grpc_conn.specs.declared.event.CallEvent.{CallEvent}
 use Rattle.grpc_conn.specs.declared.event.CallEvent.TheVariants as events
-use Rattle.grpc_conn.specs.Verdicts.{verdict}
-use Rattle.grpc_conn.specs.Calls.{standing_of_head, standing_at, event_at, calls_after, with_call}
-use Rattle.grpc_wire.specs.Answers.{response_fields, trailer_fields, refused_fields}
-use Rattle.wl_session.specs.Talks.{Talking, after_event, after_body, after_happening, after_happenings, after_frame}
-use Rattle.wl_session.proofs.PeerAnswers.{live_below}
-use Rattle.wl_client.specs.Openings.{call_stream}
-use Rattle.wl_responses.specs.Steps.{Step, FrameCame, BytesBroke, CallAttested, TurnTaken, OutcomeCame, FitsStep, unwritten}
-use Rattle.wl_heard.specs.Calls.{ComesOfOneCall, IsOfOneCall}
+use Rattle.wl_heard.specs.Calls.{ComesOfOneCall}
 use Rattle.wl_heard.proofs.WholeFrames.{Holds, holds_both, holds_spelled}
 use Rattle.wl_heard.proofs.FirstStream.{IsFirst, frame_opens}
 use Rattle.wl_heard.proofs.OnlyStream.{OnlyOf, only_filter, sound_lasts, FirstOn, first_lasts}
-use Rattle.wl_session.proofs.PhaseWalk.{Lasts, l_refusal, l_turns, l_names, l_gives}
 use Rattle.wl_heard.proofs.PeerFrames.{IsNone, Kind, head, other, kind_of, only_of, old_streams}
 use Rattle.wl_heard.proofs.ResetStreams.{IsMild, IsAny, Tame, CleanState, none_left, frame_clean}
 

@@ -1,15 +1,11 @@
 -- What turns, names and tokens do for the one call of a connection.
 use Rattle.std.proofs.Common.{◌≡◌, inl, inr, ℕ, ◌==◌, length, Bool, true, false, nat_lt, cond, List, [], ◌∷◌, ◌++◌, Option, Some, None, refl, sym, subst, append-nil}
 use Rattle.std.proofs.lemmas.Bool.{cases_Bool}
-use Rattle.h2_conn.specs.declared.phase.Phase.{Phase}
-use Rattle.h2_conn.specs.Sound.{SoundPhase}
+use Rattle.wl_heard.proofs.Common.{Phase, SoundPhase, Refusal, NoIdentity, LongResponse, UnknownService, Unsigned, Unattested, Publication, JwtOutcome, ServedCall, Turned, calls_turn, is_unnamed, name_first, is_asking, give_first, first_of_none, call_stream, l_refusal}
 use Rattle.h2_conn.specs.Conns.{withdraws}
-use Rattle.grpc_wire.specs.declared.refusal.Refusal.{Refusal}
-use Rattle.grpc_wire.specs.declared.refusal.Refusal.TheVariants.{NoIdentity, LongResponse, UnknownService, Unsigned, Unattested}
 use Rattle.workload_proto.specs.declared.message.JwtItem.{JwtItem}
 use Rattle.workload_proto.specs.Spelling.{spell_jwt, capped}
 use Rattle.wl_health.specs.Messages.{spell_state}
-use Rattle.wl_snapshot.specs.Snapshots.{Publication}
 use Rattle.wl_snapshot.specs.Views.{ViewModel, view_in}
 use Rattle.wl_snapshot.specs.Answers.{answer_of, asks_of}
 use Rattle.wl_snapshot.specs.declared.answers.Answer.{Answer}
@@ -17,22 +13,19 @@ use Rattle.wl_snapshot.specs.declared.answers.Answer.TheVariants.{Denied, Wait, 
 use Rattle.wl_snapshot.specs.declared.answers.Method3.{Method3}
 use Rattle.wl_snapshot.specs.declared.token_asks.Wanted.{Wanted}
 use Rattle.wl_session.specs.declared.asks.JwtAsk.{JwtAsk}
-use Rattle.wl_session.specs.declared.asks.JwtOutcome.{JwtOutcome}
 use Rattle.wl_session.specs.declared.asks.JwtOutcome.TheVariants as outcomes
 use Rattle.wl_session.specs.declared.served.CallKind.{CallKind}
 use Rattle.wl_session.specs.declared.served.CallKind.TheVariants.{Stream, Tokens, Check, Watch}
 use Rattle.wl_session.specs.declared.served.Stage.{Stage}
 use Rattle.wl_session.specs.declared.served.Stage.TheVariants.{Unnamed, Ready, Asking}
-use Rattle.wl_session.specs.declared.served.ServedCall.{ServedCall}
 use Rattle.wl_session.specs.Kinds.{was_seen}
-use Rattle.wl_session.specs.Answering.{Turned, goes_on, has_ended, with_refusal, with_message, with_last_message, stream_answer, health_of, token_answer, check_answer, call_answer, stage_turn, call_turn, turn_before, calls_turn}
-use Rattle.wl_session.specs.Tokens.{change_first, is_unnamed, name_call, name_stage, name_first, is_asking, item_for, next_ask, give_call, give_stage, give_first}
-use Rattle.wl_session.proofs.Attestations.{first_here, first_later, first_of_none}
+use Rattle.wl_session.specs.Answering.{goes_on, has_ended, with_refusal, with_message, with_last_message, stream_answer, health_of, token_answer, check_answer, call_answer, stage_turn, call_turn, turn_before}
+use Rattle.wl_session.specs.Tokens.{change_first, name_call, name_stage, item_for, next_ask, give_call, give_stage}
+use Rattle.wl_session.proofs.Attestations.{first_here, first_later}
 use Rattle.wl_client.specs.declared.listener.Stage as client
-use Rattle.wl_client.specs.Openings.{call_stream}
 use Rattle.wl_heard.proofs.Lists.{late_identity, late_length, late_service}
 use Rattle.wl_heard.proofs.Marks.{Mark, Bare, Headed, Closing, At}
-use Rattle.wl_session.proofs.PhaseWalk.{l_refusal, l_message, l_last}
+use Rattle.wl_session.proofs.PhaseWalk.{l_message, l_last}
 use Rattle.wl_heard.proofs.OnlyStream.{OnlyOn, sound_lasts, mark_if, mark_end, LateIf, silence_only, refusal_only, message_only, last_only}
 
 -- ---- how a call stands

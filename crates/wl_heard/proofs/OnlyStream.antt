@@ -1,27 +1,13 @@
 -- What is given to a connection that has the call's stream alone.
 use Rattle.std.proofs.Common.{◌≡◌, inl, ℕ, ◌≤◌, Bool, true, false, not, cond, List, [], ◌∷◌, filter, Some, None, refl, sym, ◌∙◌, eq-eqb}
-use Rattle.hpack.specs.Writing.{block_bytes}
-use Rattle.h2_frame.specs.declared.frame.Body.TheVariants.{Reset}
-use Rattle.h2_flow.specs.declared.stream.Stream.{Stream}
-use Rattle.h2_flow.specs.Outboxes.{is_number, update_stream, with_offer, with_head, with_trailers, with_message, without_waiting, without_stream, with_control, pull_of}
-use Rattle.h2_conn.specs.declared.phase.Phase.{Phase}
-use Rattle.h2_conn.specs.declared.phase.Phase.TheVariants.{Open, Failed, OutOfMemory}
-use Rattle.h2_conn.specs.declared.state.State.{State}
-use Rattle.h2_conn.specs.Streams.{is_live, is_remote_closed, with_local_closed}
-use Rattle.h2_conn.specs.Peer.{with_control_frame, without_live_stream}
-use Rattle.h2_conn.specs.Sound.{Sound, SoundPhase}
-use Rattle.h2_conn.specs.Conns.{takes, with_head_on, with_trailers_on, with_message_on, without_waiting_on, after_reset, on_open, offers, withdraws, answer_ends, answers_end, ends_reset_count, after_pull, flush_of}
-use Rattle.h2_conn.proofs.Walk.{at_cond}
+use Rattle.wl_heard.proofs.Common.{block_bytes, Reset, Stream, is_number, update_stream, with_offer, with_head, with_trailers, with_message, without_waiting, without_stream, with_control, pull_of, Phase, Open, Failed, OutOfMemory, State, is_live, is_remote_closed, with_local_closed, with_control_frame, without_live_stream, Sound, SoundPhase, takes, with_head_on, with_trailers_on, with_message_on, without_waiting_on, after_reset, on_open, answer_ends, answers_end, ends_reset_count, after_pull, flush_of, at_cond, response_fields, trailer_fields, refused_fields, Refusal, Stage, call_stream, Lasts}
+use Rattle.h2_conn.specs.Conns.{offers, withdraws}
 use Rattle.h2_conn.proofs.Sounds.{there_is, s_headed_on, s_finished_on, s_offered_on, s_withdrawn_on, s_reset_by}
 use Rattle.grpc_wire.specs.Messages.{framed}
-use Rattle.grpc_wire.specs.Answers.{response_fields, trailer_fields, refused_fields}
-use Rattle.grpc_wire.specs.declared.refusal.Refusal.{Refusal}
 use Rattle.wl_session.specs.Answering.{with_head as with_first_head, with_message as with_message_behind, with_last_message, with_refusal}
-use Rattle.wl_client.specs.declared.listener.Stage.{Stage}
-use Rattle.wl_client.specs.Openings.{call_stream}
 use Rattle.wl_heard.proofs.Lists.{IsLate, head_block, last_block, late_block, whole_block}
 use Rattle.wl_heard.proofs.Marks.{Mark, Bare, Headed, Closing, Alone, At}
-use Rattle.wl_session.proofs.PhaseWalk.{Lasts, l_head, l_message}
+use Rattle.wl_session.proofs.PhaseWalk.{l_head, l_message}
 
 -- ---- the one stream
 

@@ -2,41 +2,23 @@
 use Rattle.std.proofs.Common.{◌≡◌, ◌⊎◌, inl, inr, ℕ, ◌+◌, ◌≤◌, ◌<◌, ◌^◌, ◌==◌, ℤ, map, not, cond, Bool, true, false, List, [], ◌∷◌, Option, Some, None, refl, sym, subst, ◌∙◌, arith, eqb-true, eq-eqb}
 use Rattle.std.specs.List.{AllByRecursion}
 use Rattle.std.proofs.lemmas.Bool.{cases_Bool, ltb-true}
-use Rattle.wl_octets.specs.declared.header.Header.{Header}
-use Rattle.h2_frame.specs.declared.fault.FrameFault.{FrameFault}
-use Rattle.h2_frame.specs.declared.frame.Frame.{Frame}
-use Rattle.h2_flow.specs.declared.stream.Stream.{Stream}
-use Rattle.h2_flow.specs.Outboxes.{numbers, new_stream}
-use Rattle.h2_conn.specs.declared.happening.Happening.{Happening}
+use Rattle.wl_heard.proofs.Common.{Header, FrameFault, Frame, Stream, numbers, Happening, Phase, Open, Failed, OutOfMemory, State, Outcome, goes, fails, peer, result_of, frame_result, after_frame_fault, Sound, SoundPhase, peer_sound, CallEvent, verdict, standing_of_head, with_call, ServedCall, Talking, after_event, after_body, after_happening, after_happenings, after_frame, live_below, Stage, Opening, call_stream, IsOfOneCall, l_refusal}
+use Rattle.h2_flow.specs.Outboxes.{new_stream}
 use Rattle.h2_conn.specs.declared.happening.Happening.TheVariants as happening
-use Rattle.h2_conn.specs.declared.phase.Phase.{Phase}
-use Rattle.h2_conn.specs.declared.phase.Phase.TheVariants.{Open, Failed, OutOfMemory}
-use Rattle.h2_conn.specs.declared.state.State.{State}
 use Rattle.h2_conn.specs.Naming.{NamesTold}
-use Rattle.h2_conn.specs.Peer.{Outcome, goes, fails, peer}
-use Rattle.h2_conn.specs.Conns.{told_list, result_of, frame_result, after_frame_fault}
-use Rattle.h2_conn.specs.Sound.{Sound, SoundPhase}
+use Rattle.h2_conn.specs.Conns.{told_list}
 use Rattle.h2_conn.specs.Holding.{OpensNot}
 use Rattle.h2_conn.proofs.Carries.{frame_carries}
-use Rattle.h2_conn.proofs.Sounds.{peer_sound, peer_names}
+use Rattle.h2_conn.proofs.Sounds.{peer_names}
 use Rattle.h2_conn.proofs.Tellings.{frame_tells}
-use Rattle.grpc_conn.specs.declared.event.CallEvent.{CallEvent}
 use Rattle.grpc_conn.specs.declared.event.CallEvent.TheVariants as events
 use Rattle.grpc_conn.specs.declared.standing.Call.{Call}
-use Rattle.grpc_conn.specs.Verdicts.{verdict}
-use Rattle.grpc_conn.specs.Calls.{standing_of_head, event_of, standing_after, with_call, without}
-use Rattle.wl_session.specs.declared.served.ServedCall.{ServedCall}
-use Rattle.wl_session.specs.Talks.{Talking, others, after_event, after_body, after_happening, after_happenings, after_frame}
-use Rattle.wl_session.proofs.PeerAnswers.{live_below}
+use Rattle.grpc_conn.specs.Calls.{event_of, standing_after, without}
+use Rattle.wl_session.specs.Talks.{others}
 use Rattle.wl_responses.proofs.Peers.{IsFree}
-use Rattle.wl_client.specs.declared.listener.Stage.{Stage}
-use Rattle.wl_client.specs.declared.listener.Stage.TheVariants.{Opening}
-use Rattle.wl_client.specs.Openings.{call_stream}
-use Rattle.wl_heard.specs.Calls.{IsOfOneCall}
 use Rattle.wl_heard.proofs.Marks.{Mark, Bare, Headed, Closing, Alone, At}
 use Rattle.wl_heard.proofs.FirstStream.{IsFirst, frame_opens}
 use Rattle.wl_heard.proofs.OnlyStream.{OnlyOf, OnlyOn, sound_lasts, refusal_only, reset_only, FirstOn, first_lasts, CameHere, came_lasts}
-use Rattle.wl_session.proofs.PhaseWalk.{l_refusal}
 use Rattle.wl_heard.proofs.OneCall.{KeptAt}
 
 -- ---- what is known of a talk

@@ -3,29 +3,20 @@ use Rattle.std.proofs.Common.{◌≡◌, ℕ, ◌+◌, ◌<◌, ◌≤◌, ◌^�
 use Rattle.h2_wire.specs.declared.limit.TheConstants.{MAX_WINDOW_SIZE}
 use Rattle.h2_wire.specs.declared.error_code.TheConstants.{REFUSED_STREAM}
 use Rattle.h2_wire.specs.declared.setting.TheConstants as setting
-use Rattle.hpack.specs.declared.fault.HpackFault.{HpackFault}
+use Rattle.wl_heard.proofs.Common.{HpackFault, Body, Bytes, Headers, Priority, Reset, Settings, SettingsAck, PushPromise, Ping, GoAway, WindowUpdate, Continuation, Unknown, Frame, frame_encoding, Out, without_stream, with_control, State, OpenBlock, is_local_closed, with_remote_closed, Outcome, goes, fails, with_control_frame, without_live_stream, request_ends, peer, FitsBody, Sound, at_cond, Rows, Windows, walk, IsControl}
 use Rattle.hpack.specs.declared.fault.HpackFault.TheVariants as hpack
-use Rattle.h2_frame.specs.declared.frame.Body.{Body}
-use Rattle.h2_frame.specs.declared.frame.Body.TheVariants.{Bytes, Headers, Priority, Reset, Settings, SettingsAck, PushPromise, Ping, GoAway, WindowUpdate, Continuation, Unknown}
-use Rattle.h2_frame.specs.declared.frame.Frame.{Frame}
 use Rattle.h2_frame.specs.declared.frame.Setting.{Setting}
-use Rattle.h2_frame.specs.Writing.{frame_encoding}
 use Rattle.h2_flow.specs.declared.overflow.Overflow.{Overflow}
-use Rattle.h2_flow.specs.Outboxes.{Out, with_stream, without_stream, with_control, with_size_update, credit_of, with_step, with_connection_step, with_stream_step, first_over, with_initial, set_initial_window}
+use Rattle.h2_flow.specs.Outboxes.{with_stream, with_size_update, credit_of, with_step, with_connection_step, with_stream_step, first_over, with_initial, set_initial_window}
 use Rattle.h2_flow.specs.Windows.{window_of}
 use Rattle.h2_conn.specs.declared.fault.ConnCause.{ConnCause}
 use Rattle.h2_conn.specs.declared.fault.ConnCause.TheVariants as cause
-use Rattle.h2_conn.specs.declared.state.State.{State}
-use Rattle.h2_conn.specs.declared.state.OpenBlock.{OpenBlock}
 use Rattle.h2_conn.specs.Faults.{hpack_code, code_of, failure}
-use Rattle.h2_conn.specs.Streams.{is_local_closed, with_remote_closed}
-use Rattle.h2_conn.specs.Peer.{Outcome, goes, fails, with_control_frame, without_live_stream, request_ends, peer}
-use Rattle.h2_conn.specs.Kinds.{FitsBody, Fits}
-use Rattle.h2_conn.specs.Sound.{IsLow, Sound}
+use Rattle.h2_conn.specs.Kinds.{Fits}
+use Rattle.h2_conn.specs.Sound.{IsLow}
 use Rattle.h2_conn.specs.Conns.{goaway}
-use Rattle.h2_conn.proofs.Walk.{at_cond, IsNumbered, Rows, Windows, walk}
+use Rattle.h2_conn.proofs.Walk.{IsNumbered}
 use Rattle.h2_conn.proofs.Sounds.{IsLowNumber, low_open}
-use Rattle.wl_heard.specs.Written.{IsControl}
 use Rattle.wl_heard.proofs.WholeFrames.{Holds, holds_both, holds_spelled, holds_ping}
 
 -- ---- one frame more

@@ -1,16 +1,13 @@
 -- What a client reads of the header list that ends a call: the status of the ending, or of a refusal by HTTP.
 use Rattle.std.proofs.Common.{◌≡◌, ◌⊎◌, inl, inr, ℕ, Bool, true, false, not, List, [], Some, None, refl, sym, ap, subst, ◌∙◌}
 use Rattle.std.specs.Fmt.{digits}
-use Rattle.wl_octets.specs.declared.header.Header.{Header}
-use Rattle.grpc_wire.specs.Answers.{response_fields, trailer_fields, refused_fields, percent_encoded}
+use Rattle.wl_heard.proofs.Common.{Header, response_fields, trailer_fields, refused_fields, Refusal, NoIdentity, LongResponse, Unsigned, Unattested, UnknownService, Step, GoesOn, IsRefused, IsAnswered, call_stream, http_fault, grpc_code, Closes, ClosesCall}
+use Rattle.grpc_wire.specs.Answers.{percent_encoded}
 use Rattle.grpc_wire.specs.Refusals.{status_of, text_of, is_http_refusal}
-use Rattle.grpc_wire.specs.declared.refusal.Refusal.{Refusal}
-use Rattle.grpc_wire.specs.declared.refusal.Refusal.TheVariants.{BadMethod, BadContent, UnknownPath, Compressed, Insecure, Flag, LongRequest, Count, Undecodable, NoAudience, BadId, NoIdentity, LongResponse, Unsigned, Unattested, UnknownService}
-use Rattle.wl_responses.specs.Steps.{Step}
-use Rattle.wl_responses.specs.Statuses.{Ending, GoesOn, IsRefused, IsAnswered}
-use Rattle.wl_client.specs.Openings.{call_stream}
-use Rattle.wl_client.specs.Statuses.{http_fault, http_fault_of, grpc_code, grpc_text}
-use Rattle.wl_heard.specs.Statuses.{WasGiven, Closes, ClosesCall, HasStatus, IsHttpOfCall}
+use Rattle.grpc_wire.specs.declared.refusal.Refusal.TheVariants.{BadMethod, BadContent, UnknownPath, Compressed, Insecure, Flag, LongRequest, Count, Undecodable, NoAudience, BadId}
+use Rattle.wl_responses.specs.Statuses.{Ending}
+use Rattle.wl_client.specs.Statuses.{http_fault_of, grpc_text}
+use Rattle.wl_heard.specs.Statuses.{WasGiven, HasStatus, IsHttpOfCall}
 
 number_is : (a b : ℕ) → Some a ≡ Some b → b ≡ a
 number_is a b e = let same : a ≡ b = cc in sym same

@@ -3,22 +3,13 @@ use Rattle.std.proofs.Common.{◌≡◌, ◌⊎◌, inl, inr, ℕ, ◌+◌, ◌<
 use Rattle.std.proofs.lemmas.Bool.{cases_Bool, ltb-true}
 use Rattle.list_laws.proofs.Results.{ok_is, err_is_no_ok}
 use Rattle.h2_wire.specs.declared.error_code.TheConstants.{REFUSED_STREAM}
-use Rattle.h2_frame.specs.declared.frame.Body.{Body}
-use Rattle.h2_frame.specs.declared.frame.Body.TheVariants.{Bytes, Headers, Priority, Reset, Settings, SettingsAck, PushPromise, Ping, GoAway, WindowUpdate, Continuation, Unknown}
-use Rattle.h2_frame.specs.declared.frame.Frame.{Frame}
-use Rattle.h2_frame.specs.Writing.{frame_encoding}
+use Rattle.wl_heard.proofs.Common.{Body, Bytes, Headers, Priority, Reset, Settings, SettingsAck, PushPromise, Ping, GoAway, WindowUpdate, Continuation, Unknown, Frame, frame_encoding, Stream, Out, is_number, without_stream, with_control, State, OpenBlock, is_live, is_local_closed, with_remote_closed, Outcome, goes, fails, with_control_frame, without_live_stream, request_ends, peer, FitsBody, at_cond, Rows, Windows, walk, call_stream, IsOfOneCall}
 use Rattle.h2_flow.specs.declared.overflow.Overflow.{Overflow}
-use Rattle.h2_flow.specs.declared.stream.Stream.{Stream}
-use Rattle.h2_flow.specs.Outboxes.{Out, is_number, without_stream, with_stream, with_control, with_size_update, with_step, first_over, with_initial, set_initial_window}
-use Rattle.h2_conn.specs.declared.state.State.{State}
-use Rattle.h2_conn.specs.declared.state.OpenBlock.{OpenBlock}
-use Rattle.h2_conn.specs.Streams.{is_live, is_local_closed, with_remote_closed}
-use Rattle.h2_conn.specs.Peer.{Outcome, goes, fails, with_control_frame, without_live_stream, request_ends, peer}
-use Rattle.h2_conn.specs.Kinds.{FitsBody, Fits}
-use Rattle.h2_conn.proofs.Walk.{at_cond, IsNumbered, Rows, Windows, walk}
+use Rattle.h2_flow.specs.Outboxes.{with_stream, with_size_update, with_step, first_over, with_initial, set_initial_window}
+use Rattle.h2_conn.specs.Kinds.{Fits}
+use Rattle.h2_conn.proofs.Walk.{IsNumbered}
 use Rattle.h2_conn.proofs.Sounds.{IsLowNumber}
-use Rattle.wl_client.specs.Openings.{call_stream}
-use Rattle.wl_heard.specs.Calls.{IsCallBody, IsOfOneCall}
+use Rattle.wl_heard.specs.Calls.{IsCallBody}
 use Rattle.wl_heard.proofs.WholeFrames.{Holds, holds_both, holds_spelled, holds_ping}
 use Rattle.wl_heard.proofs.OnlyStream.{OnlyOf}
 use Rattle.wl_heard.proofs.FirstStream.{IsCall}

@@ -1,16 +1,9 @@
 -- Each frame that a pull writes has a stream of 31 bits and at most 16,384 bytes.
 use Rattle.std.proofs.Common.{ℕ, zero, suc, ◌+◌, ◌<◌, ◌≤◌, ◌^◌, ◌==◌, min, nat_lt, Bool, true, false, List, [], ◌∷◌, ◌++◌, length, drop, Option, Some, None, arith, length-append, length-take}
 use Rattle.std.specs.List.{AllByRecursion}
-use Rattle.list_laws.proofs.Elements.{all_append}
-use Rattle.h2_flow.specs.declared.flow.Flow.{Flow}
-use Rattle.h2_flow.specs.declared.flow.TableSizeUpdate.{TableSizeUpdate}
+use Rattle.wl_heard.proofs.Common.{all_append, Flow, TableSizeUpdate, Stream, allowed_of, Turn, no_turn, size_update_bytes, headers_turn, data_turn, last_turn, next_turn, body_turn, head_turn, turn, Round, round, rounds, all_work, all_rounds, Out, pull_of, at_cond}
 use Rattle.h2_flow.specs.declared.flow.TableSizeUpdate.TheVariants.{Unasked, Due, Written}
-use Rattle.h2_flow.specs.declared.stream.Stream.{Stream}
-use Rattle.h2_flow.specs.Windows.{allowed_of, room_of, window_of}
-use Rattle.h2_flow.specs.Streams.{Turn, no_turn, size_update_bytes, headers_turn, data_turn, last_turn, next_turn, body_turn, head_turn, turn}
-use Rattle.h2_flow.specs.Pulls.{Round, round, rounds, all_work, all_rounds}
-use Rattle.h2_flow.specs.Outboxes.{Out, pull_of}
-use Rattle.h2_conn.proofs.Walk.{at_cond}
+use Rattle.h2_flow.specs.Windows.{room_of, window_of}
 use Rattle.wl_heard.proofs.WholeFrames.{IsShortSent}
 
 -- a block to which a size update of one byte may be put

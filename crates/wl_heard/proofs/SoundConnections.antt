@@ -3,26 +3,14 @@ use Rattle.std.proofs.Common.{◌≡◌, inl, inr, ℕ, ◌+◌, ◌<◌, ◌^�
 use Rattle.std.specs.List.{AllByRecursion}
 use Rattle.std.proofs.lemmas.Bool.{cases_Bool}
 use Rattle.list_laws.proofs.Elements.{all_filter}
-use Rattle.h2_frame.specs.declared.fault.FrameFault.{FrameFault}
-use Rattle.h2_frame.specs.declared.frame.Body.TheVariants.{Reset}
-use Rattle.h2_frame.specs.declared.frame.Frame.{Frame}
-use Rattle.h2_flow.specs.declared.stream.Stream.{Stream}
-use Rattle.h2_flow.specs.Outboxes.{is_number, update_stream, with_offer, with_head, with_trailers, with_message, without_waiting, without_stream, with_control, numbers, pull_of}
-use Rattle.h2_conn.specs.declared.phase.Phase.{Phase}
-use Rattle.h2_conn.specs.declared.phase.Phase.TheVariants.{Open, Failed, OutOfMemory}
-use Rattle.h2_conn.specs.declared.state.State.{State}
+use Rattle.wl_heard.proofs.Common.{FrameFault, Reset, Frame, Stream, is_number, update_stream, with_offer, with_head, with_trailers, with_message, without_waiting, without_stream, with_control, numbers, pull_of, Phase, Open, Failed, OutOfMemory, State, is_live, is_remote_closed, with_local_closed, Outcome, goes, fails, with_control_frame, without_live_stream, peer, Sound, result_of, frame_result, after_frame_fault, takes, with_head_on, with_trailers_on, with_message_on, without_waiting_on, after_reset, on_open, answer_ends, answers_end, ends_reset_count, after_pull, flush_of, at_cond, peer_sound, live_below, IsControl}
 use Rattle.h2_conn.specs.Faults.{cause_of}
 use Rattle.h2_conn.specs.Kinds.{Fits}
-use Rattle.h2_conn.specs.Streams.{is_live, is_remote_closed, with_local_closed}
-use Rattle.h2_conn.specs.Peer.{Outcome, goes, fails, with_control_frame, without_live_stream, peer}
-use Rattle.h2_conn.specs.Sound.{Sound, SoundAfter}
-use Rattle.h2_conn.specs.Conns.{new_state, result_of, frame_result, after_frame_fault, takes, with_head_on, with_trailers_on, with_message_on, without_waiting_on, after_reset, on_open, answer_ends, answers_end, ends_reset_count, after_pull, flush_of}
+use Rattle.h2_conn.specs.Sound.{SoundAfter}
+use Rattle.h2_conn.specs.Conns.{new_state}
 use Rattle.h2_conn.proofs.Carries.{CarriesAfter, frame_carries}
-use Rattle.h2_conn.proofs.Walk.{at_cond}
-use Rattle.h2_conn.proofs.Sounds.{peer_sound, s_closed, s_headed_on, s_finished_on, s_offered_on, s_withdrawn_on, s_reset_by}
+use Rattle.h2_conn.proofs.Sounds.{s_closed, s_headed_on, s_finished_on, s_offered_on, s_withdrawn_on, s_reset_by}
 use Rattle.h2_conn.proofs.WindowSums.{sound_pull}
-use Rattle.wl_session.proofs.PeerAnswers.{live_below}
-use Rattle.wl_heard.specs.Written.{IsControl}
 use Rattle.wl_heard.proofs.WholeFrames.{Holds, holds_none, IsShortSent}
 use Rattle.wl_heard.proofs.Rounds.{HasShortBlocks, IsSmall, pull_sent, pull_streams}
 use Rattle.wl_heard.proofs.Queues.{Queued, Queues, q_reset, q_closed, q_fails, frame_queues}

@@ -2,27 +2,10 @@
 use Rattle.std.proofs.Common.{◌≡◌, inl, inr, ℕ, zero, suc, ◌+◌, ◌==◌, nat_lt, ℤ, pos, ◌-ℤ◌, Bool, true, false, cond, List, [], ◌∷◌, ◌++◌, length, map, take, drop, Option, Some, None, refl, sym, ap, subst, ◌∙◌, arith, append-nil}
 use Rattle.std.proofs.lemmas.Bool.{cases_Bool, le-ltb}
 use Rattle.std.proofs.lemmas.List.{map-append}
-use Rattle.wl_octets.specs.declared.header.Header.{Header}
-use Rattle.hpack.specs.Decoding.{Standing, decode_block}
-use Rattle.h2_frame.specs.declared.frame.Frame.{Frame}
-use Rattle.h2_flow.specs.declared.flow.Flow.{Flow}
-use Rattle.h2_flow.specs.declared.stream.Stream.{Stream}
-use Rattle.h2_flow.specs.Windows.{allowed_of}
-use Rattle.h2_flow.specs.Streams.{Sent, headers, content, Turn, no_turn, size_update_bytes, headers_turn, data_turn, last_turn, next_turn, body_turn, head_turn, turn}
-use Rattle.h2_flow.specs.Pulls.{Round, round, rounds, all_work, all_rounds}
-use Rattle.h2_flow.specs.Outboxes.{Out, pull_of}
+use Rattle.wl_heard.proofs.Common.{Header, Standing, decode_block, Frame, Flow, Stream, allowed_of, Sent, headers, Turn, no_turn, size_update_bytes, headers_turn, data_turn, last_turn, next_turn, body_turn, head_turn, turn, Round, round, rounds, all_work, all_rounds, Out, pull_of, at_cond, End, Rest, Fault, reading_from, Heard, Message, Stage, Opening, Answering, Ended, Listener, call_stream, http_fault, grpc_code, first_heard, list_heard, status_heard, block_heard, cut_heard, data_heard, is_in_place, body_heard, frame_heard, frames_heard, frame_of, data_in}
+use Rattle.h2_flow.specs.Streams.{content}
 use Rattle.h2_flow.proofs.Numbers.{number_turn}
-use Rattle.h2_conn.proofs.Walk.{at_cond}
-use Rattle.grpc_wire.specs.Messages.{End, Rest, Fault, reading_from}
-use Rattle.wl_client.specs.declared.reply.Heard.{Heard}
-use Rattle.wl_client.specs.declared.reply.Heard.TheVariants.{Message}
-use Rattle.wl_client.specs.declared.listener.Stage.{Stage}
-use Rattle.wl_client.specs.declared.listener.Stage.TheVariants.{Opening, Answering, Ended}
-use Rattle.wl_client.specs.declared.listener.Listener.{Listener}
-use Rattle.wl_client.specs.Openings.{call_stream}
-use Rattle.wl_client.specs.Statuses.{http_fault, grpc_code}
-use Rattle.wl_client.specs.Hearing.{first_heard, list_heard, status_heard, block_heard, is_ended, cut_heard, data_heard, is_in_place, body_heard, frame_heard, frames_heard}
-use Rattle.wl_heard.specs.Written.{frame_of, data_in}
+use Rattle.wl_client.specs.Hearing.{is_ended}
 use Rattle.wl_heard.proofs.Lists.{IsHead, IsEnd, IsWhole, BlockOf, IsGood, Decoded, block_decoded}
 use Rattle.wl_heard.proofs.Marks.{Mark, Bare, Headed, Closing, Alone, HasBlock, HeadAt, IsBare, IsAlone, IsOver, At, Lands, lands_kept, Ready, lands_weaker, lands_none, lands_one, lands_both}
 

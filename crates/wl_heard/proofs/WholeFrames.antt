@@ -2,16 +2,13 @@
 use Rattle.std.proofs.Common.{◌≡◌, ℕ, ◌/◌, ◌%◌, ◌^◌, ◌<◌, ◌≤◌, Bool, true, false, List, [], ◌∷◌, ◌++◌, length, map, refl, sym, ap, ◌∙◌, arith, append_assoc, append-nil}
 use Rattle.std.specs.List.{AllByRecursion}
 use Rattle.std.specs.Int.{w64, to_be_bytes}
-use Rattle.list_laws.proofs.Elements.{all_append}
-use Rattle.h2_frame.specs.declared.frame.Body.TheVariants.{Ping}
-use Rattle.h2_frame.specs.declared.frame.Frame.{Frame}
-use Rattle.h2_frame.specs.Reading.{whole, first_frame, Rest, Reading, frames_in, frames_of}
-use Rattle.h2_frame.specs.Writing.{payload_of, frame_encoding, IsWritable}
+use Rattle.wl_heard.proofs.Common.{all_append, Ping, Frame, Reading, frame_encoding, Sent, headers, frame_of}
+use Rattle.h2_frame.specs.Reading.{whole, first_frame, Rest, frames_in, frames_of}
+use Rattle.h2_frame.specs.Writing.{payload_of, IsWritable}
 use Rattle.h2_frame.proofs.Cuts.{frames_step}
 use Rattle.h2_frame.proofs.FrameRoundTrip.{read_again}
-use Rattle.h2_flow.specs.Streams.{Sent, headers, content, sent_bytes}
+use Rattle.h2_flow.specs.Streams.{content, sent_bytes}
 use Rattle.h2_flow.specs.Pulls.{bytes_of}
-use Rattle.wl_heard.specs.Written.{frame_of}
 
 -- frames in front of what is read after them
 abbrev pub behind : List Frame → Reading → Reading

@@ -3,4 +3,4 @@ pub mod SelectorFiles
 pub mod Hits
 pub mod AscendingNumbers
 pub mod ById
-pub mod Chosen
+pub mod ChosenPlaces

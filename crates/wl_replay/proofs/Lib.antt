@@ -1,4 +1,3 @@
 mod Texts
 mod Steps
-mod Worlds
 mod Simulations

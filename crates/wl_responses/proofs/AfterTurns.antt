@@ -2,29 +2,20 @@
 use Rattle.std.proofs.Common.{◌≡◌, ℕ, zero, suc, ◌<◌, ◌==◌, if◌then◌else◌, List, [], ◌∷◌, Option, Some, None, Ok, refl, sym, ap, subst, ◌∙◌, arith, eq-eqb}
 use Rattle.std.specs.Prelude.{IsSome, Bool, true, false}
 use Rattle.std.proofs.lemmas.List.{get_or-replicate}
-use Rattle.h2_frame.specs.Reading.{End, reading_from}
-use Rattle.h2_conn.specs.declared.fault.ConnFault.{ConnFault}
+use Rattle.wl_responses.proofs.Common.{End, reading_from, ConnFault, JwtToken, Publication, JwtAsk, JwtOutcome, Talking, SessionState, Running, Fallen, feed_said, name_said, turn_said, given_said, Told, unnamed_count, outcome_told, CONNS, Event, Seat, joined_seat, named_seat, told_seat, feed_seat, turn_seat, tokens_of, Beginning, Moment, moment, seat, token_seat, Step, FrameCame, BytesBroke, CallAttested, TurnTaken, OutcomeCame, talk_after, AllFit, session_after, steps_of}
 use Rattle.h2_conn.specs.Conns.{FlushResult}
-use Rattle.wl_entry.specs.declared.tokens.JwtToken.{JwtToken}
-use Rattle.wl_snapshot.specs.Snapshots.{Publication}
-use Rattle.wl_session.specs.declared.asks.JwtAsk.{JwtAsk}
-use Rattle.wl_session.specs.declared.asks.JwtOutcome.{JwtOutcome}
 use Rattle.wl_session.specs.Tokens.{first_unnamed, first_ask}
-use Rattle.wl_session.specs.Talks.{Talking}
-use Rattle.wl_session.specs.Sessions.{SessionState, Running, Fallen, OutOfMemory, fresh_session, feed_said, name_said, turn_said, given_said, state_of_fault, asks_in}
-use Rattle.wl_session.specs.Steps.{Told, unnamed_count, names_said, fed_by, feed_told, turn_told, outcome_told}
+use Rattle.wl_session.specs.Sessions.{OutOfMemory, fresh_session, state_of_fault, asks_in}
+use Rattle.wl_session.specs.Steps.{names_said, fed_by, feed_told, turn_told}
 use Rattle.wl_session.specs.Completing.{IsCompleteIn, AllAnswered, FeedKeepsComplete, NameKeepsComplete, TokenKeepsComplete, TurnAnswersAll}
 use Rattle.wl_session.proofs.Attestations.{some_call, name_counts}
 use Rattle.wl_session.proofs.Traces.{turn_settled}
-use Rattle.wl_core.specs.declared.events.TheConstants.{CONNS}
-use Rattle.wl_core.specs.declared.events.Event.{Event}
 use Rattle.wl_core.specs.declared.events.Event.TheVariants as events
-use Rattle.wl_core.specs.declared.seats.Seat.{Seat}
-use Rattle.wl_core.specs.Seats.{joined_seat, named_seat, told_seat, feed_seat, turn_seat, with_session}
-use Rattle.wl_core.specs.Tokens.{KeptTokens, tokens_of, kept_token, outcome_of}
-use Rattle.wl_core.specs.Moments.{Beginning, Moment, moment, publication, seat, answer_ask, token_seat}
-use Rattle.wl_responses.specs.Steps.{Step, FrameCame, BytesBroke, CallAttested, TurnTaken, OutcomeCame, talk_after, FitsStep, AllFit}
-use Rattle.wl_responses.specs.Moves.{session_after, steps_of, HasTalk}
+use Rattle.wl_core.specs.Seats.{with_session}
+use Rattle.wl_core.specs.Tokens.{KeptTokens, kept_token, outcome_of}
+use Rattle.wl_core.specs.Moments.{publication, answer_ask}
+use Rattle.wl_responses.specs.Steps.{FitsStep}
+use Rattle.wl_responses.specs.Moves.{HasTalk}
 use Rattle.wl_responses.specs.Statuses.{HasTurnEnding, HasTokenEnding, GivesStatus, AllGiveStatuses}
 use Rattle.wl_responses.specs.Completeness.{OnTalk, IsWritten, IsKeptBack, BehindTurns, BehindTokens, EachIsAnswered, AllIsWritten, EachIsHeldBack, StepsOfRunsGiveStatuses, WaitsForAsks, AsksAreAwaited, StillWaits, AsksStay, TakesOutcome, OutcomesAreTaken, TurnsOfRunsGiveStatuses, TokensOfRunsGiveStatuses}
 use Rattle.wl_responses.proofs.MoveSteps.{sessions_take_steps, steps_fit}

@@ -1,23 +1,13 @@
 -- The bytes of a step are this side's SETTINGS before all else, the queued control frames, and its HEADERS and DATA.
 use Rattle.std.proofs.Common.{◌≡◌, ℕ, Bool, true, List, [], ◌∷◌, ◌++◌, Option, Some, None, refl, sym, ap, ◌∙◌, append-nil}
-use Rattle.h2_frame.specs.declared.frame.Frame.{Frame}
-use Rattle.h2_flow.specs.Outboxes.{pull_of}
+use Rattle.wl_responses.proofs.Common.{Frame, pull_of, ConnFault, Happening, Phase, Open, Failed, OutOfMemory, frame_result, flush_of, after_frame_fault, CallEvent, verdict, standing_of_head, standing_at, event_at, calls_after, with_call, calls_turn, name_first, give_first, Talking, after_event, after_body, after_happening, after_happenings, after_frame, frame_said, break_said, turn_said, name_said, given_said, FrameCame, BytesBroke, CallAttested, TurnTaken, OutcomeCame, frames_due}
 use Rattle.h2_flow.specs.Pulls.{bytes_of}
-use Rattle.h2_conn.specs.declared.fault.ConnFault.{ConnFault}
-use Rattle.h2_conn.specs.declared.happening.Happening.{Happening}
 use Rattle.h2_conn.specs.declared.happening.Happening.TheVariants as happening
-use Rattle.h2_conn.specs.declared.phase.Phase.{Phase}
-use Rattle.h2_conn.specs.declared.phase.Phase.TheVariants.{Open, Failed, OutOfMemory}
-use Rattle.h2_conn.specs.Conns.{frame_result, flush_of, frame_fault_on, after_frame_fault}
-use Rattle.grpc_conn.specs.declared.event.CallEvent.{CallEvent}
+use Rattle.h2_conn.specs.Conns.{frame_fault_on}
 use Rattle.grpc_conn.specs.declared.event.CallEvent.TheVariants as events
-use Rattle.grpc_conn.specs.Verdicts.{verdict}
-use Rattle.grpc_conn.specs.Calls.{standing_of_head, standing_at, event_at, calls_after, with_call}
-use Rattle.wl_session.specs.Answering.{calls_turn}
-use Rattle.wl_session.specs.Tokens.{name_first, give_first}
-use Rattle.wl_session.specs.Talks.{Talking, after_event, after_body, after_happening, after_happenings, after_frame, greeting, written, frame_said, break_said}
-use Rattle.wl_session.specs.Sessions.{with_turned, turn_said, name_said, given_said}
-use Rattle.wl_responses.specs.Steps.{FrameCame, BytesBroke, CallAttested, TurnTaken, OutcomeCame, frames_due, control_due, StepsWriteFrames}
+use Rattle.wl_session.specs.Talks.{greeting, written}
+use Rattle.wl_session.specs.Sessions.{with_turned}
+use Rattle.wl_responses.specs.Steps.{control_due, StepsWriteFrames}
 
 -- what may be written on a connection
 due : (p : Phase) → (flush_of p).bytes ≡ control_due p ++ bytes_of (frames_due p)

@@ -2,16 +2,10 @@
 use Rattle.std.proofs.Common.{◌≡◌, inl, inr, ℕ, ◌==◌, List, [], ◌∷◌, Option, Some, None, subst, eqb-true}
 use Rattle.std.specs.List.{AllByRecursion}
 use Rattle.std.proofs.lemmas.Bool.{cases_Bool}
-use Rattle.wl_snapshot.specs.Snapshots.{Publication}
-use Rattle.wl_session.specs.declared.served.CallKind.{CallKind}
-use Rattle.wl_session.specs.declared.served.Stage.{Stage}
-use Rattle.wl_session.specs.declared.served.Stage.TheVariants.{Unnamed, Ready, Asking}
-use Rattle.wl_session.specs.declared.served.ServedCall.{ServedCall}
+use Rattle.wl_responses.proofs.Common.{Publication, CallKind, Stage, Unnamed, Ready, Asking, ServedCall, break_said, Step, FrameCame, BytesBroke, CallAttested, TurnTaken, OutcomeCame, step_said, talk_after, stage_on}
 use Rattle.wl_session.specs.Tokens.{first_unnamed}
-use Rattle.wl_session.specs.Talks.{written, break_said}
+use Rattle.wl_session.specs.Talks.{written}
 use Rattle.wl_session.proofs.CallWalk.{IsKept, IsKeptOn, frame_each, name_each, turn_each, given_each}
-use Rattle.wl_responses.specs.Steps.{Step, FrameCame, BytesBroke, CallAttested, TurnTaken, OutcomeCame, step_said, talk_after}
-use Rattle.wl_responses.specs.Replies.{stage_on}
 use Rattle.wl_responses.specs.Responses.{IsReadyAs, WasAttested, StreamsHaveSelectors}
 use Rattle.wl_responses.proofs.ResponseTurns.{all_have}
 

@@ -3,49 +3,16 @@ use Rattle.std.proofs.Common.{◌≡◌, ◌⊎◌, inl, inr, ℕ, ◌==◌, len
 use Rattle.std.specs.Prelude.{bytes_eq}
 use Rattle.std.proofs.lemmas.Bool.{cases_Bool}
 use Rattle.list_laws.proofs.Equality.{bytes_are}
-use Rattle.hpack.specs.Writing.{block_bytes}
+use Rattle.wl_responses.proofs.Common.{block_bytes, with_offer, Phase, Open, Failed, OutOfMemory, withdraws, SoundPhase, framed, trailer_fields, refused_fields, Refusal, NoIdentity, LongResponse, UnknownService, Unsigned, Unattested, MAX_RESPONSE_LEN, JwtItem, spell_jwt, capped, spell_state, Publication, ViewModel, view_in, answer_of, asks_of, Answer, Denied, Wait, TooLong, Message, Method3, Wanted, JwtAsk, JwtOutcome, CallKind, Stream, Tokens, Check, Watch, Stage, Unnamed, Ready, Asking, ServedCall, was_seen, Turned, goes_on, has_ended, with_head, with_refusal, with_message, with_last_message, stream_answer, health_of, token_answer, call_answer, stage_turn, call_turn, calls_turn, change_first, is_unnamed, name_call, name_stage, name_on, name_first, is_asking, item_for, next_ask, give_call, give_on, give_first, Talking, talk_after, stage_on, On, OnPhase, IsUnfinished, withdrawal_stands, answer_stands, first_here, first_later}
 use Rattle.h2_flow.specs.declared.stream.Stream as flow
-use Rattle.h2_flow.specs.Outboxes.{with_offer}
-use Rattle.h2_conn.specs.declared.phase.Phase.{Phase}
-use Rattle.h2_conn.specs.declared.phase.Phase.TheVariants.{Open, Failed, OutOfMemory}
-use Rattle.h2_conn.specs.Conns.{withdraws}
 use Rattle.h2_conn.specs.Holding.{IsHeld}
-use Rattle.h2_conn.specs.Sound.{SoundPhase}
-use Rattle.grpc_wire.specs.Messages.{framed}
-use Rattle.grpc_wire.specs.Answers.{trailer_fields, refused_fields}
-use Rattle.grpc_wire.specs.declared.refusal.Refusal.{Refusal}
-use Rattle.grpc_wire.specs.declared.refusal.Refusal.TheVariants.{NoIdentity, LongResponse, UnknownService, Unsigned, Unattested}
-use Rattle.workload_proto.specs.declared.limits.TheConstants.{MAX_RESPONSE_LEN}
-use Rattle.workload_proto.specs.declared.message.JwtItem.{JwtItem}
-use Rattle.workload_proto.specs.Spelling.{spell_jwt, capped}
-use Rattle.wl_health.specs.Messages.{spell_state}
-use Rattle.wl_snapshot.specs.Snapshots.{Publication}
-use Rattle.wl_snapshot.specs.Views.{ViewModel, view_in}
-use Rattle.wl_snapshot.specs.Answers.{answer_of, asks_of}
-use Rattle.wl_snapshot.specs.declared.answers.Answer.{Answer}
-use Rattle.wl_snapshot.specs.declared.answers.Answer.TheVariants.{Denied, Wait, TooLong, Message}
-use Rattle.wl_snapshot.specs.declared.answers.Method3.{Method3}
-use Rattle.wl_snapshot.specs.declared.token_asks.Wanted.{Wanted}
 use Rattle.wl_snapshot.proofs.Equalities.{view_model_is}
-use Rattle.wl_session.specs.declared.asks.JwtAsk.{JwtAsk}
-use Rattle.wl_session.specs.declared.asks.JwtOutcome.{JwtOutcome}
 use Rattle.wl_session.specs.declared.asks.JwtOutcome.TheVariants as outcomes
-use Rattle.wl_session.specs.declared.served.CallKind.{CallKind}
-use Rattle.wl_session.specs.declared.served.CallKind.TheVariants.{Stream, Tokens, Check, Watch}
-use Rattle.wl_session.specs.declared.served.Stage.{Stage}
-use Rattle.wl_session.specs.declared.served.Stage.TheVariants.{Unnamed, Ready, Asking}
-use Rattle.wl_session.specs.declared.served.ServedCall.{ServedCall}
-use Rattle.wl_session.specs.Kinds.{was_seen}
-use Rattle.wl_session.specs.Answering.{Turned, goes_on, has_ended, with_head, with_refusal, with_message, with_last_message, stream_answer, health_of, token_answer, call_answer, stage_turn, call_turn, calls_turn}
 use Rattle.wl_session.specs.Refusing.{stream_refusal, token_refusal, refusal_on, NoIdentityExactly, UnknownServiceExactly}
-use Rattle.wl_session.specs.Tokens.{change_first, is_unnamed, name_call, name_stage, name_on, name_first, stream_of, is_asking, item_for, next_ask, give_call, give_on, give_first}
-use Rattle.wl_session.specs.Talks.{Talking}
-use Rattle.wl_responses.specs.Steps.{talk_after}
-use Rattle.wl_responses.specs.Replies.{stage_on}
-use Rattle.wl_responses.specs.Statuses.{On, OnPhase, IsUnfinished, Ending, GoesOn, IsRefused, IsAnswered, HasEnding, unrefused, refused_or, ending_on, ending_at, is_headed, ending_named, ending_after, ending_given, NoStatusBefore, TurnsGiveStatuses, DeniedWhereNothingIsSeen, UnknownWhereAsked, NamesGiveStatuses, TokensGiveStatuses}
+use Rattle.wl_session.specs.Tokens.{stream_of}
+use Rattle.wl_responses.specs.Statuses.{Ending, GoesOn, IsRefused, IsAnswered, HasEnding, unrefused, refused_or, ending_on, ending_at, is_headed, ending_named, ending_after, ending_given, NoStatusBefore, TurnsGiveStatuses, DeniedWhereNothingIsSeen, UnknownWhereAsked, NamesGiveStatuses, TokensGiveStatuses}
 use Rattle.wl_responses.proofs.OutboxStreams.{differ, withdrawn_on, message_here, withdrawn_here, trailers_here}
-use Rattle.wl_session.proofs.Streams.{withdrawal_stands, first_stands, answer_stands}
-use Rattle.wl_session.proofs.Attestations.{first_here, first_later}
+use Rattle.wl_session.proofs.Streams.{first_stands}
 use Rattle.wl_responses.proofs.Asides.{NoneOn, Aside, over, on, turn_aside, calls_aside, name_aside, give_aside}
 use Rattle.wl_responses.proofs.WaitingAnswers.{OneOn, head_here, answer_unfinished}
 use Rattle.wl_responses.proofs.OngoingCalls.{IsKept, StageGoes, CallGoes, AllGo, all_go}

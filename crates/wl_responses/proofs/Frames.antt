@@ -1,24 +1,16 @@
 -- What a frame of the peer leaves of one stream and of its call.
 use Rattle.std.proofs.Common.{◌≡◌, ◌⊎◌, inl, inr, ℕ, Bool, true, false, nat_lt, if◌then◌else◌, List, [], ◌∷◌, filter, Option, None}
-use Rattle.list_laws.proofs.Elements.{all_filter}
-use Rattle.h2_conn.specs.declared.phase.Phase.{Phase}
+use Rattle.wl_responses.proofs.Common.{all_filter, Phase, CallEvent, standing_at, Unnamed, ServedCall, with_refusal, Talking, after_event, CameOn, AnsweringTurn, Replies, no_replies, stands_itself, refusal_stands, OnPhase, IsUnfinished}
 use Rattle.h2_conn.specs.Conns.{on_open, after_reset}
-use Rattle.grpc_conn.specs.declared.event.CallEvent.{CallEvent}
 use Rattle.grpc_conn.specs.declared.event.CallEvent.TheVariants as events
 use Rattle.grpc_conn.specs.declared.standing.Call.{Call}
-use Rattle.grpc_conn.specs.Calls.{standing_at, without}
+use Rattle.grpc_conn.specs.Calls.{without}
 use Rattle.grpc_conn.proofs.Places.{removed_there}
-use Rattle.wl_session.specs.declared.served.Stage.TheVariants.{Unnamed}
-use Rattle.wl_session.specs.declared.served.ServedCall.{ServedCall}
 use Rattle.wl_session.specs.Kinds.{kind_of}
-use Rattle.wl_session.specs.Answering.{with_refusal}
-use Rattle.wl_session.specs.Talks.{Talking, with_served, after_event}
-use Rattle.wl_session.specs.Completing.{CameOn}
-use Rattle.wl_responses.specs.Replies.{AnsweringTurn, Replies, no_replies}
-use Rattle.wl_session.proofs.Streams.{Stands, stands_itself, reset_stands, refusal_stands}
+use Rattle.wl_session.specs.Talks.{with_served}
+use Rattle.wl_session.proofs.Streams.{Stands, reset_stands}
 use Rattle.wl_session.proofs.CallWalk.{served_all}
 use Rattle.wl_session.proofs.PeerAnswers.{none_without}
-use Rattle.wl_responses.specs.Statuses.{OnPhase, IsUnfinished}
 use Rattle.wl_responses.proofs.OutboxStreams.{reset_on}
 use Rattle.wl_responses.proofs.StreamFlushes.{Matches}
 use Rattle.wl_responses.proofs.Asides.{NoneOn, Leaves, refusal_apart}

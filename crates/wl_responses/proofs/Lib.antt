@@ -1,3 +1,4 @@
+mod Common
 pub mod Bytes
 mod Sizes
 pub mod OutboxStreams

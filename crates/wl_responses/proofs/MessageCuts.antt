@@ -3,13 +3,12 @@ use Rattle.std.proofs.Common.{◌≡◌, ℕ, ◌^◌, ◌<◌, ◌≤◌, List,
 use Rattle.std.specs.List.{AllByRecursion, flat_map}
 use Rattle.std.proofs.lemmas.Grind.{flat_map-append}
 use Rattle.list_laws.proofs.Elements.{all_append}
-use Rattle.grpc_wire.specs.Messages.{framed, prefix_of, first_message, partial, End, Rest, Fault, Reading, messages_of, reading_from, read_on, IsOpen}
+use Rattle.wl_responses.proofs.Common.{framed, MAX_RESPONSE_LEN, Response, Replies}
+use Rattle.grpc_wire.specs.Messages.{prefix_of, first_message, partial, End, Rest, Fault, Reading, messages_of, reading_from, read_on, IsOpen}
 use Rattle.grpc_wire.proofs.Cuts.{messages_step, messages_end}
 use Rattle.grpc_wire.proofs.MessageFrames.{read_again}
-use Rattle.workload_proto.specs.declared.limits.TheConstants.{MAX_RESPONSE_LEN}
 use Rattle.grpc_wire.proofs.Pieces.{from_start}
 use Rattle.wl_responses.proofs.Sizes.{answer_is_short}
-use Rattle.wl_responses.specs.Replies.{Response, Replies}
 use Rattle.wl_responses.specs.Responses.{IsAnswer, all_bytes, AreMessages, IsCut}
 
 -- ---- all responses

@@ -1,19 +1,15 @@
 -- The steps of a session: their talk is its talk, and their bytes are its bytes.
 use Rattle.std.proofs.Common.{◌≡◌, ℕ, zero, suc, List, [], ◌∷◌, ◌++◌, Option, Some, None, refl, sym, ap, subst, ◌∙◌, append-nil, append_assoc}
 use Rattle.std.specs.List.{AllByRecursion}
-use Rattle.h2_frame.specs.declared.frame.Frame.{Frame}
-use Rattle.h2_frame.specs.Reading.{End, Opening, Rest, Fault, Reading, reading_from}
-use Rattle.h2_conn.specs.declared.fault.ConnFault.{ConnFault}
+use Rattle.wl_responses.proofs.Common.{Frame, End, reading_from, ConnFault, Publication, JwtOutcome, Talking, frame_said, break_said, SessionState, Running, Fallen, feed_said, turn_said, name_said, given_said, Told, unnamed_count, outcome_told, Step, FrameCame, BytesBroke, CallAttested, TurnTaken, OutcomeCame, step_said, talk_after, AllFit, NoneAbove, NeverFall, Move, Fed, TurnedOn, GivenTo, session_after, steps_of, numbers_turned}
+use Rattle.h2_frame.specs.Reading.{Opening, Rest, Fault, Reading}
 use Rattle.h2_conn.specs.Kinds.{Fits}
 use Rattle.h2_conn.proofs.FrameDemands.{frames_fit}
-use Rattle.wl_snapshot.specs.Snapshots.{Publication}
-use Rattle.wl_session.specs.declared.asks.JwtOutcome.{JwtOutcome}
-use Rattle.wl_session.specs.Talks.{Talking, Said, then_, frame_said, frames_said, break_said}
-use Rattle.wl_session.specs.Sessions.{SessionState, Running, Fallen, OutOfMemory, ended_by, feed_said, turn_said, name_said, given_said}
-use Rattle.wl_session.specs.Steps.{Told, unnamed_count, names_said, fed_by, feed_told, turn_told, outcome_told}
-use Rattle.wl_responses.specs.Steps.{Step, FrameCame, BytesBroke, CallAttested, TurnTaken, OutcomeCame, step_said, talk_after, AllFit}
-use Rattle.wl_responses.specs.Responses.{NoneAbove, NeverFall, numbers_read}
-use Rattle.wl_responses.specs.Moves.{Move, Fed, TurnedOn, GivenTo, move_told, session_after, onto_frames, onto_ending, onto_names, onto_fed, onto_reading, onto_move, steps_of, bytes_of_steps, HasTalk, SessionsTakeSteps, BytesAreResponses, ResponsesAreAnswers, ResponsesDiffer, replies_in, MessagesAreCut, TurnsHaveSelectors, TurnsWereTaken, number_turned, numbers_turned, PublicationsNeverFall}
+use Rattle.wl_session.specs.Talks.{Said, then_, frames_said}
+use Rattle.wl_session.specs.Sessions.{OutOfMemory, ended_by}
+use Rattle.wl_session.specs.Steps.{names_said, fed_by, feed_told, turn_told}
+use Rattle.wl_responses.specs.Responses.{numbers_read}
+use Rattle.wl_responses.specs.Moves.{move_told, onto_frames, onto_ending, onto_names, onto_fed, onto_reading, onto_move, bytes_of_steps, HasTalk, SessionsTakeSteps, BytesAreResponses, ResponsesAreAnswers, ResponsesDiffer, replies_in, MessagesAreCut, TurnsHaveSelectors, TurnsWereTaken, number_turned, PublicationsNeverFall}
 use Rattle.wl_responses.proofs.StreamReplies.{streams_have_answers}
 use Rattle.wl_responses.proofs.PublicationOrder.{numbers_never_fall}
 use Rattle.wl_responses.proofs.ResponseTurns.{begun_taken}

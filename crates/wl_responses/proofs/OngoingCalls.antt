@@ -1,17 +1,9 @@
 -- A call that a turn answered, and that goes on, is not refused on the view of that turn.
 use Rattle.std.proofs.Common.{◌≡◌, List, [], ◌∷◌, Option, Some, None, refl, ap}
 use Rattle.std.specs.List.{AllByRecursion}
-use Rattle.wl_snapshot.specs.Snapshots.{Publication}
-use Rattle.wl_snapshot.specs.Views.{ViewModel, view_in}
-use Rattle.wl_session.specs.declared.served.CallKind.{CallKind}
-use Rattle.wl_session.specs.declared.served.CallKind.TheVariants.{Stream, Tokens, Check, Watch}
-use Rattle.wl_session.specs.declared.served.Stage.{Stage}
-use Rattle.wl_session.specs.declared.served.Stage.TheVariants.{Unnamed, Ready, Asking}
-use Rattle.wl_session.specs.declared.served.ServedCall.{ServedCall}
-use Rattle.grpc_wire.specs.declared.refusal.Refusal.{Refusal}
-use Rattle.wl_session.specs.Talks.{Talking, written, break_said}
+use Rattle.wl_responses.proofs.Common.{Publication, ViewModel, view_in, CallKind, Stream, Tokens, Check, Watch, Stage, Unnamed, Ready, Asking, ServedCall, Refusal, Talking, break_said, Step, FrameCame, BytesBroke, CallAttested, TurnTaken, OutcomeCame, step_said, talk_after}
+use Rattle.wl_session.specs.Talks.{written}
 use Rattle.wl_session.proofs.CallWalk.{CallRule, IsKept as IsCallKept, IsKeptOn, StaysOpen, frame_each, name_each, turn_each, given_each}
-use Rattle.wl_responses.specs.Steps.{Step, FrameCame, BytesBroke, CallAttested, TurnTaken, OutcomeCame, step_said, talk_after}
 use Rattle.wl_responses.specs.Statuses.{GoesOn, refused_or, ending_on}
 
 -- on the view that answered it last, if one did

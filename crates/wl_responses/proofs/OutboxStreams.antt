@@ -2,27 +2,22 @@
 use Rattle.std.proofs.Common.{◌≡◌, inl, inr, ℕ, zero, suc, ◌+◌, ◌==◌, Bool, true, false, not, cond, ◌&&◌, ◌||◌, nat_lt, List, [], ◌∷◌, length, drop, map, Option, Some, None, refl, sym, subst, ◌∙◌, arith, eq-eqb, eqb-true}
 use Rattle.std.specs.List.{list_any}
 use Rattle.std.proofs.lemmas.Bool.{cases_Bool}
-use Rattle.list_laws.proofs.Elements.{all_filter}
+use Rattle.wl_responses.proofs.Common.{all_filter, with_offer, pull_of, find_stream, Phase, Open, Failed, OutOfMemory, State, SoundPhase, On, OnPhase, IsUnfinished}
 use Rattle.h2_frame.specs.declared.frame.Body.TheVariants.{Reset}
 use Rattle.h2_flow.specs.declared.flow.Flow.{Flow}
 use Rattle.h2_flow.specs.declared.stream.Stream.{Stream}
 use Rattle.h2_flow.specs.Windows.{allowed_of}
 use Rattle.h2_flow.specs.Streams.{Turn, headers_turn, data_turn, last_turn, next_turn, body_turn, head_turn, turn}
 use Rattle.h2_flow.specs.Pulls.{Round, round, rounds, all_work, all_rounds}
-use Rattle.h2_flow.specs.Outboxes.{Out, RisesFrom, is_number, is_open, update_stream, without_stream, with_control, with_head, with_offer, with_message, without_waiting, with_trailers, pull_of}
-use Rattle.h2_flow.specs.Progress.{find_stream}
+use Rattle.h2_flow.specs.Outboxes.{Out, RisesFrom, is_number, is_open, update_stream, without_stream, with_control, with_head, with_message, without_waiting, with_trailers}
 use Rattle.h2_flow.proofs.Numbers.{number_turn}
 use Rattle.h2_flow.proofs.Orders.{rises_from}
-use Rattle.h2_conn.specs.declared.phase.Phase.{Phase}
-use Rattle.h2_conn.specs.declared.phase.Phase.TheVariants.{Open, Failed, OutOfMemory}
-use Rattle.h2_conn.specs.declared.state.State.{State}
 use Rattle.h2_conn.specs.Streams.{is_live, is_remote_closed, with_local_closed}
 use Rattle.h2_conn.specs.Peer.{with_control_frame, without_live_stream}
 use Rattle.h2_conn.specs.Conns.{takes, with_head_on, with_trailers_on, with_message_on, without_waiting_on, after_reset, on_open, answer_ends, answers_end}
-use Rattle.h2_conn.specs.Sound.{Sound, SoundPhase}
+use Rattle.h2_conn.specs.Sound.{Sound}
 use Rattle.h2_conn.proofs.Walk.{at_cond}
 use Rattle.h2_conn.proofs.Sounds.{there_is}
-use Rattle.wl_responses.specs.Statuses.{On, OnPhase, IsUnfinished}
 
 -- ---- the streams of a number
 

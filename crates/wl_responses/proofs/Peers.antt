@@ -2,39 +2,27 @@
 use Rattle.std.proofs.Common.{◌≡◌, ◌⊎◌, inl, inr, ℕ, ◌≤◌, ◌<◌, ◌^◌, ◌==◌, ℤ, Bool, true, not, List, [], ◌∷◌, Option, Some, None, refl, sym, subst, arith, eqb-true, eq-eqb}
 use Rattle.std.specs.List.{AllByRecursion}
 use Rattle.std.proofs.lemmas.Bool.{cases_Bool, ltb-true}
-use Rattle.list_laws.proofs.Elements.{all_filter}
+use Rattle.wl_responses.proofs.Common.{all_filter, Frame, ConnFault, Happening, Phase, Open, Failed, OutOfMemory, State, frame_result, after_frame_fault, SoundPhase, verdict, standing_of_head, standing_at, event_at, calls_after, with_call, ServedCall, Talking, after_event, after_body, after_happening, after_happenings, after_frame, CameOn, AnsweringTurn, Replies, stands_itself, On, OnPhase, IsUnfinished}
 use Rattle.wl_octets.specs.declared.header.Header.{Header}
 use Rattle.h2_frame.specs.declared.fault.FrameFault.{FrameFault}
-use Rattle.h2_frame.specs.declared.frame.Frame.{Frame}
 use Rattle.h2_flow.specs.declared.stream.Stream.{Stream}
 use Rattle.h2_flow.specs.Outboxes.{IsAbove, new_stream}
-use Rattle.h2_conn.specs.declared.fault.ConnFault.{ConnFault}
-use Rattle.h2_conn.specs.declared.happening.Happening.{Happening}
 use Rattle.h2_conn.specs.declared.happening.Happening.TheVariants as happening
-use Rattle.h2_conn.specs.declared.phase.Phase.{Phase}
 use Rattle.h2_conn.specs.declared.phase.Totals.{Totals}
-use Rattle.h2_conn.specs.declared.phase.Phase.TheVariants.{Open, Failed, OutOfMemory}
-use Rattle.h2_conn.specs.declared.state.State.{State}
 use Rattle.h2_conn.specs.Streams.{is_live}
 use Rattle.h2_conn.specs.Naming.{NamesTold}
 use Rattle.h2_conn.specs.Peer.{Outcome, goes, fails, peer}
-use Rattle.h2_conn.specs.Conns.{told_list, result_of, frame_result, after_frame_fault}
-use Rattle.h2_conn.specs.Sound.{Sound, SoundPhase}
+use Rattle.h2_conn.specs.Conns.{told_list, result_of}
+use Rattle.h2_conn.specs.Sound.{Sound}
 use Rattle.h2_conn.specs.Holding.{OpensNot}
 use Rattle.h2_conn.specs.Telling.{TellsStreams}
 use Rattle.h2_conn.proofs.Carries.{frame_carries}
 use Rattle.h2_conn.proofs.Sounds.{is_above, peer_sound, peer_names}
 use Rattle.h2_conn.proofs.Tellings.{frame_tells}
 use Rattle.grpc_conn.specs.declared.standing.Standing.{Standing}
-use Rattle.grpc_conn.specs.Verdicts.{verdict}
-use Rattle.grpc_conn.specs.Calls.{standing_of_head, standing_at, event_at, calls_after, with_call, without}
-use Rattle.wl_session.specs.declared.served.ServedCall.{ServedCall}
-use Rattle.wl_session.specs.Talks.{Talking, others, after_event, after_body, after_happening, after_happenings, after_frame}
-use Rattle.wl_session.specs.Completing.{CameOn}
-use Rattle.wl_responses.specs.Replies.{AnsweringTurn, Replies}
-use Rattle.wl_session.proofs.Streams.{stands_itself}
+use Rattle.grpc_conn.specs.Calls.{without}
+use Rattle.wl_session.specs.Talks.{others}
 use Rattle.wl_session.proofs.PeerAnswers.{none_without, none_with, none_after, opens_not, live_below}
-use Rattle.wl_responses.specs.Statuses.{On, OnPhase, IsUnfinished}
 use Rattle.wl_responses.proofs.StreamFlushes.{Matches}
 use Rattle.wl_responses.proofs.Asides.{NoneOn}
 use Rattle.wl_responses.proofs.WaitingAnswers.{StageFits, Serves}

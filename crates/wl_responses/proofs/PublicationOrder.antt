@@ -1,13 +1,9 @@
 -- Along a stream the publications' numbers do not fall.
 use Rattle.std.proofs.Common.{◌≡◌, ℕ, ◌≤◌, nat_lt, length, drop, Bool, true, false, if◌then◌else◌, List, [], ◌∷◌, ◌++◌, Option, Some, None, refl, arith}
-use Rattle.wl_snapshot.specs.Snapshots.{Publication}
-use Rattle.wl_session.specs.declared.asks.JwtOutcome.{JwtOutcome}
+use Rattle.wl_responses.proofs.Common.{Publication, JwtOutcome, Stage, Unnamed, Ready, Asking, Step, FrameCame, BytesBroke, CallAttested, TurnTaken, OutcomeCame, talk_after, AnsweringTurn, Response, Replies, replies_with, stage_on, answering, with_outcome, asks_first, turn_after, turn_on, replies_on, NoneAbove, NeverFall}
 use Rattle.wl_session.specs.declared.asks.JwtOutcome.TheVariants as outcomes
-use Rattle.wl_session.specs.declared.served.Stage.{Stage}
-use Rattle.wl_session.specs.declared.served.Stage.TheVariants.{Unnamed, Ready, Asking}
-use Rattle.wl_responses.specs.Steps.{Step, FrameCame, BytesBroke, CallAttested, TurnTaken, OutcomeCame, talk_after}
-use Rattle.wl_responses.specs.Replies.{AnsweringTurn, Response, Replies, begin_with, replies_with, stage_on, answering, with_outcome, asks_first, turn_after, turn_on, replies_on}
-use Rattle.wl_responses.specs.Responses.{NoneAbove, NeverFall, numbers_read, number_of_turn, numbers_of, NumbersNeverFall}
+use Rattle.wl_responses.specs.Replies.{begin_with}
+use Rattle.wl_responses.specs.Responses.{numbers_read, number_of_turn, numbers_of, NumbersNeverFall}
 
 -- the latest turn's number is none below those of the responses, and none above this one
 record Ordered (most : ℕ) (turn : Option AnsweringTurn) (begun : List Response) : Type 0 where

@@ -1,14 +1,8 @@
 -- The turn of a response was taken, from all that holds of each turn when it is taken.
 use Rattle.std.proofs.Common.{◌≡◌, inl, inr, ℕ, length, drop, nat_lt, Bool, true, false, if◌then◌else◌, List, [], ◌∷◌, ◌++◌, Option, Some, None, refl}
-use Rattle.wl_entry.specs.declared.tokens.JwtToken.{JwtToken}
-use Rattle.wl_snapshot.specs.Snapshots.{Publication}
-use Rattle.wl_session.specs.declared.asks.JwtOutcome.{JwtOutcome}
+use Rattle.wl_responses.proofs.Common.{JwtToken, Publication, JwtOutcome, CallKind, Stage, Unnamed, Ready, Asking, Step, FrameCame, BytesBroke, CallAttested, TurnTaken, OutcomeCame, talk_after, AnsweringTurn, Response, Replies, replies_with, stage_on, answering, with_outcome, asks_first, turn_after, turn_on, replies_on}
 use Rattle.wl_session.specs.declared.asks.JwtOutcome.TheVariants as outcomes
-use Rattle.wl_session.specs.declared.served.CallKind.{CallKind}
-use Rattle.wl_session.specs.declared.served.Stage.{Stage}
-use Rattle.wl_session.specs.declared.served.Stage.TheVariants.{Unnamed, Ready, Asking}
-use Rattle.wl_responses.specs.Steps.{Step, FrameCame, BytesBroke, CallAttested, TurnTaken, OutcomeCame, talk_after}
-use Rattle.wl_responses.specs.Replies.{AnsweringTurn, Response, Replies, begin_with, replies_with, stage_on, answering, with_outcome, asks_first, turn_after, turn_on, replies_on}
+use Rattle.wl_responses.specs.Replies.{begin_with}
 use Rattle.wl_responses.specs.Responses.{IsReadyAs, WasTaken, IfTurn, AllTurns, StreamsHaveTurns}
 
 -- ---- what holds of turns

@@ -3,32 +3,23 @@ use Rattle.std.proofs.Common.{◌≡◌, inl, inr, ℕ, zero, suc, ◌+◌, ◌�
 use Rattle.std.specs.List.{AllByRecursion}
 use Rattle.std.proofs.lemmas.List.{get_or-set_same, get_or-set_other}
 use Rattle.std.proofs.lemmas.Bool.{eqb-true}
-use Rattle.h2_frame.specs.declared.frame.Frame.{Frame}
-use Rattle.h2_frame.specs.Reading.{End, Opening, Rest, Fault, reading_from}
-use Rattle.h2_conn.specs.declared.fault.ConnFault.{ConnFault}
+use Rattle.wl_responses.proofs.Common.{Frame, End, reading_from, ConnFault, Publication, SessionState, Running, Fallen, feed_said, unnamed_count, CONNS, Event, Seat, joined_seat, named_seat, told_seat, feed_seat, turn_seat, tokens_of, Beginning, Moment, moment, token_seat, seat, Step, FrameCame, BytesBroke, CallAttested, TurnTaken, OutcomeCame, AnsweringTurn, Response, NoneAbove, NeverFall, Move, Fed, TurnedOn, GivenTo, session_after, steps_of, numbers_turned}
+use Rattle.h2_frame.specs.Reading.{Opening, Rest, Fault}
 use Rattle.wl_document.specs.declared.fault.DocFault.{DocFault}
 use Rattle.wl_document.specs.States.{State}
 use Rattle.wl_entry.specs.declared.signing.Signed.{Signed}
-use Rattle.wl_snapshot.specs.Snapshots.{Publication}
 use Rattle.wl_store.specs.declared.tickets.Flight.{Flight}
 use Rattle.wl_store.specs.Stores.{Store, shows, publish, next_publication, after_claim}
 use Rattle.wl_store.specs.Steps.{Stored}
-use Rattle.wl_session.specs.Sessions.{SessionState, Running, Fallen, OutOfMemory, feed_said}
-use Rattle.wl_session.specs.Steps.{unnamed_count}
+use Rattle.wl_session.specs.Sessions.{OutOfMemory}
 use Rattle.wl_session.specs.Items.{Item, talk}
 use Rattle.wl_session.proofs.Traces.{Follows, FollowsOn}
-use Rattle.wl_core.specs.declared.events.TheConstants.{CONNS}
-use Rattle.wl_core.specs.declared.events.Event.{Event}
 use Rattle.wl_core.specs.declared.events.Event.TheVariants as events
-use Rattle.wl_core.specs.declared.seats.Seat.{Seat}
-use Rattle.wl_core.specs.Seats.{seat_at, joined_seat, named_seat, told_seat, feed_seat, turn_seat}
-use Rattle.wl_core.specs.Tokens.{tokens_of}
-use Rattle.wl_core.specs.Moments.{Beginning, Moment, moment, moment_after, reading_of, after_reading, signed_with, failed_with, flight_in, token_seat, publication, seat}
+use Rattle.wl_core.specs.Seats.{seat_at}
+use Rattle.wl_core.specs.Moments.{moment_after, reading_of, after_reading, signed_with, failed_with, flight_in, publication}
 use Rattle.wl_core.proofs.SessionTraces.{room, other_conn}
-use Rattle.wl_responses.specs.Steps.{Step, FrameCame, BytesBroke, CallAttested, TurnTaken, OutcomeCame}
-use Rattle.wl_responses.specs.Replies.{AnsweringTurn, Response}
-use Rattle.wl_responses.specs.Responses.{NoneAbove, NeverFall, WasTaken, IfTurn, AllTurns}
-use Rattle.wl_responses.specs.Moves.{Move, Fed, TurnedOn, GivenTo, move_told, session_after, bytes_after, onto_frames, onto_ending, onto_names, onto_fed, onto_move, steps_of, number_turned, numbers_turned}
+use Rattle.wl_responses.specs.Responses.{WasTaken, IfTurn, AllTurns}
+use Rattle.wl_responses.specs.Moves.{move_told, bytes_after, onto_frames, onto_ending, onto_names, onto_fed, onto_move, number_turned}
 use Rattle.wl_responses.specs.Runs.{WasPublished}
 use Rattle.wl_responses.proofs.PublicationOrder.{all_above}
 

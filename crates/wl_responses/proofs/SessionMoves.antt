@@ -1,25 +1,18 @@
 -- Over all events: each session has its moves.
 use Rattle.std.proofs.Common.{◌≡◌, ℕ, ◌<◌, ◌==◌, Bool, true, false, if◌then◌else◌, List, [], ◌∷◌, ◌++◌, Option, Some, None, refl, sym, ap, subst, ◌∙◌, arith, inl, inr, append-nil}
 use Rattle.std.proofs.lemmas.List.{get_or-replicate}
-use Rattle.wl_entry.specs.declared.tokens.JwtToken.{JwtToken}
-use Rattle.wl_snapshot.specs.Snapshots.{Publication}
-use Rattle.wl_session.specs.declared.asks.JwtAsk.{JwtAsk}
-use Rattle.wl_session.specs.Sessions.{SessionState, Running, Fallen, OutOfMemory, fresh_session, asks_in}
-use Rattle.wl_session.specs.Steps.{Told, outcome_told}
+use Rattle.wl_responses.proofs.Common.{JwtToken, Publication, JwtAsk, SessionState, Running, Fallen, Told, outcome_told, CONNS, Event, Seat, joined_seat, named_seat, told_seat, feed_seat, turn_seat, tokens_of, Beginning, Moment, moment, token_seat, seat, NeverFall, Move, Fed, TurnedOn, GivenTo, steps_of, numbers_turned}
+use Rattle.wl_session.specs.Sessions.{OutOfMemory, fresh_session, asks_in}
 use Rattle.wl_session.specs.Items.{Item, items_said, talk, feed_items, turn_items}
 use Rattle.wl_session.proofs.SessionFacts.{settled_fresh}
 use Rattle.wl_session.proofs.Traces.{Follows, FollowsOn, feed_follows, turn_follows, outcome_follows}
-use Rattle.wl_core.specs.declared.events.TheConstants.{CONNS}
-use Rattle.wl_core.specs.declared.events.Event.{Event}
 use Rattle.wl_core.specs.declared.events.Event.TheVariants as events
-use Rattle.wl_core.specs.declared.seats.Seat.{Seat}
-use Rattle.wl_core.specs.Seats.{seat_at, joined_seat, named_seat, told_seat, feed_seat, turn_seat}
-use Rattle.wl_core.specs.Tokens.{KeptTokens, tokens_of, kept_token, outcome_of}
-use Rattle.wl_core.specs.Moments.{Beginning, Moment, moment, answer_ask, token_seat, publication, seat}
+use Rattle.wl_core.specs.Seats.{seat_at}
+use Rattle.wl_core.specs.Tokens.{KeptTokens, kept_token, outcome_of}
+use Rattle.wl_core.specs.Moments.{answer_ask, publication}
 use Rattle.wl_core.specs.Traces.{ask_items, gain, joined_trace, trace_after, trace}
 use Rattle.wl_core.proofs.SessionTraces.{bytes_of_trace}
-use Rattle.wl_responses.specs.Responses.{NeverFall}
-use Rattle.wl_responses.specs.Moves.{Move, Fed, TurnedOn, GivenTo, steps_of, numbers_turned, replies_in}
+use Rattle.wl_responses.specs.Moves.{replies_in}
 use Rattle.wl_responses.specs.Runs.{gain_moves, joined_moves, with_outcome_for, moves_after, moves_of, WasPublished, HasMoves, SessionsHaveMoves, BytesOfResponses, AnswersOfTurns, TurnsOfCalls, SelectorsOfCalls, TurnsOfPublications, NumbersOfResponses, ResponsesOfRunsDiffer, MessagesOfRuns}
 use Rattle.wl_responses.proofs.MoveSteps.{messages_are_cut, bytes_are_responses, responses_are_answers, responses_differ, turns_were_taken, turns_have_selectors, publications_never_fall}
 use Rattle.wl_responses.proofs.Runs.{seat_step, seat_next, number_after, now_published, AllRead, moves_read, turns_read, Led, Lived, Life, life_weaker, one_move}

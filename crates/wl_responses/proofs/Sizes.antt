@@ -3,23 +3,12 @@ use Rattle.std.proofs.Common.{◌≡◌, inl, inr, ℕ, ◌+◌, ◌≤◌, ◌<
 use Rattle.std.specs.Int.{w32, to_be_bytes}
 use Rattle.std.proofs.lemmas.Bool.{cases_Bool}
 use Rattle.grpc_wire.specs.declared.prefix.TheConstants.{PREFIX_LEN}
-use Rattle.grpc_wire.specs.Messages.{framed}
+use Rattle.wl_responses.proofs.Common.{framed, MAX_RESPONSE_LEN, capped, JwtToken, spell_state, ViewModel, view_in, answer_of, Denied, Wait, TooLong, Message, Method3, CallKind, Stream, Tokens, Check, Watch, health_of, AnsweringTurn, IsMessageOn, IsMessageOf}
 use Rattle.pb_wire.proofs.Varints.{varint-small}
-use Rattle.workload_proto.specs.declared.limits.TheConstants.{MAX_RESPONSE_LEN}
-use Rattle.workload_proto.specs.Spelling.{capped}
-use Rattle.wl_entry.specs.declared.tokens.JwtToken.{JwtToken}
 use Rattle.wl_health.specs.declared.health.TheConstants.{SERVING, NOT_SERVING, SERVICE_UNKNOWN}
 use Rattle.wl_health.specs.Health.{workload_api}
-use Rattle.wl_health.specs.Messages.{spell_state}
-use Rattle.wl_snapshot.specs.Views.{ViewModel, view_in, is_whole}
-use Rattle.wl_snapshot.specs.Answers.{message_of, waits, within_limit, answer_of}
-use Rattle.wl_snapshot.specs.declared.answers.Answer.TheVariants.{Denied, Wait, TooLong, Message}
-use Rattle.wl_snapshot.specs.declared.answers.Method3.{Method3}
-use Rattle.wl_session.specs.declared.served.CallKind.{CallKind}
-use Rattle.wl_session.specs.declared.served.CallKind.TheVariants.{Stream, Tokens, Check, Watch}
-use Rattle.wl_session.specs.Answering.{health_of}
-use Rattle.wl_responses.specs.Replies.{AnsweringTurn}
-use Rattle.wl_responses.specs.Responses.{IsMessageOn, IsMessageOf}
+use Rattle.wl_snapshot.specs.Views.{is_whole}
+use Rattle.wl_snapshot.specs.Answers.{message_of, waits, within_limit}
 
 pub framed_length : (m : List ℕ) → length (framed m) ≡ PREFIX_LEN + length m
 unfolding framed

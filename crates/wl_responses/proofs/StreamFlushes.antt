@@ -4,19 +4,14 @@ use Rattle.std.specs.Cmp.Lexicographic.{bytes_decides}
 use Rattle.std.specs.List.{AllByRecursion}
 use Rattle.std.proofs.Math.Seq.{drop-append_seam}
 use Rattle.h2_flow.specs.declared.stream.Stream.{Stream}
-use Rattle.h2_flow.specs.Outboxes.{pull_of, with_offer}
-use Rattle.h2_flow.specs.Progress.{all_data_on, find_stream, left_of}
+use Rattle.wl_responses.proofs.Common.{pull_of, with_offer, find_stream, Phase, Open, Failed, OutOfMemory, flush_of, SoundPhase, frames_due, AnsweringTurn, Replies, no_replies, replies_with, IsMessageOf, OnPhase, IsUnfinished}
+use Rattle.h2_flow.specs.Progress.{all_data_on, left_of}
 use Rattle.h2_flow.proofs.Messages.{Stays, Begins, GoesOn, goes_pull}
 use Rattle.h2_flow.proofs.Numbers.{numbers_pulled}
 use Rattle.h2_flow.proofs.Progress.{more, not_more}
-use Rattle.h2_conn.specs.declared.phase.Phase.{Phase}
-use Rattle.h2_conn.specs.declared.phase.Phase.TheVariants.{Open, Failed, OutOfMemory}
-use Rattle.h2_conn.specs.Conns.{ends_reset_count, after_pull, flush_of}
-use Rattle.h2_conn.specs.Sound.{SoundPhase}
-use Rattle.wl_responses.specs.Steps.{frames_due}
-use Rattle.wl_responses.specs.Replies.{AnsweringTurn, Replies, no_replies, replies_with, waits_in, waiting_on}
-use Rattle.wl_responses.specs.Responses.{IsMessageOf, IsAnswer, all_bytes, last_bytes, AllDiffer}
-use Rattle.wl_responses.specs.Statuses.{OnPhase, IsUnfinished}
+use Rattle.h2_conn.specs.Conns.{ends_reset_count, after_pull}
+use Rattle.wl_responses.specs.Replies.{waits_in, waiting_on}
+use Rattle.wl_responses.specs.Responses.{IsAnswer, all_bytes, last_bytes, AllDiffer}
 use Rattle.wl_responses.proofs.OutboxStreams.{IfFound, differ, found, all_found, unfinished_pull, answers_on}
 
 -- ---- what is known of a stream

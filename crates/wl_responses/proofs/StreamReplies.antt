@@ -1,26 +1,16 @@
 -- What is written on a stream is the answers of the turns, over all steps.
 use Rattle.std.proofs.Common.{◌≡◌, ◌⊎◌, inl, inr, ℕ, true, List, [], ◌∷◌, ◌++◌, Option, Some, None, refl, sym, ap, subst, ◌∙◌}
 use Rattle.h2_flow.specs.declared.stream.Stream.{Stream}
-use Rattle.h2_flow.specs.Outboxes.{pull_of}
-use Rattle.h2_flow.specs.Progress.{all_data_on, find_stream, left_of}
+use Rattle.wl_responses.proofs.Common.{pull_of, find_stream, ConnFault, Phase, Open, Failed, OutOfMemory, flush_of, frame_result, after_frame_fault, SoundPhase, standing_at, JwtOutcome, Turned, calls_turn, name_first, give_first, Talking, after_frame, frame_said, break_said, turn_said, name_said, given_said, CameOn, Step, FrameCame, BytesBroke, CallAttested, TurnTaken, OutcomeCame, step_said, talk_after, AllFit, frames_due, AnsweringTurn, Replies, no_replies, replies_with, stage_on, answering, turn_after, turn_on, replies_on, OnPhase, IsUnfinished}
+use Rattle.h2_flow.specs.Progress.{all_data_on, left_of}
 use Rattle.h2_flow.proofs.Messages.{GoesOn, goes_pull}
-use Rattle.h2_conn.specs.declared.fault.ConnFault.{ConnFault}
-use Rattle.h2_conn.specs.declared.phase.Phase.{Phase}
-use Rattle.h2_conn.specs.declared.phase.Phase.TheVariants.{Open, Failed, OutOfMemory}
-use Rattle.h2_conn.specs.Conns.{flush_of, frame_result, frame_fault_on, after_frame_fault}
-use Rattle.h2_conn.specs.Sound.{SoundPhase}
-use Rattle.grpc_conn.specs.Calls.{standing_at}
-use Rattle.wl_session.specs.declared.asks.JwtOutcome.{JwtOutcome}
-use Rattle.wl_session.specs.Answering.{Turned, calls_turn}
-use Rattle.wl_session.specs.Tokens.{name_first, give_first}
-use Rattle.wl_session.specs.Talks.{Talking, fresh_talk, after_frame, written, frame_said, break_said}
-use Rattle.wl_session.specs.Sessions.{with_turned, turn_said, name_said, given_said}
-use Rattle.wl_session.specs.Completing.{CameOn}
-use Rattle.wl_responses.specs.Steps.{Step, FrameCame, BytesBroke, CallAttested, TurnTaken, OutcomeCame, step_said, talk_after, FitsStep, AllFit, frames_due}
-use Rattle.wl_responses.specs.Replies.{AnsweringTurn, Replies, no_replies, replies_with, waiting_on, stage_on, answering, turn_after, turn_on, replies_after, replies_on}
+use Rattle.h2_conn.specs.Conns.{frame_fault_on}
+use Rattle.wl_session.specs.Talks.{fresh_talk, written}
+use Rattle.wl_session.specs.Sessions.{with_turned}
+use Rattle.wl_responses.specs.Steps.{FitsStep}
+use Rattle.wl_responses.specs.Replies.{waiting_on, replies_after}
 use Rattle.wl_responses.specs.Responses.{StreamsHaveAnswers}
 use Rattle.wl_session.proofs.Streams.{flush_stands}
-use Rattle.wl_responses.specs.Statuses.{OnPhase, IsUnfinished}
 use Rattle.wl_responses.proofs.OutboxStreams.{IfFound, found}
 use Rattle.wl_responses.proofs.StreamFlushes.{IfWaits, Matches, Written, nothing_written, quiet_is, flush_goes, flush_unfinished}
 use Rattle.wl_responses.proofs.Asides.{NoneOn, AllAside, calls_aside, names_aside, gives_aside}

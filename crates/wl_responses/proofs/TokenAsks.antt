@@ -2,28 +2,9 @@
 use Rattle.std.proofs.Common.{◌≡◌, inl, inr, ℕ, ◌==◌, length, Bool, true, false, nat_lt, if◌then◌else◌, List, [], ◌∷◌, ◌++◌, find, Option, Some, None, refl, sym, ap, subst, ◌∙◌, eq-eqb, eqb-true, ne_eqb}
 use Rattle.std.specs.List.{AllByRecursion}
 use Rattle.std.proofs.lemmas.Bool.{cases_Bool}
-use Rattle.h2_conn.specs.declared.phase.Phase.{Phase}
-use Rattle.workload_proto.specs.declared.message.JwtItem.{JwtItem}
-use Rattle.workload_proto.specs.Spelling.{spell_jwt, capped}
-use Rattle.wl_snapshot.specs.Snapshots.{Publication}
-use Rattle.wl_snapshot.specs.Views.{ViewModel, view_in}
-use Rattle.wl_snapshot.specs.Answers.{asks_of}
-use Rattle.wl_snapshot.specs.declared.token_asks.Wanted.{Wanted}
-use Rattle.wl_session.specs.declared.asks.JwtAsk.{JwtAsk}
-use Rattle.wl_session.specs.declared.asks.JwtOutcome.{JwtOutcome}
+use Rattle.wl_responses.proofs.Common.{Phase, JwtItem, spell_jwt, capped, Publication, ViewModel, view_in, asks_of, Wanted, JwtAsk, JwtOutcome, Tokens, Stage, Ready, Asking, ServedCall, was_seen, Turned, has_ended, token_answer, call_answer, call_turn, calls_turn, change_first, is_asking, item_for, next_ask, give_call, give_on, give_first, Talking, turn_said, given_said, first_here, first_later, Step, talk_after, AllFit, AnsweringTurn, stage_on}
 use Rattle.wl_session.specs.declared.asks.JwtOutcome.TheVariants as outcomes
-use Rattle.wl_session.specs.declared.served.CallKind.TheVariants.{Tokens}
-use Rattle.wl_session.specs.declared.served.Stage.{Stage}
-use Rattle.wl_session.specs.declared.served.Stage.TheVariants.{Ready, Asking}
-use Rattle.wl_session.specs.declared.served.ServedCall.{ServedCall}
-use Rattle.wl_session.specs.Kinds.{was_seen}
-use Rattle.wl_session.specs.Answering.{Turned, has_ended, token_answer, call_answer, call_turn, calls_turn}
-use Rattle.wl_session.specs.Tokens.{change_first, is_asking, item_for, next_ask, give_call, give_on, give_first}
-use Rattle.wl_session.specs.Talks.{Talking, written}
-use Rattle.wl_session.specs.Sessions.{turn_said, given_said}
-use Rattle.wl_session.proofs.Attestations.{first_here, first_later}
-use Rattle.wl_responses.specs.Steps.{Step, talk_after, AllFit}
-use Rattle.wl_responses.specs.Replies.{AnsweringTurn, stage_on}
+use Rattle.wl_session.specs.Talks.{written}
 use Rattle.wl_responses.specs.Completeness.{waits_for, waits_after}
 use Rattle.wl_responses.proofs.OutboxStreams.{differ}
 use Rattle.wl_responses.proofs.Asides.{NoneOn, Aside, over, on, turn_aside, calls_aside}

@@ -2,30 +2,13 @@
 use Rattle.std.proofs.Common.{◌≡◌, ◌⊎◌, inl, inr, ℕ, ◌≤◌, ◌==◌, length, Bool, true, false, nat_lt, if◌then◌else◌, List, [], ◌∷◌, ◌++◌, Option, Some, refl, sym, ap, subst, ◌∙◌, arith, eq-eqb, eqb-true, ne_eqb, append_assoc, length-append}
 use Rattle.std.proofs.lemmas.Bool.{cases_Bool}
 use Rattle.h2_flow.specs.declared.stream.Stream as flow
-use Rattle.h2_conn.specs.declared.phase.Phase.{Phase}
-use Rattle.grpc_wire.specs.Messages.{framed}
-use Rattle.grpc_wire.specs.declared.refusal.Refusal.TheVariants.{LongResponse, Unsigned}
-use Rattle.workload_proto.specs.declared.message.JwtItem.{JwtItem}
-use Rattle.workload_proto.specs.declared.limits.TheConstants.{MAX_RESPONSE_LEN}
-use Rattle.workload_proto.specs.Spelling.{spell_jwt, capped}
-use Rattle.wl_entry.specs.declared.tokens.JwtToken.{JwtToken}
-use Rattle.wl_snapshot.specs.Snapshots.{Publication}
-use Rattle.wl_snapshot.specs.Views.{view_in}
-use Rattle.wl_snapshot.specs.Answers.{asks_of}
-use Rattle.wl_snapshot.specs.declared.token_asks.Wanted.{Wanted}
-use Rattle.wl_session.specs.declared.asks.JwtAsk.{JwtAsk}
-use Rattle.wl_session.specs.declared.asks.JwtOutcome.{JwtOutcome}
+use Rattle.wl_responses.proofs.Common.{Phase, framed, LongResponse, Unsigned, JwtItem, MAX_RESPONSE_LEN, spell_jwt, capped, JwtToken, Publication, view_in, asks_of, Wanted, JwtAsk, JwtOutcome, Tokens, Stage, Unnamed, Ready, Asking, ServedCall, Turned, goes_on, has_ended, with_refusal, with_last_message, call_turn, calls_turn, change_first, is_unnamed, name_on, is_asking, item_for, next_ask, give_call, give_on, first_here, first_later, AnsweringTurn, Replies, stage_on, answering, with_outcome, asks_first, IsMessageOn, IsMessageOf, OnPhase, IsUnfinished}
 use Rattle.wl_session.specs.declared.asks.JwtOutcome.TheVariants as outcomes
-use Rattle.wl_session.specs.declared.served.CallKind.TheVariants.{Tokens}
-use Rattle.wl_session.specs.declared.served.Stage.{Stage}
-use Rattle.wl_session.specs.declared.served.Stage.TheVariants.{Unnamed, Ready, Asking}
-use Rattle.wl_session.specs.declared.served.ServedCall.{ServedCall}
-use Rattle.wl_session.specs.Answering.{Turned, goes_on, has_ended, with_refusal, with_last_message, call_turn, turn_before, calls_turn}
-use Rattle.wl_session.specs.Tokens.{change_first, is_unnamed, name_on, is_asking, item_for, token_message, next_ask, give_call, give_on}
-use Rattle.wl_session.proofs.Attestations.{first_here, first_later, first_of_none}
-use Rattle.wl_responses.specs.Replies.{AnsweringTurn, Replies, stage_on, answering, one_token_more, with_outcome, asks_first}
-use Rattle.wl_responses.specs.Responses.{token_items, IsMessageOn, IsMessageOf}
-use Rattle.wl_responses.specs.Statuses.{OnPhase, IsUnfinished}
+use Rattle.wl_session.specs.Answering.{turn_before}
+use Rattle.wl_session.specs.Tokens.{token_message}
+use Rattle.wl_session.proofs.Attestations.{first_of_none}
+use Rattle.wl_responses.specs.Replies.{one_token_more}
+use Rattle.wl_responses.specs.Responses.{token_items}
 use Rattle.wl_responses.proofs.OutboxStreams.{differ}
 use Rattle.wl_responses.proofs.Sizes.{not_above}
 use Rattle.wl_responses.proofs.StreamFlushes.{Matches}

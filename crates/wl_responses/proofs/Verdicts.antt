@@ -1,24 +1,12 @@
 -- A call that its verdict refuses is given the last block of that refusal.
 use Rattle.std.proofs.Common.{◌≡◌, ℕ, ◌<◌, ◌^◌, Bool, true, false, List, [], ◌∷◌, Option, Some, None, refl, sym, ap, subst}
-use Rattle.h2_frame.specs.declared.frame.Frame.{Frame}
-use Rattle.h2_conn.specs.declared.happening.Happening.{Happening}
+use Rattle.wl_responses.proofs.Common.{Frame, Happening, Phase, Open, Failed, OutOfMemory, State, frame_result, Refusal, CallEvent, verdict, standing_of_head, standing_at, event_at, calls_after, with_call, with_refusal, Talking, after_event, after_body, after_happening, after_happenings, after_frame, talk_after, AnsweringTurn, Replies, OnPhase}
 use Rattle.h2_conn.specs.declared.happening.Happening.TheVariants as happening
-use Rattle.h2_conn.specs.declared.phase.Phase.{Phase}
-use Rattle.h2_conn.specs.declared.phase.Phase.TheVariants.{Open, Failed, OutOfMemory}
-use Rattle.h2_conn.specs.declared.state.State.{State}
 use Rattle.h2_conn.specs.Peer.{Outcome, goes, fails, peer}
-use Rattle.h2_conn.specs.Conns.{told_list, result_of, frame_result}
-use Rattle.grpc_wire.specs.declared.refusal.Refusal.{Refusal}
-use Rattle.grpc_conn.specs.declared.event.CallEvent.{CallEvent}
+use Rattle.h2_conn.specs.Conns.{told_list, result_of}
 use Rattle.grpc_conn.specs.declared.event.CallEvent.TheVariants.{Refuse}
 use Rattle.grpc_conn.specs.declared.standing.Standing.{Standing}
-use Rattle.grpc_conn.specs.Verdicts.{verdict}
-use Rattle.grpc_conn.specs.Calls.{standing_of_head, standing_at, event_at, calls_after, with_call}
-use Rattle.wl_session.specs.Answering.{with_refusal}
-use Rattle.wl_session.specs.Talks.{Talking, after_event, after_body, after_happening, after_happenings, after_frame}
-use Rattle.wl_responses.specs.Steps.{talk_after}
-use Rattle.wl_responses.specs.Replies.{AnsweringTurn, Replies}
-use Rattle.wl_responses.specs.Statuses.{OnPhase, IsRefused, HasEnding, stream_told, event_told, VerdictsGiveStatuses}
+use Rattle.wl_responses.specs.Statuses.{IsRefused, HasEnding, stream_told, event_told, VerdictsGiveStatuses}
 use Rattle.wl_responses.proofs.Frames.{Undecided, Speaks}
 use Rattle.wl_responses.proofs.Peers.{IfOpens, IfTold, some_verdict, read_speaks}
 use Rattle.wl_responses.proofs.Endings.{refusal_ends}

@@ -1,39 +1,12 @@
 -- What a turn, a name and a token do for the call on a stream: what waits there is the answer on the turn's publication.
 use Rattle.std.proofs.Common.{◌≡◌, ◌⊎◌, ℕ, ◌==◌, length, Bool, true, false, not, if◌then◌else◌, List, [], ◌∷◌, ◌++◌, Option, Some, None, refl, sym, ap, subst, ◌∙◌, arith}
 use Rattle.std.specs.List.{AllByRecursion}
-use Rattle.hpack.specs.Writing.{block_bytes}
+use Rattle.wl_responses.proofs.Common.{block_bytes, Phase, withdraws, SoundPhase, framed, trailer_fields, refused_fields, Refusal, NoIdentity, LongResponse, UnknownService, Unattested, JwtItem, JwtToken, spell_state, Publication, ViewModel, view_in, answer_of, asks_of, Answer, Denied, Wait, TooLong, Message, Method3, Wanted, JwtAsk, CallKind, Stream, Tokens, Check, Watch, Stage, Unnamed, Ready, Asking, ServedCall, was_seen, Turned, goes_on, has_ended, with_head, with_refusal, with_message, with_last_message, stream_answer, health_of, token_answer, call_answer, stage_turn, call_turn, name_call, name_stage, AnsweringTurn, Replies, answering, IsMessageOn, IsMessageOf, withdrawal_stands, refusal_stands, answer_stands, OnPhase, IsUnfinished}
 use Rattle.h2_flow.specs.declared.stream.Stream as flow
-use Rattle.h2_conn.specs.declared.phase.Phase.{Phase}
-use Rattle.h2_conn.specs.Conns.{withdraws}
-use Rattle.h2_conn.specs.Sound.{SoundPhase}
-use Rattle.grpc_wire.specs.Messages.{framed}
-use Rattle.grpc_wire.specs.Answers.{response_fields, trailer_fields, refused_fields}
-use Rattle.grpc_wire.specs.declared.refusal.Refusal.{Refusal}
-use Rattle.grpc_wire.specs.declared.refusal.Refusal.TheVariants.{NoIdentity, LongResponse, UnknownService, Unattested}
-use Rattle.workload_proto.specs.declared.message.JwtItem.{JwtItem}
-use Rattle.wl_entry.specs.declared.tokens.JwtToken.{JwtToken}
-use Rattle.wl_health.specs.Messages.{spell_state}
-use Rattle.wl_snapshot.specs.Snapshots.{Publication}
-use Rattle.wl_snapshot.specs.Views.{ViewModel, view_in}
-use Rattle.wl_snapshot.specs.Answers.{answer_of, asks_of}
-use Rattle.wl_snapshot.specs.declared.answers.Answer.{Answer}
-use Rattle.wl_snapshot.specs.declared.answers.Answer.TheVariants.{Denied, Wait, TooLong, Message}
-use Rattle.wl_snapshot.specs.declared.answers.Method3.{Method3}
-use Rattle.wl_snapshot.specs.declared.token_asks.Wanted.{Wanted}
+use Rattle.grpc_wire.specs.Answers.{response_fields}
 use Rattle.wl_snapshot.proofs.Equalities.{view_model_is}
-use Rattle.wl_session.specs.declared.asks.JwtAsk.{JwtAsk}
-use Rattle.wl_session.specs.declared.served.CallKind.{CallKind}
-use Rattle.wl_session.specs.declared.served.CallKind.TheVariants.{Stream, Tokens, Check, Watch}
-use Rattle.wl_session.specs.declared.served.Stage.{Stage}
-use Rattle.wl_session.specs.declared.served.Stage.TheVariants.{Unnamed, Ready, Asking}
-use Rattle.wl_session.specs.declared.served.ServedCall.{ServedCall}
-use Rattle.wl_session.specs.Kinds.{was_seen}
-use Rattle.wl_session.specs.Answering.{Turned, goes_on, has_ended, with_head, with_refusal, with_message, with_last_message, stream_answer, health_of, token_answer, call_answer, stage_turn, call_turn}
-use Rattle.wl_session.specs.Tokens.{name_call, name_stage}
-use Rattle.wl_responses.specs.Replies.{AnsweringTurn, Replies, answering}
-use Rattle.wl_responses.specs.Responses.{token_item, token_items, IsMessageOn, IsMessageOf}
-use Rattle.wl_session.proofs.Streams.{withdrawal_stands, refusal_stands, answer_stands, last_answer_stands, first_stands}
-use Rattle.wl_responses.specs.Statuses.{OnPhase, IsUnfinished}
+use Rattle.wl_responses.specs.Responses.{token_item, token_items}
+use Rattle.wl_session.proofs.Streams.{last_answer_stands, first_stands}
 use Rattle.wl_responses.proofs.OutboxStreams.{phase_weaker, head_on, trailers_on, message_on, withdrawn_on, message_here, withdrawn_here}
 use Rattle.wl_responses.proofs.StreamFlushes.{IfWaits, Matches, offered, silenced}
 use Rattle.wl_responses.proofs.Asides.{NoneOn}

@@ -9,12 +9,9 @@ use Rattle.h2_flow.specs.declared.stream.Stream.{Stream}
 use Rattle.h2_flow.specs.Windows.{room_of, window_of, allowed_of}
 use Rattle.h2_flow.specs.Streams.{Turn, headers_turn, data_turn, next_turn, body_turn, head_turn, turn}
 use Rattle.h2_flow.specs.Pulls.{Round, round, all_rounds, bytes_of}
-use Rattle.h2_flow.specs.Outboxes.{pull_of}
+use Rattle.wl_responses.proofs.Common.{pull_of, Phase, Open, Failed, OutOfMemory, flush_of}
 use Rattle.h2_flow.proofs.Turns.{turn_works}
 use Rattle.h2_flow.proofs.Rounds.{round_works, rounds_step, some_sent, after_some, none_sent}
-use Rattle.h2_conn.specs.declared.phase.Phase.{Phase}
-use Rattle.h2_conn.specs.declared.phase.Phase.TheVariants.{Open, Failed, OutOfMemory}
-use Rattle.h2_conn.specs.Conns.{flush_of}
 use Rattle.wl_responses.specs.Completeness.{IsHeldBack, HoldsBack}
 
 -- ---- windows

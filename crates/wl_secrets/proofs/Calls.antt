@@ -4,22 +4,19 @@ use Rattle.std.specs.List.{AllByRecursion}
 use Rattle.list_laws.proofs.Elements.{all_filter, all_map}
 use Rattle.h2_frame.specs.Reading.{End, reading_from}
 use Rattle.h2_conn.specs.declared.fault.ConnFault.{ConnFault}
-use Rattle.wl_entry.specs.Entitled.{is_entitled}
-use Rattle.wl_entry.specs.declared.entries.Entry.{Entry}
+use Rattle.wl_secrets.proofs.Common.{is_entitled, Entry, Publication, view_in, JwtAsk, SessionState, asks_in, outcome_told}
 use Rattle.wl_snapshot.specs.declared.token_asks.Wanted.{Wanted}
 use Rattle.wl_snapshot.specs.declared.views.Held.{Held}
 use Rattle.wl_snapshot.specs.Answers.{asks_of, is_meant, wanted_of}
-use Rattle.wl_snapshot.specs.Snapshots.{Publication}
-use Rattle.wl_snapshot.specs.Views.{held_of, view_model_of, view_in}
-use Rattle.wl_session.specs.declared.asks.JwtAsk.{JwtAsk}
+use Rattle.wl_snapshot.specs.Views.{held_of, view_model_of}
 use Rattle.wl_session.specs.declared.asks.JwtOutcome.{JwtOutcome}
 use Rattle.wl_session.specs.declared.served.Stage.{Stage}
 use Rattle.wl_session.specs.declared.served.Stage.TheVariants.{Unnamed, Ready, Asking}
 use Rattle.wl_session.specs.declared.served.ServedCall.{ServedCall}
 use Rattle.wl_session.specs.Tokens.{first_ask}
 use Rattle.wl_session.specs.Talks.{Said}
-use Rattle.wl_session.specs.Sessions.{SessionState, Running, Fallen, OutOfMemory, feed_said, asks_in}
-use Rattle.wl_session.specs.Steps.{unnamed_count, fed_by, feed_told, turn_told, outcome_told}
+use Rattle.wl_session.specs.Sessions.{Running, Fallen, OutOfMemory, feed_said}
+use Rattle.wl_session.specs.Steps.{unnamed_count, fed_by, feed_told, turn_told}
 use Rattle.wl_session.proofs.CallWalk.{CallRule, IsKept, IsKeptOn, fed_each, names_each, turn_each, given_each}
 use Rattle.wl_secrets.proofs.Lists.{all_pass}
 

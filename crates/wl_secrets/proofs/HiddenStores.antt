@@ -4,14 +4,13 @@ use Rattle.std.specs.Prelude.{unwrap_or}
 use Rattle.std.proofs.lemmas.List.{map-append}
 use Rattle.wl_entry.specs.Same.{same_ask}
 use Rattle.wl_entry.specs.declared.asks.Ask.{Ask}
-use Rattle.wl_entry.specs.declared.entries.Entry.{Entry}
+use Rattle.wl_secrets.proofs.Common.{Entry, Signed, Store}
 use Rattle.wl_entry.specs.declared.bundles.Bundle.{Bundle}
-use Rattle.wl_entry.specs.declared.signing.Signed.{Signed}
 use Rattle.wl_entry.specs.declared.signing.Svid.{Svid}
 use Rattle.svid_cache.specs.Caches.{is_listed, kept_for, is_to_be_replaced, is_due, due_asks, lasts, without_ended, with_svid, is_below, is_above, unless_older}
 use Rattle.svid_cache.specs.declared.install.Installed.{Installed}
 use Rattle.svid_cache.specs.declared.install.Installed.TheVariants as installed
-use Rattle.wl_store.specs.Stores.{Store, asks_of, cached_of, with_entries, is_in_flight, asks_to_claim, flights_from, after_claim, without_flight, without_ticket, refusal, install, svids_after, after_signed}
+use Rattle.wl_store.specs.Stores.{asks_of, cached_of, with_entries, is_in_flight, asks_to_claim, flights_from, after_claim, without_flight, without_ticket, refusal, install, svids_after, after_signed}
 use Rattle.wl_secrets.proofs.Lists.{filter_through, find_through}
 
 -- an identity without its chain and key, unless they are to be seen

@@ -1,36 +1,28 @@
 -- Two runs: the kept tokens of the set and the sessions that are entitled to its entries alone stay the same.
 use Rattle.std.proofs.Common.{◌≡◌, ℕ, ◌==◌, ◌<◌, ◌≤◌, ◌⊎◌, inl, inr, Bool, true, false, nat_lt, not, cond, if◌then◌else◌, List, [], ◌∷◌, filter, Option, Some, None, Result, Ok, Err, refl, sym, ap, subst, ◌∙◌, arith}
 use Rattle.std.proofs.lemmas.Bool.Decides.{nat_tests}
-use Rattle.wl_entry.specs.declared.signing.Signed.{Signed}
-use Rattle.wl_entry.specs.declared.tokens.JwtToken.{JwtToken}
+use Rattle.wl_secrets.proofs.Common.{Signed, JwtToken, Store, Stored, JwtAsk, Item, feed_items, asks_in, CONNS, Event, Seat, joined_seat, named_seat, told_seat, feed_seat, turn_seat, tokens_of, Beginning, Moment, moment, token_seat, ask_of_seat, seat, seat_step, Attested, joined_as, named_as, attested_after, attested, Side}
 use Rattle.wl_document.specs.declared.fault.DocFault.{DocFault}
 use Rattle.wl_document.specs.States.{State}
 use Rattle.jwt_cache.specs.declared.rings.CachedToken.{CachedToken}
-use Rattle.wl_store.specs.Stores.{Store}
-use Rattle.wl_store.specs.Steps.{Stored, after_sync}
-use Rattle.wl_session.specs.declared.asks.JwtAsk.{JwtAsk}
-use Rattle.wl_session.specs.Items.{Item, feed_items, turn_items}
-use Rattle.wl_session.specs.Sessions.{asks_in}
-use Rattle.wl_core.specs.declared.events.TheConstants.{CONNS}
-use Rattle.wl_core.specs.declared.events.Event.{Event}
+use Rattle.wl_store.specs.Steps.{after_sync}
+use Rattle.wl_session.specs.Items.{turn_items}
 use Rattle.wl_core.specs.declared.events.Event.TheVariants as events
-use Rattle.wl_core.specs.declared.seats.Seat.{Seat}
-use Rattle.wl_core.specs.Seats.{seat_at, joined_seat, named_seat, told_seat, feed_seat, turn_seat}
-use Rattle.wl_core.specs.Tokens.{tokens_of}
-use Rattle.wl_core.specs.Moments.{Beginning, Moment, moment, moment_after, reading_of, history_read, history_after_document, token_seat, ask_of_seat, history_answered, store, seat}
+use Rattle.wl_core.specs.Seats.{seat_at}
+use Rattle.wl_core.specs.Moments.{moment_after, reading_of, history_read, history_after_document, history_answered, store}
 use Rattle.wl_core.specs.Traces.{ask_items, gain, joined_trace, trace_after, trace}
 use Rattle.wl_core.proofs.SessionTraces.{equal_bytes}
-use Rattle.wl_responses.proofs.Runs.{seat_step, seat_next}
+use Rattle.wl_responses.proofs.Runs.{seat_next}
 use Rattle.wl_secrets.specs.Runs.{Step, with_pair, first_run, second_run, is_at}
-use Rattle.wl_secrets.specs.Sides.{Attested, joined_as, named_as, attested_after, attested, Side, ClosedNow, Closed}
+use Rattle.wl_secrets.specs.Sides.{ClosedNow, Closed}
 use Rattle.wl_secrets.specs.Foreign.{FitsStep, Fits, ForeignUnseen, ForeignUntold, OthersUnseen}
 use Rattle.wl_secrets.proofs.HiddenStores.{entries_alike}
 use Rattle.wl_secrets.proofs.ViewModels.{AreAlike, view_same}
-use Rattle.wl_secrets.proofs.Unshown.{ShowsAlike}
+use Rattle.wl_secrets.proofs.ViewDependence.{ShowsAlike}
 use Rattle.wl_secrets.proofs.Keeps.{KeepAlike, is_ours, kept_same, lost_alike, AskIs, answered_alike, answered_foreign}
 use Rattle.wl_secrets.proofs.Seats.{vacant, bare, ask_alike, Near, step_alike, trace_alike, turn_near, turn_items_near, FoundAlike, token_near, token_items_near}
-use Rattle.wl_secrets.proofs.Known.{Known, CoveredBy, bounds, on_side, side_before, covers_now, sided, ask_sided}
-use Rattle.wl_secrets.proofs.Alike.{reading_same, alike, skip, attested_past, side_same}
+use Rattle.wl_secrets.proofs.SelectorSides.{Known, CoveredBy, bounds, on_side, side_before, covers_now, sided, ask_sided}
+use Rattle.wl_secrets.proofs.TwoRuns.{reading_same, alike, skip, attested_past, side_same}
 
 -- ---- sessions that are near
 

@@ -5,17 +5,14 @@ use Rattle.std.proofs.lemmas.List.Elements.{filter-append}
 use Rattle.list_laws.proofs.Equality.{bytes_are}
 use Rattle.wl_selector.specs.Selectors.{has_text, sorted_texts}
 use Rattle.wl_entry.specs.declared.asks.Ask.{Ask}
-use Rattle.wl_entry.specs.declared.entries.Entry.{Entry}
-use Rattle.wl_entry.specs.declared.tokens.JwtToken.{JwtToken}
+use Rattle.wl_secrets.proofs.Common.{Entry, JwtToken, Stored, JwtAsk, tokens_of, kept_token}
 use Rattle.jwt_cache.specs.declared.rings.CachedToken.{CachedToken}
 use Rattle.jwt_cache.specs.History.{last_of, is_of, ring_of, find_among, find_in, cached_token_of}
 use Rattle.wl_store.specs.Stores.{asks_of}
-use Rattle.wl_store.specs.Steps.{Stored}
 use Rattle.wl_manager.specs.declared.keeping.Keeping.{Keeping}
 use Rattle.wl_manager.specs.declared.keeping.Keeping.TheVariants as keeping
 use Rattle.wl_manager.specs.Tokens.{changed_ids, without_all, history_after, keep_verdict}
-use Rattle.wl_session.specs.declared.asks.JwtAsk.{JwtAsk}
-use Rattle.wl_core.specs.Tokens.{tokens_of, kept_token, history_by, history_after_token}
+use Rattle.wl_core.specs.Tokens.{history_by, history_after_token}
 use Rattle.wl_core.specs.Moments.{history_answered}
 use Rattle.wl_secrets.proofs.Lists.{filter_behind, filter_turned}
 

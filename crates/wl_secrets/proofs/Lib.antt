@@ -1,10 +1,11 @@
+mod Common
 pub mod Lists
 pub mod HiddenStores
 pub mod ViewModels
 pub mod Calls
-pub mod Unshown
+pub mod ViewDependence
 pub mod Keeps
 pub mod Seats
-pub mod Known
-pub mod Alike
+pub mod SelectorSides
+pub mod TwoRuns
 pub mod HiddenTokens

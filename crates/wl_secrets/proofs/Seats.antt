@@ -1,24 +1,17 @@
 -- Sessions that are the same except for what they were shown.
 use Rattle.std.proofs.Common.{◌≡◌, ℕ, ◌==◌, ◌≤◌, Bool, true, false, if◌then◌else◌, List, [], ◌∷◌, ◌++◌, Option, Some, None, refl, sym, ap, subst, ◌∙◌}
 use Rattle.std.proofs.lemmas.List.{get_or_past}
-use Rattle.wl_entry.specs.declared.tokens.JwtToken.{JwtToken}
-use Rattle.wl_snapshot.specs.Snapshots.{Publication}
-use Rattle.wl_session.specs.declared.asks.JwtAsk.{JwtAsk}
-use Rattle.wl_session.specs.Sessions.{SessionState, asks_in}
-use Rattle.wl_session.specs.Steps.{Told, outcome_told}
-use Rattle.wl_session.specs.Items.{Item, OutcomeItem, feed_items, turn_items}
-use Rattle.wl_core.specs.declared.events.TheConstants.{CONNS}
-use Rattle.wl_core.specs.declared.events.Event.{Event}
+use Rattle.wl_secrets.proofs.Common.{JwtToken, Publication, JwtAsk, SessionState, asks_in, outcome_told, Item, feed_items, CONNS, Event, Seat, joined_seat, named_seat, told_seat, feed_seat, turn_seat, tokens_of, kept_token, Beginning, Moment, moment, token_seat, ask_of_seat, seat, seat_step}
+use Rattle.wl_session.specs.Steps.{Told}
+use Rattle.wl_session.specs.Items.{OutcomeItem, turn_items}
 use Rattle.wl_core.specs.declared.events.Event.TheVariants as events
-use Rattle.wl_core.specs.declared.seats.Seat.{Seat}
-use Rattle.wl_core.specs.Seats.{seat_at, with_session, joined_seat, named_seat, told_seat, feed_seat, turn_seat}
-use Rattle.wl_core.specs.Tokens.{KeptTokens, tokens_of, kept_token, outcome_of}
-use Rattle.wl_core.specs.Moments.{Beginning, Moment, moment, answer_ask, token_seat, ask_of_seat, seat}
+use Rattle.wl_core.specs.Seats.{seat_at, with_session}
+use Rattle.wl_core.specs.Tokens.{KeptTokens, outcome_of}
+use Rattle.wl_core.specs.Moments.{answer_ask}
 use Rattle.wl_core.specs.Traces.{ask_items, gain, joined_trace, trace_after}
 use Rattle.wl_core.proofs.SessionTraces.{room}
-use Rattle.wl_responses.proofs.Runs.{seat_step}
 use Rattle.wl_secrets.proofs.Calls.{Bounds, SessionOn}
-use Rattle.wl_secrets.proofs.Unshown.{unshown, feed_unshown, fed_items_unshown, turn_unshown, turn_items_unshown, outcome_unshown, asks_unshown, unshown_twice, ShowsAlike, turn_same, turn_items_same}
+use Rattle.wl_secrets.proofs.ViewDependence.{unshown, feed_unshown, fed_items_unshown, turn_unshown, turn_items_unshown, outcome_unshown, asks_unshown, unshown_twice, ShowsAlike, turn_same, turn_items_same}
 
 -- beyond the last connection there is no session
 pub vacant : (d : Beginning) (past : List Event) (conn : ℕ) → CONNS ≤ conn → seat d past conn ≡ None

@@ -7,16 +7,14 @@ use Rattle.std.specs.Cmp.Lexicographic.{pointwise}
 use Rattle.std.proofs.lemmas.Bool.{and_parts}
 use Rattle.list_laws.proofs.Equality.{bytes_are}
 use Rattle.list_laws.specs.Keys.{item_at}
-use Rattle.wl_entry.specs.Entitled.{is_entitled}
+use Rattle.wl_secrets.proofs.Common.{is_entitled, Entry, Publication, view_in, Store, Stored}
 use Rattle.wl_entry.specs.Keys.{svid_key}
 use Rattle.wl_entry.specs.Same.{same_entry, same_svid, same_bundle}
-use Rattle.wl_entry.specs.declared.entries.Entry.{Entry}
 use Rattle.wl_entry.specs.declared.signing.Svid.{Svid}
 use Rattle.wl_entry.proofs.Sames.{entries_are, svids_are, bundles_are}
-use Rattle.wl_snapshot.specs.Snapshots.{Publication}
-use Rattle.wl_snapshot.specs.Views.{held_of, is_seen, view_model_of, view_in}
-use Rattle.wl_store.specs.Stores.{Store, shows, publish, without_ticket}
-use Rattle.wl_store.specs.Steps.{Stored, stored_after, after_failed}
+use Rattle.wl_snapshot.specs.Views.{held_of, is_seen, view_model_of}
+use Rattle.wl_store.specs.Stores.{shows, publish, without_ticket}
+use Rattle.wl_store.specs.Steps.{stored_after, after_failed}
 use Rattle.wl_secrets.proofs.Lists.{all_pass}
 use Rattle.wl_secrets.proofs.HiddenStores.{blind, shade, blind_ours}
 

@@ -1,5 +1,5 @@
 mod Lists
-mod Ran
-pub mod Made
+mod Courses
+pub mod SeatLists
 mod PassOrder
 mod Ends

@@ -1,17 +1,12 @@
 -- A served connection is complete after each round.
 use Rattle.std.proofs.Common.{◌≡◌, ℕ, List, [], ◌∷◌, Option, Some, None, Ok, refl, sym, ap, subst}
 use Rattle.std.specs.Prelude.{IsSome}
-use Rattle.h2_frame.specs.Reading.{End, reading_from}
-use Rattle.h2_conn.specs.declared.fault.ConnFault.{ConnFault}
-use Rattle.wl_snapshot.specs.Snapshots.{Publication}
-use Rattle.wl_session.specs.declared.asks.JwtAsk.{JwtAsk}
-use Rattle.wl_session.specs.declared.asks.JwtOutcome.{JwtOutcome}
+use Rattle.wl_served.proofs.Common.{End, reading_from, ConnFault, Publication, JwtAsk, JwtOutcome, Talking, SessionState, Running, Fallen, OutOfMemory, feed_said, state_of_fault, unnamed_in, asks_in, Round, heard_told, name_told_at, answer_told, answers_told, shown_told, given_told_at, given_told, outcomes_told, round_told, named_session, session_after}
 use Rattle.wl_session.specs.Tokens.{first_unnamed}
-use Rattle.wl_session.specs.Talks.{Talking}
-use Rattle.wl_session.specs.Sessions.{SessionState, Running, Fallen, OutOfMemory, feed_said, name_said, state_of_fault, unnamed_in, asks_in}
+use Rattle.wl_session.specs.Sessions.{name_said}
 use Rattle.wl_session.specs.Completing.{IsCompleteIn}
 use Rattle.wl_responses.proofs.AfterTurns.{KeepComplete, turn_complete, outcome_complete}
-use Rattle.wl_worker.specs.Rounds.{Round, heard_told, name_told_at, answer_told, answers_told, shown_told, given_told_at, given_told, outcomes_told, round_told, heard_session, named_session, turned_session, session_after}
+use Rattle.wl_worker.specs.Rounds.{heard_session, turned_session}
 
 there : {X : Type 0} (o : Option X) (x : X) → o ≡ Some x → IsSome o
 there o x is = subst (λ p. IsSome p) (sym is) refl

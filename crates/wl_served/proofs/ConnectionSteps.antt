@@ -1,21 +1,16 @@
 -- The steps of a served connection: their talk is its talk, and their bytes are its bytes.
 use Rattle.std.proofs.Common.{◌≡◌, ℕ, ◌≤◌, List, [], ◌∷◌, ◌++◌, Option, Some, None, refl, sym, ap, subst, ◌∙◌, append-nil, append_assoc, arith}
-use Rattle.h2_frame.specs.Reading.{End, reading_from}
-use Rattle.h2_conn.specs.declared.fault.ConnFault.{ConnFault}
+use Rattle.wl_served.proofs.Common.{End, reading_from, ConnFault, Publication, JwtAsk, JwtOutcome, Talking, SessionState, Running, Fallen, OutOfMemory, feed_said, state_of_fault, unnamed_in, asks_in, turn_told, Round, heard_told, name_told_at, answer_told, answers_told, shown_told, given_told_at, given_told, outcomes_told, round_told, named_session, session_after}
 use Rattle.h2_conn.proofs.FrameDemands.{frames_fit}
-use Rattle.wl_snapshot.specs.Snapshots.{Publication}
 use Rattle.wl_publish.specs.Lists.{NonFallingFrom}
-use Rattle.wl_session.specs.declared.asks.JwtAsk.{JwtAsk}
-use Rattle.wl_session.specs.declared.asks.JwtOutcome.{JwtOutcome}
-use Rattle.wl_session.specs.Talks.{Talking}
-use Rattle.wl_session.specs.Sessions.{SessionState, Running, Fallen, OutOfMemory, feed_said, turn_said, name_said, given_said, state_of_fault, unnamed_in, asks_in}
-use Rattle.wl_session.specs.Steps.{Told, turn_told, outcome_told}
+use Rattle.wl_session.specs.Sessions.{turn_said, name_said, given_said}
+use Rattle.wl_session.specs.Steps.{Told, outcome_told}
 use Rattle.wl_responses.specs.Steps.{Step, talk_after, AllFit}
 use Rattle.wl_responses.specs.Responses.{NoneAbove, NeverFall, numbers_read}
 use Rattle.wl_responses.specs.Moves.{onto_frames, onto_ending, bytes_of_steps, HasTalk}
 use Rattle.wl_responses.proofs.MoveSteps.{Leads, reading_leads, Takes, frames_all_fit, ending_fits, frames_numbers, ending_numbers}
 use Rattle.wl_responses.proofs.Runs.{Reads, frames_read, ending_reads}
-use Rattle.wl_worker.specs.Rounds.{Round, then_told, heard_told, name_told_at, answer_told, answers_told, shown_told, given_told_at, given_told, outcomes_told, round_told, heard_session, named_session, turned_session, session_after, numbers, number_of, IsIn, IsKnown, AreKnown}
+use Rattle.wl_worker.specs.Rounds.{then_told, heard_session, turned_session, numbers, number_of, IsIn, IsKnown, AreKnown}
 use Rattle.wl_worker.proofs.RoundTraces.{talk_grows, nothing_talked}
 use Rattle.wl_served.specs.Served.{onto_heard, onto_answer, onto_answers, onto_turn, onto_shown, onto_given, onto_outcomes, onto_round, steps_of_rounds, RoundsTakeSteps}
 

@@ -1,16 +1,12 @@
 -- Connections that agree on what is theirs write the same bytes.
 use Rattle.std.proofs.Common.{◌≡◌, ℕ, List, [], ◌∷◌, ◌++◌, Option, Some, None, refl, sym, ap, subst, ◌∙◌}
-use Rattle.h2_frame.specs.Reading.{End, reading_from}
-use Rattle.h2_conn.specs.declared.fault.ConnFault.{ConnFault}
-use Rattle.wl_snapshot.specs.Snapshots.{Publication}
-use Rattle.wl_session.specs.declared.asks.JwtAsk.{JwtAsk}
-use Rattle.wl_session.specs.declared.asks.JwtOutcome.{JwtOutcome}
+use Rattle.wl_served.proofs.Common.{End, reading_from, ConnFault, Publication, JwtAsk, JwtOutcome, Talking, SessionState, Running, Fallen, OutOfMemory, feed_said, state_of_fault, unnamed_in, asks_in, turn_told, Round, heard_told, name_told_at, answer_told, answers_told, shown_told, given_told_at, given_told, outcomes_told, round_told, session_after}
 use Rattle.wl_session.specs.Agreeing.{SeeAlike}
-use Rattle.wl_session.specs.Talks.{Talking, Said}
-use Rattle.wl_session.specs.Sessions.{SessionState, Running, Fallen, OutOfMemory, feed_said, turn_said, state_of_fault, unnamed_in, asks_in}
-use Rattle.wl_session.specs.Steps.{Told, fed_by, feed_told, turn_told, outcome_told}
+use Rattle.wl_session.specs.Talks.{Said}
+use Rattle.wl_session.specs.Sessions.{turn_said}
+use Rattle.wl_session.specs.Steps.{Told, fed_by, feed_told, outcome_told}
 use Rattle.wl_session.specs.Items.{talk}
-use Rattle.wl_worker.specs.Rounds.{Round, then_told, heard_told, name_told_at, answer_told, answers_told, shown_told, given_told_at, given_told, outcomes_told, round_told, session_after, trace}
+use Rattle.wl_worker.specs.Rounds.{then_told, trace}
 use Rattle.wl_worker.proofs.RoundTraces.{talk_grows}
 use Rattle.wl_responses.specs.Moves.{Move, move_told, bytes_after, session_after as moved}
 use Rattle.wl_responses.specs.Runs.{SessionsHaveMoves}

@@ -1,3 +1,4 @@
+mod Common
 pub mod ConnectionSteps
 pub mod PeerBytes
 pub mod Isolation

@@ -5,10 +5,10 @@ use Rattle.std.proofs.Common.{subst}
 use Rattle.list_laws.specs.Lists.{BeginsWith}
 use Rattle.wl_entry.specs.declared.asks.Ask.{Ask}
 use Rattle.wl_entry.specs.declared.tokens.JwtToken.{JwtToken}
-use Rattle.wl_snapshot.specs.Snapshots.{Publication}
+use Rattle.wl_served.proofs.Common.{Publication, Round}
 use Rattle.wl_edge.specs.Links.{LinkLog}
 use Rattle.wl_edge.specs.Listeners.{FinishedLink}
-use Rattle.wl_worker.specs.Rounds.{Round, IsIn}
+use Rattle.wl_worker.specs.Rounds.{IsIn}
 use Rattle.wl_worker.specs.Owners.{owned_by}
 use Rattle.wl_worker.specs.Served.{Began}
 use Rattle.wl_worker.specs.Tended.{Known, AreJudged, SeatWorld, TookAllUnless, TookPart, TookFully, Tends, known}

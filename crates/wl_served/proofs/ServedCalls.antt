@@ -1,15 +1,10 @@
 -- Statuses and completeness of served connections, from the laws of talks.
 use Rattle.std.proofs.Common.{◌≡◌, List, [], ◌∷◌, Option, None, refl, sym, ap, subst}
-use Rattle.wl_snapshot.specs.Snapshots.{Publication}
-use Rattle.wl_session.specs.declared.asks.JwtOutcome.{JwtOutcome}
-use Rattle.wl_session.specs.Talks.{Talking}
-use Rattle.wl_session.specs.Sessions.{SessionState}
-use Rattle.wl_session.specs.Steps.{turn_told}
+use Rattle.wl_served.proofs.Common.{Publication, JwtOutcome, Talking, SessionState, turn_told, Round, shown_told, outcomes_told, round_told, named_session, session_after}
 use Rattle.wl_session.specs.Completing.{AllAnswered}
 use Rattle.wl_responses.specs.Steps.{Step, talk_after, AllFit}
 use Rattle.wl_responses.specs.Completeness.{OnTalk, IsWritten, IsKeptBack, WaitsForAsks, StillWaits}
 use Rattle.wl_responses.proofs.AfterTurns.{KeepComplete, turn_complete, session_written, session_holds, in_talk, Awaits, waits, awaits_in, still_waits, Takes, takes, takes_in, all_give}
-use Rattle.wl_worker.specs.Rounds.{Round, shown_told, outcomes_told, round_told, named_session, session_after}
 use Rattle.wl_served.specs.Served.{steps_of_rounds}
 use Rattle.wl_served.proofs.ConnectionSteps.{rounds_take_steps, rounds_fit}
 use Rattle.wl_served.specs.Complete.{ServedGiveStatuses, AfterServedTurns, ServedAreAnswered, ServedAreWritten, ServedAreHeldBack, ServedAwaitAsks, ServedAsksStay, session_given, ServedTakeOutcomes}

@@ -1,35 +1,13 @@
 -- Talks that agree.
 use Rattle.std.proofs.Common.{arith, ◌≡◌, ℕ, zero, suc, ◌<◌, length, get_or, ◌==◌, Bool, true, false, if◌then◌else◌, List, [], ◌∷◌, ◌++◌, Option, None, refl, sym, ap, ◌∙◌, subst}
 use Rattle.std.proofs.lemmas.List.{append-nil}
-use Rattle.h2_frame.specs.declared.fault.FrameFault.{FrameFault}
-use Rattle.h2_frame.specs.declared.frame.Frame.{Frame}
-use Rattle.h2_frame.specs.Reading.{End, Opening, Rest, Fault, Reading, read_on, reading_from}
+use Rattle.wl_session.proofs.Common.{FrameFault, Frame, End, Opening, Rest, Fault, Reading, reading_from, ConnFault, Phase, Open, Failed, OutOfMemory, flush_of, frame_fault_on, after_frame_fault, UnknownService, spell_state, Publication, ViewModel, view_in, answer_of, asks_of, Answer, Denied, Wait, TooLong, Message, Method3, Wanted, CallKind, Stream, Tokens, Check, Watch, Stage, Unnamed, Ready, Asking, ServedCall, was_seen, Turned, goes_on, has_ended, with_refusal, with_last_message, stream_answer, health_of, token_answer, call_answer, stage_turn, call_turn, turn_before, calls_turn, Talking, Said, first_of, then_, silent, written, frames_said, break_said, ended_by, feed_said, with_turned, turn_said, HasSeen, HaveSeen}
+use Rattle.h2_frame.specs.Reading.{read_on}
 use Rattle.h2_frame.proofs.Cuts.{reads_on}
-use Rattle.h2_conn.specs.declared.fault.ConnFault.{ConnFault}
-use Rattle.h2_conn.specs.declared.phase.Phase.{Phase}
-use Rattle.h2_conn.specs.declared.phase.Phase.TheVariants.{Open, Failed, OutOfMemory}
-use Rattle.h2_conn.specs.Conns.{flush_of, frame_fault_on, after_frame_fault}
 use Rattle.h2_conn.proofs.Results.{flushes_once}
-use Rattle.grpc_wire.specs.declared.refusal.Refusal.TheVariants.{UnknownService}
-use Rattle.wl_health.specs.Messages.{spell_state}
-use Rattle.wl_snapshot.specs.Snapshots.{Publication}
-use Rattle.wl_snapshot.specs.Views.{ViewModel, view_in}
-use Rattle.wl_snapshot.specs.Answers.{answer_of, asks_of}
-use Rattle.wl_snapshot.specs.declared.answers.Answer.{Answer}
-use Rattle.wl_snapshot.specs.declared.answers.Answer.TheVariants.{Denied, Wait, TooLong, Message}
-use Rattle.wl_snapshot.specs.declared.answers.Method3.{Method3}
-use Rattle.wl_snapshot.specs.declared.token_asks.Wanted.{Wanted}
 use Rattle.wl_snapshot.proofs.Equalities.{view_model_self}
-use Rattle.wl_session.specs.declared.served.CallKind.{CallKind}
-use Rattle.wl_session.specs.declared.served.CallKind.TheVariants.{Stream, Tokens, Check, Watch}
-use Rattle.wl_session.specs.declared.served.Stage.{Stage}
-use Rattle.wl_session.specs.declared.served.Stage.TheVariants.{Unnamed, Ready, Asking}
-use Rattle.wl_session.specs.declared.served.ServedCall.{ServedCall}
-use Rattle.wl_session.specs.Kinds.{was_seen}
-use Rattle.wl_session.specs.Answering.{Turned, goes_on, has_ended, with_refusal, with_last_message, stream_answer, health_of, token_answer, call_answer, answer_where_new, stage_turn, call_turn, turn_before, calls_turn}
-use Rattle.wl_session.specs.Talks.{Talking, Said, first_of, then_, silent, written, frames_said, break_said}
-use Rattle.wl_session.specs.Sessions.{ended_by, feed_said, with_turned, turn_said}
-use Rattle.wl_session.specs.Agreeing.{SeesAlike, SeeAlike, HasSeen, HaveSeen, IsQuiet}
+use Rattle.wl_session.specs.Answering.{answer_where_new}
+use Rattle.wl_session.specs.Agreeing.{SeesAlike, SeeAlike, IsQuiet}
 use Rattle.wl_session.proofs.ItemSequences.{then_assoc, said_on}
 
 -- after what was written nothing is left to be written

@@ -3,18 +3,10 @@ use Rattle.std.proofs.Common.{◌≡◌, ℕ, zero, suc, Bool, true, false, List
 use Rattle.std.specs.Prelude.{IsSome}
 use Rattle.std.specs.List.{position_or_len}
 use Rattle.std.proofs.Common.{arith}
-use Rattle.h2_frame.specs.Reading.{End}
-use Rattle.h2_conn.specs.declared.phase.Phase.{Phase}
-use Rattle.wl_snapshot.specs.Snapshots.{Publication}
-use Rattle.wl_session.specs.declared.served.CallKind.{CallKind}
-use Rattle.wl_session.specs.declared.served.Stage.{Stage}
-use Rattle.wl_session.specs.declared.served.Stage.TheVariants.{Unnamed, Ready, Asking}
-use Rattle.wl_session.specs.declared.served.ServedCall.{ServedCall}
-use Rattle.wl_session.specs.Answering.{Turned}
-use Rattle.wl_session.specs.Tokens.{change_in, change_first, is_unnamed, name_on, name_first, first_unnamed}
-use Rattle.wl_session.specs.Talks.{Talking, Said, then_, silent, written}
-use Rattle.wl_session.specs.Sessions.{SessionState, Running, Fallen, OutOfMemory, name_said, unnamed_in, Names}
-use Rattle.wl_session.specs.Steps.{unnamed_count, names_said, names_told}
+use Rattle.wl_session.proofs.Common.{End, Phase, Publication, CallKind, Stage, Unnamed, Ready, Asking, ServedCall, Turned, change_first, is_unnamed, name_on, name_first, Talking, Said, then_, silent, written, SessionState, Running, Fallen, name_said, unnamed_count, names_said}
+use Rattle.wl_session.specs.Tokens.{change_in, first_unnamed}
+use Rattle.wl_session.specs.Sessions.{OutOfMemory, unnamed_in, Names}
+use Rattle.wl_session.specs.Steps.{names_told}
 use Rattle.wl_session.proofs.ReadyCalls.{place_here, place_later}
 
 -- ---- the first of a kind

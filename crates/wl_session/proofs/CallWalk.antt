@@ -3,40 +3,13 @@ use Rattle.std.proofs.Common.{◌≡◌, ℕ, ◌==◌, zero, suc, Bool, true, f
 use Rattle.std.specs.List.{AllByRecursion}
 use Rattle.std.proofs.lemmas.Bool.{cases_Bool}
 use Rattle.list_laws.proofs.Elements.{all_filter, all_append}
-use Rattle.h2_frame.specs.declared.frame.Frame.{Frame}
-use Rattle.h2_frame.specs.Reading.{End, Opening, Rest, Fault, Reading}
-use Rattle.h2_conn.specs.declared.happening.Happening.{Happening}
+use Rattle.wl_session.proofs.Common.{Frame, End, Opening, Rest, Fault, Reading, Happening, Phase, frame_result, CallEvent, verdict, standing_of_head, standing_at, event_at, calls_after, with_call, JwtItem, spell_jwt, capped, Publication, ViewModel, view_in, answer_of, asks_of, Answer, Denied, Wait, TooLong, Message, Method3, Wanted, JwtAsk, JwtOutcome, CallKind, Stream, Tokens, Check, Watch, Stage, Unnamed, Ready, Asking, ServedCall, was_seen, Turned, goes_on, has_ended, stream_answer, health_of, token_answer, call_answer, stage_turn, call_turn, turn_before, calls_turn, change_first, is_unnamed, name_call, name_stage, name_on, name_first, is_asking, item_for, next_ask, give_call, give_stage, give_on, give_first, Talking, Said, with_served, after_event, after_body, after_happening, after_happenings, after_frame, written, frame_said, frames_said, break_said, ended_by, feed_said, turn_said, name_said, given_said, names_said}
 use Rattle.h2_conn.specs.declared.happening.Happening.TheVariants as happening
-use Rattle.h2_conn.specs.declared.phase.Phase.{Phase}
-use Rattle.h2_conn.specs.Conns.{frame_result}
-use Rattle.grpc_conn.specs.declared.event.CallEvent.{CallEvent}
 use Rattle.grpc_conn.specs.declared.event.CallEvent.TheVariants as events
-use Rattle.grpc_conn.specs.Verdicts.{verdict}
-use Rattle.grpc_conn.specs.Calls.{standing_of_head, standing_at, event_at, calls_after, with_call}
-use Rattle.workload_proto.specs.declared.message.JwtItem.{JwtItem}
-use Rattle.workload_proto.specs.Spelling.{spell_jwt, capped}
-use Rattle.wl_snapshot.specs.Snapshots.{Publication}
-use Rattle.wl_snapshot.specs.Views.{ViewModel, view_in}
-use Rattle.wl_snapshot.specs.Answers.{answer_of, asks_of}
-use Rattle.wl_snapshot.specs.declared.answers.Answer.{Answer}
-use Rattle.wl_snapshot.specs.declared.answers.Answer.TheVariants.{Denied, Wait, TooLong, Message}
-use Rattle.wl_snapshot.specs.declared.answers.Method3.{Method3}
-use Rattle.wl_snapshot.specs.declared.token_asks.Wanted.{Wanted}
-use Rattle.wl_session.specs.declared.asks.JwtAsk.{JwtAsk}
-use Rattle.wl_session.specs.declared.asks.JwtOutcome.{JwtOutcome}
 use Rattle.wl_session.specs.declared.asks.JwtOutcome.TheVariants as outcomes
-use Rattle.wl_session.specs.declared.served.CallKind.{CallKind}
-use Rattle.wl_session.specs.declared.served.CallKind.TheVariants.{Stream, Tokens, Check, Watch}
-use Rattle.wl_session.specs.declared.served.Stage.{Stage}
-use Rattle.wl_session.specs.declared.served.Stage.TheVariants.{Unnamed, Ready, Asking}
-use Rattle.wl_session.specs.declared.served.ServedCall.{ServedCall}
-use Rattle.wl_session.specs.Kinds.{was_seen}
-use Rattle.wl_session.specs.Answering.{Turned, goes_on, has_ended, ask_on, stream_answer, health_of, token_answer, call_answer, stage_turn, call_turn, turn_before, calls_turn}
+use Rattle.wl_session.specs.Answering.{ask_on}
 use Rattle.wl_session.specs.Refusing.{stream_refusal}
-use Rattle.wl_session.specs.Tokens.{change_first, stream_of, first_unnamed, is_unnamed, name_call, name_stage, name_on, name_first, is_asking, item_for, next_ask, give_call, give_stage, give_on, give_first}
-use Rattle.wl_session.specs.Talks.{Talking, Said, with_served, after_event, after_body, after_happening, after_happenings, after_frame, written, frame_said, frames_said, break_said}
-use Rattle.wl_session.specs.Sessions.{ended_by, feed_said, turn_said, name_said, given_said}
-use Rattle.wl_session.specs.Steps.{names_said}
+use Rattle.wl_session.specs.Tokens.{stream_of, first_unnamed}
 use Rattle.wl_session.proofs.Attestations.{first_here, first_later, first_of_none}
 
 -- ---- what is walked

@@ -3,13 +3,11 @@ use Rattle.std.proofs.Common.{◌≡◌, ℕ, List, ◌++◌, Option, Some, None
 use Rattle.std.specs.List.{AllByRecursion}
 use Rattle.list_laws.specs.Lists.{GainsFront}
 use Rattle.list_laws.proofs.Fronts.{gains_before, gains_after}
-use Rattle.h2_frame.specs.declared.fault.FrameFault.{FrameFault}
-use Rattle.h2_frame.specs.declared.frame.Frame.{Frame}
-use Rattle.h2_frame.specs.Reading.{End, Opening, Rest, Fault, IsOpen, Reading, reading_from}
+use Rattle.wl_session.proofs.Common.{FrameFault, Frame, End, Opening, Rest, Fault, Reading, reading_from, Talking, Said, then_, frames_said, break_said, ended_by, feed_said}
+use Rattle.h2_frame.specs.Reading.{IsOpen}
 use Rattle.h2_conn.specs.Kinds.{Fits}
 use Rattle.h2_conn.proofs.FrameDemands.{frames_fit}
-use Rattle.wl_session.specs.Talks.{Talking, Said, then_, frames_said, break_said}
-use Rattle.wl_session.specs.Sessions.{fault_in, ended_by, feed_said}
+use Rattle.wl_session.specs.Sessions.{fault_in}
 
 pub open_none : (e : End) → IsOpen e → fault_in e ≡ None
 open_none (Opening left) is = refl

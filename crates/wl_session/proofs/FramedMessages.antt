@@ -1,15 +1,8 @@
 -- Messages after their gRPC prefix.
 use Rattle.std.proofs.Common.{◌≡◌, ℕ, ◌<◌, Bool, true, List, [], length, Some, arith, sym, ap, subst}
-use Rattle.grpc_wire.specs.Messages.{framed}
-use Rattle.h2_conn.specs.declared.phase.Phase.{Phase}
-use Rattle.wl_snapshot.specs.Views.{ViewModel}
-use Rattle.wl_snapshot.specs.Answers.{answer_of, with_prefix}
-use Rattle.wl_snapshot.specs.declared.answers.Answer.{Answer}
-use Rattle.wl_snapshot.specs.declared.answers.Answer.TheVariants.{Denied, Wait, TooLong, Message}
-use Rattle.wl_snapshot.specs.declared.answers.Method3.{Method3}
-use Rattle.wl_session.specs.declared.served.CallKind.TheVariants.{Stream}
-use Rattle.wl_session.specs.declared.served.Stage.TheVariants.{Ready}
-use Rattle.wl_session.specs.Answering.{kept_of, stream_answer, with_message}
+use Rattle.wl_session.proofs.Common.{framed, Phase, ViewModel, answer_of, Answer, Denied, Wait, TooLong, Message, Method3, Stream, Ready, stream_answer, with_message}
+use Rattle.wl_snapshot.specs.Answers.{with_prefix}
+use Rattle.wl_session.specs.Answering.{kept_of}
 use Rattle.wl_session.specs.Making.{IsMessageOf}
 
 -- a framed message is not empty

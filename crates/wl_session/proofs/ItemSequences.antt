@@ -3,15 +3,10 @@ use Rattle.std.proofs.Common.{◌≡◌, ℕ, List, [], ◌∷◌, ◌++◌, Opt
 use Rattle.std.proofs.lemmas.List.{append-nil}
 use Rattle.list_laws.specs.Lists.{GainsFront}
 use Rattle.list_laws.proofs.Fronts.{gains_before, gains_after}
-use Rattle.h2_frame.specs.declared.frame.Frame.{Frame}
-use Rattle.h2_conn.specs.declared.fault.ConnFault.{ConnFault}
-use Rattle.h2_conn.specs.declared.happening.Happening.{Happening}
-use Rattle.h2_conn.specs.declared.phase.Phase.{Phase}
-use Rattle.h2_conn.specs.declared.phase.Phase.TheVariants.{Open, Failed, OutOfMemory}
-use Rattle.h2_conn.specs.declared.state.State.{State}
+use Rattle.wl_session.proofs.Common.{Frame, ConnFault, Happening, Phase, Open, Failed, OutOfMemory, State, frame_result, flush_of, Talking, Said, first_of, then_, silent, written, frame_said, frames_said, after_happening, after_happenings}
 use Rattle.h2_conn.specs.Peer.{Outcome, goes, fails, peer}
-use Rattle.h2_conn.specs.Conns.{frame_result, result_of, flush_of}
-use Rattle.wl_session.specs.Talks.{Talking, Said, first_of, then_, silent, greeting, written, frame_said, frames_said, after_happening, after_happenings}
+use Rattle.h2_conn.specs.Conns.{result_of}
+use Rattle.wl_session.specs.Talks.{greeting}
 
 pub first_assoc : (f g h : Option ConnFault) → first_of f (first_of g h) ≡ first_of (first_of f g) h
 first_assoc None g h = refl

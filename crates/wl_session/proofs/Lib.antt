@@ -1,3 +1,4 @@
+mod Common
 pub mod ItemSequences
 pub mod Agreements
 pub mod ReadyCalls

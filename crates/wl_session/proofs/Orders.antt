@@ -2,34 +2,13 @@
 use Rattle.std.proofs.Common.{◌≡◌, inl, inr, ℕ, ◌==◌, Bool, true, false, not, ◌&&◌, ◌||◌, cond, if◌then◌else◌, List, [], ◌∷◌, Option, Some, None, refl, sym, ap, ◌∙◌, eqb-true}
 use Rattle.std.proofs.lemmas.Bool.{cases_Bool}
 use Rattle.std.specs.List.{list_any}
-use Rattle.hpack.specs.Writing.{block_bytes}
+use Rattle.wl_session.proofs.Common.{block_bytes, Phase, Open, Failed, OutOfMemory, State, is_live, with_head_on, with_trailers_on, on_open, offers, withdraws, framed, response_fields, trailer_fields, refused_fields, Refusal, NoIdentity, LongResponse, UnknownService, spell_state, Publication, ViewModel, view_in, answer_of, asks_of, Answer, Denied, Wait, TooLong, Message, Method3, Wanted, CallKind, Stage, Unnamed, Ready, Asking, ServedCall, was_seen, Turned, goes_on, has_ended, with_last_message, with_refusal, stream_answer, health_of, token_answer, call_answer, stage_turn, call_turn, calls_turn}
 use Rattle.h2_flow.specs.declared.stream.Stream.{Stream}
 use Rattle.h2_flow.specs.Outboxes.{is_number, update_stream, with_offer, with_head, with_message, without_waiting, with_trailers}
-use Rattle.h2_conn.specs.declared.phase.Phase.{Phase}
-use Rattle.h2_conn.specs.declared.phase.Phase.TheVariants.{Open, Failed, OutOfMemory}
-use Rattle.h2_conn.specs.declared.state.State.{State}
-use Rattle.h2_conn.specs.Streams.{is_live}
-use Rattle.h2_conn.specs.Conns.{takes, with_head_on, with_trailers_on, with_message_on, without_waiting_on, on_open, offers, withdraws}
-use Rattle.grpc_wire.specs.Messages.{framed}
-use Rattle.grpc_wire.specs.Answers.{response_fields, trailer_fields, refused_fields}
-use Rattle.grpc_wire.specs.declared.refusal.Refusal.{Refusal}
-use Rattle.grpc_wire.specs.declared.refusal.Refusal.TheVariants.{NoIdentity, LongResponse, UnknownService}
-use Rattle.wl_health.specs.Messages.{spell_state}
+use Rattle.h2_conn.specs.Conns.{takes, with_message_on, without_waiting_on}
 use Rattle.h2_flow.proofs.Offers.{changed_here, changed_past}
-use Rattle.wl_snapshot.specs.Snapshots.{Publication}
-use Rattle.wl_snapshot.specs.Views.{ViewModel, view_in}
-use Rattle.wl_snapshot.specs.Answers.{answer_of, asks_of}
-use Rattle.wl_snapshot.specs.declared.answers.Answer.{Answer}
-use Rattle.wl_snapshot.specs.declared.answers.Answer.TheVariants.{Denied, Wait, TooLong, Message}
-use Rattle.wl_snapshot.specs.declared.answers.Method3.{Method3}
-use Rattle.wl_snapshot.specs.declared.token_asks.Wanted.{Wanted}
-use Rattle.wl_session.specs.declared.served.CallKind.{CallKind}
 use Rattle.wl_session.specs.declared.served.CallKind.TheVariants as kinds
-use Rattle.wl_session.specs.declared.served.Stage.{Stage}
-use Rattle.wl_session.specs.declared.served.Stage.TheVariants.{Unnamed, Ready, Asking}
-use Rattle.wl_session.specs.declared.served.ServedCall.{ServedCall}
-use Rattle.wl_session.specs.Kinds.{was_seen}
-use Rattle.wl_session.specs.Answering.{Turned, goes_on, has_ended, with_head as with_first_head, with_message as with_message_behind, with_last_message, with_refusal, stream_answer, health_of, token_answer, call_answer, stage_turn, call_turn, calls_turn}
+use Rattle.wl_session.specs.Answering.{with_head as with_first_head, with_message as with_message_behind}
 
 -- ---- two streams of an outbox
 

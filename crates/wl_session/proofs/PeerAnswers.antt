@@ -4,51 +4,31 @@ use Rattle.std.specs.Prelude.{Result, Err}
 use Rattle.std.specs.List.{AllByRecursion}
 use Rattle.std.proofs.lemmas.Bool.{cases_Bool, ltb-true}
 use Rattle.list_laws.proofs.Elements.{all_filter}
-use Rattle.h2_frame.specs.declared.fault.FrameFault.{FrameFault}
-use Rattle.h2_frame.specs.declared.frame.Frame.{Frame}
-use Rattle.h2_frame.specs.Reading.{End, Opening, Rest, Fault, reading_from}
-use Rattle.h2_conn.specs.declared.fault.ConnFault.{ConnFault}
-use Rattle.h2_conn.specs.declared.happening.Happening.{Happening}
+use Rattle.wl_session.proofs.Common.{FrameFault, Frame, End, Opening, Rest, Fault, reading_from, ConnFault, Happening, Phase, Open, Failed, OutOfMemory, State, is_live, on_open, after_reset, frame_result, frame_fault_on, after_frame_fault, SoundPhase, CallEvent, verdict, standing_of_head, standing_at, event_at, calls_after, with_call, Publication, ViewModel, view_in, SessionFault, CallKind, Stage, Unnamed, Ready, Asking, ServedCall, was_seen, with_refusal, Talking, Said, with_served, after_event, after_body, after_happening, after_happenings, after_frame, written, frame_said, frames_said, break_said, SessionState, Running, Fallen, ended_by, feed_said, turn_said, name_said, given_said, Goes, HasSeen, HaveSeen, CameOn}
 use Rattle.h2_conn.specs.declared.happening.Happening.TheVariants as happening
-use Rattle.h2_conn.specs.declared.phase.Phase.{Phase}
 use Rattle.h2_conn.specs.declared.phase.Totals.{Totals}
-use Rattle.h2_conn.specs.declared.phase.Phase.TheVariants.{Open, Failed, OutOfMemory}
-use Rattle.h2_conn.specs.declared.state.State.{State}
 use Rattle.h2_conn.specs.declared.streams.Stream as live
-use Rattle.h2_conn.specs.Streams.{is_live}
 use Rattle.h2_conn.specs.Kinds.{Fits}
 use Rattle.h2_conn.specs.Naming.{Names as NamesStreams, NamesTold}
 use Rattle.h2_conn.specs.Peer.{Outcome, goes, fails, peer}
-use Rattle.h2_conn.specs.Conns.{on_open, after_reset, told_list, result_of, frame_result, frame_fault_on, after_frame_fault}
-use Rattle.h2_conn.specs.Sound.{number_of, Sound, SoundPhase}
+use Rattle.h2_conn.specs.Conns.{told_list, result_of}
+use Rattle.h2_conn.specs.Sound.{number_of, Sound}
 use Rattle.h2_conn.specs.Holding.{OpensNot}
 use Rattle.h2_conn.specs.Telling.{TellsStreams}
 use Rattle.h2_conn.proofs.FrameDemands.{frames_fit}
 use Rattle.h2_conn.proofs.OfferedMessages.{framed_claim}
 use Rattle.h2_conn.proofs.Sounds.{peer_sound, peer_names}
 use Rattle.h2_conn.proofs.Tellings.{frame_tells}
-use Rattle.grpc_conn.specs.declared.event.CallEvent.{CallEvent}
 use Rattle.grpc_conn.specs.declared.event.CallEvent.TheVariants as events
 use Rattle.grpc_conn.specs.declared.standing.Call.{Call}
 use Rattle.grpc_conn.specs.declared.standing.Standing.{Standing}
-use Rattle.grpc_conn.specs.Verdicts.{verdict}
-use Rattle.grpc_conn.specs.Calls.{standing_of_head, standing_at, event_at, calls_after, with_call, without}
+use Rattle.grpc_conn.specs.Calls.{without}
 use Rattle.grpc_conn.proofs.Places.{removed_there}
-use Rattle.wl_snapshot.specs.Snapshots.{Publication}
-use Rattle.wl_snapshot.specs.Views.{ViewModel, view_in}
 use Rattle.wl_snapshot.proofs.Equalities.{view_model_is}
-use Rattle.wl_session.specs.declared.asks.SessionFault.{SessionFault}
 use Rattle.wl_session.specs.declared.asks.SessionFault.TheVariants as faults
-use Rattle.wl_session.specs.declared.served.CallKind.{CallKind}
-use Rattle.wl_session.specs.declared.served.Stage.{Stage}
-use Rattle.wl_session.specs.declared.served.Stage.TheVariants.{Unnamed, Ready, Asking}
-use Rattle.wl_session.specs.declared.served.ServedCall.{ServedCall}
-use Rattle.wl_session.specs.Kinds.{was_seen, kind_of}
-use Rattle.wl_session.specs.Answering.{with_refusal}
-use Rattle.wl_session.specs.Talks.{Talking, Said, with_served, after_event, after_body, after_happening, after_happenings, after_frame, written, frame_said, frames_said, break_said}
-use Rattle.wl_session.specs.Sessions.{SessionState, Running, Fallen, OutOfMemory as Exhausted, fresh_session, ended_by, feed_said, turn_said, name_said, given_said, state_of_fault, Says, Goes}
-use Rattle.wl_session.specs.Agreeing.{HasSeen, HaveSeen}
-use Rattle.wl_session.specs.Completing.{HasAnswerOn, HasLastAnswer, ShowsStage, CameOn, Shows, AreApart, IsDecided, IsComplete, IsCompleteIn, IsAnsweredOn, IsAnswered, AllAnswered, FeedKeepsComplete, NameKeepsComplete, TokenKeepsComplete, TurnAnswersAll}
+use Rattle.wl_session.specs.Kinds.{kind_of}
+use Rattle.wl_session.specs.Sessions.{OutOfMemory as Exhausted, fresh_session, state_of_fault, Says}
+use Rattle.wl_session.specs.Completing.{HasAnswerOn, HasLastAnswer, ShowsStage, Shows, AreApart, IsDecided, IsComplete, IsCompleteIn, IsAnsweredOn, IsAnswered, AllAnswered, FeedKeepsComplete, NameKeepsComplete, TokenKeepsComplete, TurnAnswersAll}
 use Rattle.wl_session.proofs.Agreements.{calls_seen}
 use Rattle.wl_session.proofs.CallWalk.{served_all}
 use Rattle.wl_session.proofs.Streams.{Keeps, reset_stands, reset_keeps, refusal_stands, refusal_keeps}

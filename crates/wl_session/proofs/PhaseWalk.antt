@@ -1,34 +1,10 @@
 -- What turns, names, tokens and events do to a connection, for whatever holds of it through each thing that is given to it.
 use Rattle.std.proofs.Common.{inl, inr, ℕ, ◌==◌, length, Bool, true, false, not, nat_lt, if◌then◌else◌, List, [], ◌∷◌, ◌++◌, Option, Some, None}
 use Rattle.std.proofs.lemmas.Bool.{cases_Bool}
-use Rattle.hpack.specs.Writing.{block_bytes}
-use Rattle.h2_conn.specs.declared.phase.Phase.{Phase}
-use Rattle.h2_conn.specs.Conns.{on_open, with_head_on, with_trailers_on, after_reset, offers, withdraws}
-use Rattle.grpc_wire.specs.Messages.{framed}
-use Rattle.grpc_wire.specs.Answers.{response_fields, trailer_fields, refused_fields}
-use Rattle.grpc_wire.specs.declared.refusal.Refusal.{Refusal}
-use Rattle.grpc_wire.specs.declared.refusal.Refusal.TheVariants.{NoIdentity, LongResponse, UnknownService, Unsigned, Unattested}
-use Rattle.workload_proto.specs.declared.message.JwtItem.{JwtItem}
-use Rattle.workload_proto.specs.Spelling.{spell_jwt, capped}
-use Rattle.wl_health.specs.Messages.{spell_state}
-use Rattle.wl_snapshot.specs.Snapshots.{Publication}
-use Rattle.wl_snapshot.specs.Views.{ViewModel, view_in}
-use Rattle.wl_snapshot.specs.Answers.{answer_of, asks_of}
-use Rattle.wl_snapshot.specs.declared.answers.Answer.{Answer}
-use Rattle.wl_snapshot.specs.declared.answers.Answer.TheVariants.{Denied, Wait, TooLong, Message}
-use Rattle.wl_snapshot.specs.declared.answers.Method3.{Method3}
-use Rattle.wl_snapshot.specs.declared.token_asks.Wanted.{Wanted}
-use Rattle.wl_session.specs.declared.asks.JwtAsk.{JwtAsk}
-use Rattle.wl_session.specs.declared.asks.JwtOutcome.{JwtOutcome}
+use Rattle.wl_session.proofs.Common.{block_bytes, Phase, on_open, with_head_on, with_trailers_on, after_reset, offers, withdraws, framed, response_fields, trailer_fields, refused_fields, Refusal, NoIdentity, LongResponse, UnknownService, Unsigned, Unattested, JwtItem, spell_jwt, capped, spell_state, Publication, ViewModel, view_in, answer_of, asks_of, Answer, Denied, Wait, TooLong, Message, Method3, Wanted, JwtAsk, JwtOutcome, CallKind, Stream, Tokens, Check, Watch, Stage, Unnamed, Ready, Asking, ServedCall, was_seen, Turned, goes_on, has_ended, with_refusal, with_message, with_last_message, stream_answer, health_of, token_answer, call_answer, stage_turn, call_turn, calls_turn, change_first, is_unnamed, name_call, name_stage, name_on, name_first, is_asking, item_for, next_ask, give_call, give_stage, give_on, give_first}
 use Rattle.wl_session.specs.declared.asks.JwtOutcome.TheVariants as outcomes
-use Rattle.wl_session.specs.declared.served.CallKind.{CallKind}
-use Rattle.wl_session.specs.declared.served.CallKind.TheVariants.{Stream, Tokens, Check, Watch}
-use Rattle.wl_session.specs.declared.served.Stage.{Stage}
-use Rattle.wl_session.specs.declared.served.Stage.TheVariants.{Unnamed, Ready, Asking}
-use Rattle.wl_session.specs.declared.served.ServedCall.{ServedCall}
-use Rattle.wl_session.specs.Kinds.{was_seen}
-use Rattle.wl_session.specs.Answering.{Turned, goes_on, has_ended, with_head, with_refusal, with_message, with_last_message, stream_answer, health_of, token_answer, check_answer, call_answer, stage_turn, call_turn, calls_turn}
-use Rattle.wl_session.specs.Tokens.{change_first, is_unnamed, name_call, name_stage, name_on, name_first, is_asking, item_for, token_message, next_ask, give_call, give_stage, give_on, give_first}
+use Rattle.wl_session.specs.Answering.{with_head, check_answer}
+use Rattle.wl_session.specs.Tokens.{token_message}
 use Rattle.wl_session.proofs.Attestations.{first_here, first_later, first_of_none}
 
 -- it holds on through each thing that is given to a connection

@@ -3,11 +3,7 @@ use Rattle.std.proofs.Common.{◌≡◌, ℕ, suc, ◌+◌, ◌≤◌, Bool, tru
 use Rattle.std.specs.List.{position_or_len}
 use Rattle.std.proofs.lemmas.List.{take_all, drop_all}
 use Rattle.std.proofs.lemmas.Bool.Decides.{nat_tests}
-use Rattle.h2_conn.specs.declared.phase.Phase.{Phase}
-use Rattle.wl_session.specs.declared.served.ServedCall.{ServedCall}
-use Rattle.wl_session.specs.Answering.{Turned}
-use Rattle.wl_session.specs.Tokens.{change_first}
-use Rattle.wl_session.specs.Talks.{with_served}
+use Rattle.wl_session.proofs.Common.{Phase, ServedCall, Turned, change_first, with_served}
 
 abbrev pub is_above : ServedCall → ServedCall → Bool
 is_above c d = nat_lt c.stream d.stream

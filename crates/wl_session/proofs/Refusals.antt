@@ -2,20 +2,9 @@
 use Rattle.std.specs.Prelude.{◌≡◌, ℕ, ◌==◌, nat_lt, Bool, true, false, if◌then◌else◌, List, [], ◌∷◌, length, Some, None}
 use Rattle.std.proofs.Common.{refl, ◌∙◌, ap, arith}
 use Rattle.std.proofs.lemmas.Bool.Decides.{nat_tests}
-use Rattle.h2_conn.specs.declared.phase.Phase.{Phase}
-use Rattle.grpc_wire.specs.declared.refusal.Refusal.{Refusal}
-use Rattle.grpc_wire.specs.declared.refusal.Refusal.TheVariants.{NoIdentity, LongResponse, UnknownService}
+use Rattle.wl_session.proofs.Common.{Phase, Refusal, NoIdentity, LongResponse, UnknownService, capped, ViewModel, answer_of, asks_of, Answer, Denied, Wait, TooLong, Message, Method3, Wanted, Stream, Tokens, Check, Watch, call_answer, stream_answer, token_answer, has_ended, with_refusal, with_last_message, health_of, spell_state}
 use Rattle.workload_proto.specs.declared.limits.TheConstants.{MAX_RESPONSE_LEN}
-use Rattle.workload_proto.specs.Spelling.{capped}
-use Rattle.wl_snapshot.specs.Views.{ViewModel}
-use Rattle.wl_snapshot.specs.Answers.{answer_of, asks_of, message_of, waits, within_limit}
-use Rattle.wl_snapshot.specs.declared.answers.Answer.{Answer}
-use Rattle.wl_snapshot.specs.declared.answers.Answer.TheVariants.{Denied, Wait, TooLong, Message}
-use Rattle.wl_snapshot.specs.declared.answers.Method3.{Method3}
-use Rattle.wl_snapshot.specs.declared.token_asks.Wanted.{Wanted}
-use Rattle.wl_session.specs.declared.served.CallKind.TheVariants.{Stream, Tokens, Check, Watch}
-use Rattle.wl_session.specs.Answering.{call_answer, stream_answer, token_answer, has_ended, with_refusal, with_last_message, health_of}
-use Rattle.wl_health.specs.Messages.{spell_state}
+use Rattle.wl_snapshot.specs.Answers.{message_of, waits, within_limit}
 use Rattle.wl_session.specs.Refusing.{stream_refusal, token_refusal, RefusedCallEnds, NoIdentityExactly, UnknownServiceExactly, MessageIsOfView, HealthIsOfView}
 
 -- ---- a call that is refused ends so

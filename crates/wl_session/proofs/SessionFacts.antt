@@ -2,28 +2,15 @@
 use Rattle.std.proofs.Common.{◌≡◌, ℕ, ◌||◌, Bool, true, false, List, [], ◌∷◌, Option, Some, None, Ok, refl, sym, ap, subst, arith}
 use Rattle.std.proofs.lemmas.List.{append-nil}
 use Rattle.std.specs.List.{list_any}
-use Rattle.h2_frame.specs.Reading.{End, Opening, Rest, Fault, Reading}
-use Rattle.wl_session.specs.declared.asks.JwtOutcome.{JwtOutcome}
-use Rattle.wl_session.specs.Answering.{Turned, calls_turn}
-use Rattle.wl_session.specs.Tokens.{change_in, change_first, name_stage, name_on, name_first, give_first}
-use Rattle.wl_session.specs.Sessions.{ended_by, feed_said, with_turned, turn_said, name_said, given_said, SessionState, Running, state_by, Turns}
-use Rattle.wl_session.specs.declared.asks.SessionFault.{SessionFault}
+use Rattle.wl_session.proofs.Common.{End, Opening, Rest, Fault, Reading, JwtOutcome, Turned, calls_turn, change_first, name_stage, name_on, name_first, give_first, ended_by, feed_said, with_turned, turn_said, name_said, given_said, SessionState, Running, Turns, SessionFault, FrameFault, Frame, ConnFault, Phase, Open, frame_result, flush_of, frame_fault_on, after_frame_fault, Publication, Stage, Unnamed, Ready, Asking, ServedCall, Talking, silent, written, after_frame, frame_said, frames_said, break_said, HasSeen, HaveSeen, SettledOn}
+use Rattle.wl_session.specs.Tokens.{change_in}
+use Rattle.wl_session.specs.Sessions.{state_by}
 use Rattle.std.proofs.lemmas.Bool.Decides.{nat_tests}
-use Rattle.h2_frame.specs.declared.fault.FrameFault.{FrameFault}
-use Rattle.h2_frame.specs.declared.frame.Frame.{Frame}
-use Rattle.h2_conn.specs.declared.fault.ConnFault.{ConnFault}
-use Rattle.h2_conn.specs.declared.phase.Phase.{Phase}
-use Rattle.h2_conn.specs.declared.phase.Phase.TheVariants.{Open}
 use Rattle.h2_flow.specs.Outboxes.{pull_of}
 use Rattle.h2_flow.specs.Pulls.{all_rounds, rounds, round}
-use Rattle.h2_conn.specs.Conns.{new_state, frame_result, flush_of, after_pull, frame_fault_on, after_frame_fault}
-use Rattle.wl_snapshot.specs.Snapshots.{Publication}
-use Rattle.wl_session.specs.declared.served.Stage.{Stage}
-use Rattle.wl_session.specs.declared.served.Stage.TheVariants.{Unnamed, Ready, Asking}
-use Rattle.wl_session.specs.declared.served.ServedCall.{ServedCall}
-use Rattle.wl_session.specs.Talks.{Talking, fresh_talk, silent, written, after_frame, frame_said, frames_said, break_said}
-use Rattle.wl_session.specs.Agreeing.{HasSeen, HaveSeen}
-use Rattle.wl_session.specs.Settled.{is_new, is_new_stage, WasSeen, WereSeen, SettledOn, IsSettled, is_number, MayFollow, MayTurn}
+use Rattle.h2_conn.specs.Conns.{new_state, after_pull}
+use Rattle.wl_session.specs.Talks.{fresh_talk}
+use Rattle.wl_session.specs.Settled.{is_new, is_new_stage, WasSeen, WereSeen, IsSettled, is_number, MayFollow, MayTurn}
 use Rattle.wl_session.proofs.Agreements.{written_quiet, again, calls_seen}
 use Rattle.wl_session.proofs.CallWalk.{CallRule, Each, IsKept, came_each, first_named, first_given}
 

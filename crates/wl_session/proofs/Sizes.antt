@@ -3,9 +3,9 @@ use Rattle.std.proofs.Common.{ℕ, ◌<◌, ◌≤◌, Bool, true, false, [], le
 use Rattle.std.specs.Prelude.{decimal}
 use Rattle.std.proofs.lemmas.Fmt.{length-decimal-le}
 use Rattle.hpack.specs.Tables.{list_size}
-use Rattle.grpc_wire.specs.Answers.{response_fields, trailer_fields, refused_fields, percent_encoded}
-use Rattle.grpc_wire.specs.declared.refusal.Refusal.{Refusal}
-use Rattle.grpc_wire.specs.declared.refusal.Refusal.TheVariants.{BadMethod, BadContent, UnknownPath, Compressed, Insecure, Flag, LongRequest, Count, Undecodable, NoAudience, BadId, NoIdentity, LongResponse, Unsigned, Unattested, UnknownService}
+use Rattle.wl_session.proofs.Common.{response_fields, trailer_fields, refused_fields, Refusal, NoIdentity, LongResponse, Unsigned, Unattested, UnknownService}
+use Rattle.grpc_wire.specs.Answers.{percent_encoded}
+use Rattle.grpc_wire.specs.declared.refusal.Refusal.TheVariants.{BadMethod, BadContent, UnknownPath, Compressed, Insecure, Flag, LongRequest, Count, Undecodable, NoAudience, BadId}
 
 -- a status has at most three digits
 short : (n : ℕ) → n < 1000 → length (decimal n) ≤ 3

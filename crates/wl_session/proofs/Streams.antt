@@ -1,24 +1,17 @@
 -- What is done on one stream leaves what the others have.
 use Rattle.std.proofs.Common.{◌≡◌, ℕ, ◌≤◌, Bool, true, false, not, cond, List, [], ◌∷◌, refl, sym, subst, ◌∙◌}
-use Rattle.hpack.specs.Writing.{block_bytes}
+use Rattle.wl_session.proofs.Common.{block_bytes, Phase, Open, Failed, OutOfMemory, State, is_live, with_head_on, with_trailers_on, after_reset, on_open, offers, withdraws, flush_of, SoundPhase, framed, response_fields, trailer_fields, refused_fields, Refusal, with_last_message, with_refusal, CameOn}
 use Rattle.h2_flow.specs.Outboxes.{PullResult, pull_of, with_head, with_trailers, with_message, without_waiting}
 use Rattle.h2_frame.specs.declared.frame.Body.TheVariants.{Reset}
-use Rattle.h2_conn.specs.declared.phase.Phase.{Phase}
-use Rattle.h2_conn.specs.declared.phase.Phase.TheVariants.{Open, Failed, OutOfMemory}
-use Rattle.h2_conn.specs.declared.state.State.{State}
-use Rattle.h2_conn.specs.Streams.{is_live, is_remote_closed, with_local_closed}
+use Rattle.h2_conn.specs.Streams.{is_remote_closed, with_local_closed}
 use Rattle.h2_conn.specs.Peer.{with_control_frame, without_live_stream}
-use Rattle.h2_conn.specs.Conns.{takes, with_head_on, with_trailers_on, with_message_on, without_waiting_on, after_reset, on_open, offers, withdraws, answer_ends, answers_end, ends_reset_count, after_pull, flush_of}
-use Rattle.h2_conn.specs.Sound.{Sound, SoundPhase}
+use Rattle.h2_conn.specs.Conns.{takes, with_message_on, without_waiting_on, answer_ends, answers_end, ends_reset_count, after_pull}
+use Rattle.h2_conn.specs.Sound.{Sound}
 use Rattle.h2_conn.specs.Holding.{Claim, ClaimOn, IsHeld, Lasts}
 use Rattle.h2_conn.proofs.Sounds.{s_headed_on, s_finished_on, s_offered_on, s_withdrawn_on, s_reset_by}
 use Rattle.h2_conn.proofs.WindowSums.{sound_pull}
 use Rattle.h2_conn.proofs.OfferedMessages.{headed_claim, finished_claim, offered_other, offered_here, withdrawn_other, reset_claim, flushed_claim}
-use Rattle.grpc_wire.specs.Messages.{framed}
-use Rattle.grpc_wire.specs.Answers.{response_fields, trailer_fields, refused_fields}
-use Rattle.grpc_wire.specs.declared.refusal.Refusal.{Refusal}
-use Rattle.wl_session.specs.Answering.{with_head as with_first_head, with_message as with_message_behind, with_last_message, with_refusal}
-use Rattle.wl_session.specs.Completing.{CameOn}
+use Rattle.wl_session.specs.Answering.{with_head as with_first_head, with_message as with_message_behind}
 
 -- ---- what stands of a stream, and of the connection
 

@@ -2,24 +2,12 @@
 use Rattle.std.proofs.Common.{◌≡◌, ℕ, zero, suc, ◌⊎◌, inl, inr, Bool, true, false, ◌&&◌, if◌then◌else◌, List, [], ◌∷◌, ◌++◌, map, filter, Option, Some, None, is_none, refl, sym, ap, subst, ◌∙◌, append_assoc}
 use Rattle.std.proofs.lemmas.List.{append-nil}
 use Rattle.std.specs.List.{list_all}
-use Rattle.h2_frame.specs.declared.frame.Frame.{Frame}
-use Rattle.h2_frame.specs.Reading.{End, Opening, Rest, Fault, Reading, reading_from}
-use Rattle.h2_conn.specs.declared.fault.ConnFault.{ConnFault}
-use Rattle.wl_snapshot.specs.Snapshots.{Publication}
-use Rattle.wl_snapshot.specs.Views.{ViewModel, view_in}
-use Rattle.wl_session.specs.declared.asks.JwtOutcome.{JwtOutcome}
-use Rattle.wl_session.specs.declared.served.Stage.{Stage}
-use Rattle.wl_session.specs.declared.served.Stage.TheVariants.{Unnamed, Ready, Asking}
-use Rattle.wl_session.specs.declared.served.ServedCall.{ServedCall}
-use Rattle.wl_session.specs.Kinds.{was_seen}
-use Rattle.wl_session.specs.Agreeing.{HasSeen, HaveSeen}
-use Rattle.wl_session.specs.Settled.{SettledOn}
-use Rattle.wl_session.specs.Tokens.{is_unnamed}
-use Rattle.wl_session.specs.Talks.{Talking, Said, fresh_talk, then_, silent, written, frame_said, frames_said, break_said}
-use Rattle.wl_session.specs.Sessions.{SessionState, Running, Fallen, OutOfMemory, ended_by, feed_said, turn_said, name_said, given_said}
+use Rattle.wl_session.proofs.Common.{Frame, End, Opening, Rest, Fault, Reading, reading_from, ConnFault, Publication, ViewModel, view_in, JwtOutcome, Stage, Unnamed, Ready, Asking, ServedCall, was_seen, HasSeen, HaveSeen, SettledOn, is_unnamed, Talking, Said, then_, silent, written, frame_said, frames_said, break_said, SessionState, Running, Fallen, ended_by, feed_said, turn_said, name_said, given_said, unnamed_count, names_said}
+use Rattle.wl_session.specs.Talks.{fresh_talk}
+use Rattle.wl_session.specs.Sessions.{OutOfMemory}
 use Rattle.wl_session.proofs.Agreements.{again, written_quiet}
 use Rattle.wl_session.proofs.SessionFacts.{settled_feed, settled_name, settled_given}
-use Rattle.wl_session.specs.Steps.{Told, quiet, runs_on, unnamed_count, names_said, all_named, fed_by, feed_told, turn_told, outcome_told}
+use Rattle.wl_session.specs.Steps.{Told, quiet, runs_on, all_named, fed_by, feed_told, turn_told, outcome_told}
 use Rattle.wl_session.specs.Items.{Item, FrameItem, TurnItem, OutcomeItem, items_said, talk, attestation, attestations, reading_items, feed_items, stage_view, call_view, views_item, turn_items, broken_items}
 use Rattle.wl_session.proofs.WithoutSelectors.{blind, blind_said, items_append, one_item, reading_blind, names_blind, turn_blind, given_blind, then_blind}
 

@@ -2,40 +2,12 @@
 use Rattle.std.proofs.Common.{◌≡◌, ℕ, ◌==◌, length, Bool, true, false, nat_lt, if◌then◌else◌, List, [], ◌∷◌, ◌++◌, Option, Some, None, refl, sym, ◌∙◌, subst, inl, inr}
 use Rattle.std.specs.List.{AllByRecursion}
 use Rattle.std.proofs.lemmas.Bool.{cases_Bool}
-use Rattle.h2_conn.specs.declared.fault.ConnFault.{ConnFault}
-use Rattle.h2_conn.specs.declared.phase.Phase.{Phase}
-use Rattle.h2_conn.specs.Conns.{withdraws, flush_of}
-use Rattle.h2_conn.specs.Sound.{SoundPhase}
+use Rattle.wl_session.proofs.Common.{ConnFault, Phase, withdraws, flush_of, SoundPhase, framed, Refusal, NoIdentity, LongResponse, UnknownService, Unsigned, Unattested, standing_at, JwtItem, spell_jwt, capped, spell_state, Publication, ViewModel, view_in, answer_of, asks_of, Answer, Denied, Wait, TooLong, Message, Method3, Wanted, JwtAsk, JwtOutcome, CallKind, Stream, Tokens, Check, Watch, Stage, Unnamed, Ready, Asking, ServedCall, was_seen, Turned, goes_on, has_ended, with_refusal, with_message, with_last_message, stream_answer, health_of, token_answer, call_answer, stage_turn, call_turn, turn_before, calls_turn, change_first, is_unnamed, name_call, name_stage, name_on, name_first, is_asking, item_for, next_ask, give_call, give_stage, give_on, give_first, Talking, written, with_turned, turn_said, name_said, given_said, CameOn}
 use Rattle.h2_conn.specs.Holding.{IsHeld, IsSilent}
 use Rattle.h2_conn.proofs.OfferedMessages.{held_lasts, silent_lasts, withdrawn_here}
-use Rattle.grpc_wire.specs.Messages.{framed}
-use Rattle.grpc_wire.specs.declared.refusal.Refusal.{Refusal}
-use Rattle.grpc_wire.specs.declared.refusal.Refusal.TheVariants.{NoIdentity, LongResponse, UnknownService, Unsigned, Unattested}
-use Rattle.grpc_conn.specs.Calls.{standing_at}
-use Rattle.workload_proto.specs.declared.message.JwtItem.{JwtItem}
-use Rattle.workload_proto.specs.Spelling.{spell_jwt, capped}
-use Rattle.wl_health.specs.Messages.{spell_state}
-use Rattle.wl_snapshot.specs.Snapshots.{Publication}
-use Rattle.wl_snapshot.specs.Views.{ViewModel, view_in}
-use Rattle.wl_snapshot.specs.Answers.{answer_of, asks_of}
-use Rattle.wl_snapshot.specs.declared.answers.Answer.{Answer}
-use Rattle.wl_snapshot.specs.declared.answers.Answer.TheVariants.{Denied, Wait, TooLong, Message}
-use Rattle.wl_snapshot.specs.declared.answers.Method3.{Method3}
-use Rattle.wl_snapshot.specs.declared.token_asks.Wanted.{Wanted}
-use Rattle.wl_session.specs.declared.asks.JwtAsk.{JwtAsk}
-use Rattle.wl_session.specs.declared.asks.JwtOutcome.{JwtOutcome}
 use Rattle.wl_session.specs.declared.asks.JwtOutcome.TheVariants as outcomes
-use Rattle.wl_session.specs.declared.served.CallKind.{CallKind}
-use Rattle.wl_session.specs.declared.served.CallKind.TheVariants.{Stream, Tokens, Check, Watch}
-use Rattle.wl_session.specs.declared.served.Stage.{Stage}
-use Rattle.wl_session.specs.declared.served.Stage.TheVariants.{Unnamed, Ready, Asking}
-use Rattle.wl_session.specs.declared.served.ServedCall.{ServedCall}
-use Rattle.wl_session.specs.Kinds.{was_seen}
-use Rattle.wl_session.specs.Answering.{Turned, goes_on, has_ended, with_refusal, with_message, with_last_message, stream_answer, health_of, token_answer, call_answer, stage_turn, call_turn, turn_before, calls_turn}
-use Rattle.wl_session.specs.Tokens.{change_first, is_unnamed, name_call, name_stage, name_on, name_first, is_asking, item_for, token_message, next_ask, give_call, give_stage, give_on, give_first}
-use Rattle.wl_session.specs.Talks.{Talking, written}
-use Rattle.wl_session.specs.Sessions.{with_turned, turn_said, name_said, given_said}
-use Rattle.wl_session.specs.Completing.{HasAnswer, HasAnswerOn, HasLastAnswer, ShowsStage, CameOn, Shows, AreApart, IsComplete}
+use Rattle.wl_session.specs.Tokens.{token_message}
+use Rattle.wl_session.specs.Completing.{HasAnswer, HasAnswerOn, HasLastAnswer, ShowsStage, Shows, AreApart, IsComplete}
 use Rattle.wl_session.proofs.Streams.{Keeps, keeps_itself, keeps_both, Stands, stands_itself, stands_both, flush_stands, flush_keeps, withdrawal_stands, withdrawal_keeps, refusal_stands, refusal_keeps, answer_stands, answer_keeps, answer_held, last_answer_stands, last_answer_keeps}
 use Rattle.wl_session.proofs.Attestations.{first_here, first_later}
 

@@ -1,14 +1,9 @@
 -- On which publications a turn may be taken after a call.
 use Rattle.std.proofs.Common.{◌≡◌, ℕ, ◌<◌, List, Option, Some, None, Ok, refl, sym, subst, arith}
 use Rattle.std.specs.Prelude.{Result, Err, IsSome}
-use Rattle.h2_frame.specs.Reading.{End, reading_from}
-use Rattle.h2_conn.specs.declared.fault.ConnFault.{ConnFault}
-use Rattle.wl_snapshot.specs.Snapshots.{Publication}
-use Rattle.wl_session.specs.declared.asks.JwtOutcome.{JwtOutcome}
-use Rattle.wl_session.specs.declared.asks.SessionFault.{SessionFault}
+use Rattle.wl_session.proofs.Common.{End, reading_from, ConnFault, Publication, JwtOutcome, SessionFault, Talking, Said, SessionState, Running, Fallen, feed_said, turn_said, name_said, given_said, Goes, Turns}
 use Rattle.wl_session.specs.declared.asks.SessionFault.TheVariants as faults
-use Rattle.wl_session.specs.Talks.{Talking, Said}
-use Rattle.wl_session.specs.Sessions.{SessionState, Running, Fallen, OutOfMemory, fresh_session, feed_said, turn_said, name_said, given_said, state_of_fault, Says, Goes, Feeds, Turns, Names, GivesOutcome, unnamed_in, asks_in}
+use Rattle.wl_session.specs.Sessions.{OutOfMemory, fresh_session, state_of_fault, Says, Feeds, Names, GivesOutcome, unnamed_in, asks_in}
 use Rattle.wl_session.specs.Settled.{MayFollow, MayTurn, FirstMayTurn, FeedKeepsTurn, NameKeepsTurn, TokenKeepsTurn, TurnMayFollow}
 
 pub fresh_follows : (x : Publication) (s : SessionState) → s ≡ fresh_session → MayTurn x s

@@ -1,11 +1,8 @@
 -- Turns, one call after another.
 use Rattle.std.proofs.Common.{◌≡◌, Option, List, [], ◌∷◌, ◌++◌, refl, sym, ap, ◌∙◌, append_assoc}
 use Rattle.std.proofs.lemmas.List.{append-nil}
-use Rattle.h2_conn.specs.declared.phase.Phase.{Phase}
-use Rattle.wl_snapshot.specs.Snapshots.{Publication}
-use Rattle.wl_session.specs.declared.served.ServedCall.{ServedCall}
-use Rattle.wl_session.specs.declared.served.Stage.{Stage}
-use Rattle.wl_session.specs.Answering.{Turned, kept_of, stage_turn, call_turn, calls_turn, turn_before}
+use Rattle.wl_session.proofs.Common.{Phase, Publication, ServedCall, Stage, Turned, stage_turn, call_turn, calls_turn, turn_before}
+use Rattle.wl_session.specs.Answering.{kept_of}
 
 -- calls in two parts
 calls_on : (x : Publication) (cs ds : List ServedCall) (p : Phase) → calls_turn x (cs ++ ds) p ≡ turn_before (calls_turn x cs p) (calls_turn x ds)

@@ -3,21 +3,11 @@
 use Rattle.std.proofs.Common.{◌≡◌, ℕ, false, List, [], ◌∷◌, Option, Some, None, Result, Ok, Err, sym, subst, refl}
 use Rattle.std.proofs.lemmas.List.{append-nil}
 use Rattle.std.specs.List.{list_any}
-use Rattle.h2_frame.specs.Reading.{End, Reading, reading_from}
-use Rattle.h2_conn.specs.declared.fault.ConnFault.{ConnFault}
-use Rattle.wl_snapshot.specs.Snapshots.{Publication}
-use Rattle.wl_snapshot.specs.Views.{ViewModel, view_in}
-use Rattle.wl_session.specs.declared.asks.JwtOutcome.{JwtOutcome}
-use Rattle.wl_session.specs.declared.asks.SessionFault.{SessionFault}
+use Rattle.wl_session.proofs.Common.{End, Reading, reading_from, ConnFault, Publication, ViewModel, view_in, JwtOutcome, SessionFault, Stage, Unnamed, Ready, Asking, ServedCall, calls_turn, Talking, Said, silent, written, SessionState, Running, Fallen, feed_said, turn_said, given_said, Goes, Turns, unnamed_count, names_said, SettledOn}
 use Rattle.wl_session.specs.declared.asks.SessionFault.TheVariants as faults
-use Rattle.wl_session.specs.declared.served.Stage.{Stage}
-use Rattle.wl_session.specs.declared.served.Stage.TheVariants.{Unnamed, Ready, Asking}
-use Rattle.wl_session.specs.declared.served.ServedCall.{ServedCall}
-use Rattle.wl_session.specs.Answering.{calls_turn}
-use Rattle.wl_session.specs.Talks.{Talking, Said, silent, written}
-use Rattle.wl_session.specs.Sessions.{SessionState, Running, Fallen, OutOfMemory, feed_said, turn_said, given_said, state_by, Goes, Turns}
-use Rattle.wl_session.specs.Steps.{unnamed_count, names_said, fed_by, feed_told, turn_told, outcome_told}
-use Rattle.wl_session.specs.Settled.{is_new, WasSeenOn, WasSeen, WereSeen, SettledOn, IsSettled, StageIs, EachIs, EachIsIn, IsShownBy, IsShown}
+use Rattle.wl_session.specs.Sessions.{OutOfMemory, state_by}
+use Rattle.wl_session.specs.Steps.{fed_by, feed_told, turn_told, outcome_told}
+use Rattle.wl_session.specs.Settled.{is_new, WasSeenOn, WasSeen, WereSeen, IsSettled, StageIs, EachIs, EachIsIn, IsShownBy, IsShown}
 use Rattle.wl_session.proofs.Agreements.{again, calls_seen}
 use Rattle.wl_session.proofs.CallWalk.{CallRule, Each, IsKept, IsKeptOn, names_each, turn_each, fed_each as fed_all, given_each}
 use Rattle.wl_session.proofs.SessionFacts.{seen_were, were_have}

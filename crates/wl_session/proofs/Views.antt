@@ -3,10 +3,9 @@ use Rattle.std.proofs.Common.{◌≡◌, ℕ, true, List, filter, Some, refl, ap
 use Rattle.wl_entry.specs.Entitled.{is_entitled}
 use Rattle.wl_entry.specs.declared.entries.Entry.{Entry}
 use Rattle.wl_match.specs.Indexes.{items_at}
-use Rattle.wl_snapshot.specs.Snapshots.{Publication}
-use Rattle.wl_snapshot.specs.Views.{ViewModel, view_model_of, view_in, entries_at}
+use Rattle.wl_session.proofs.Common.{Publication, ViewModel, view_in, was_seen}
+use Rattle.wl_snapshot.specs.Views.{view_model_of, entries_at}
 use Rattle.wl_snapshot.proofs.Equalities.{view_model_is}
-use Rattle.wl_session.specs.Kinds.{was_seen}
 
 same_items : (entries : List Entry) (places : List ℕ) → entries_at entries places ≡ items_at entries places
 unfolding entries_at items_at

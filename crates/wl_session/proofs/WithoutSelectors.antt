@@ -1,45 +1,16 @@
 -- What callers are attested as isn't part of a talk: a talk without it goes on alike.
 use Rattle.std.proofs.Common.{◌≡◌, ℕ, ◌==◌, Bool, true, false, not, nat_lt, if◌then◌else◌, List, [], ◌∷◌, ◌++◌, map, length, Option, Some, None, refl, sym, ap, ◌∙◌}
 use Rattle.std.proofs.lemmas.List.{append-nil, map-append}
-use Rattle.h2_frame.specs.declared.fault.FrameFault.{FrameFault}
-use Rattle.h2_frame.specs.declared.frame.Frame.{Frame}
-use Rattle.h2_frame.specs.Reading.{End, Opening, Rest, Fault, Reading}
-use Rattle.h2_conn.specs.declared.fault.ConnFault.{ConnFault}
-use Rattle.h2_conn.specs.declared.happening.Happening.{Happening}
+use Rattle.wl_session.proofs.Common.{FrameFault, Frame, End, Opening, Rest, Fault, Reading, ConnFault, Happening, Phase, frame_result, frame_fault_on, after_frame_fault, LongResponse, UnknownService, CallEvent, verdict, standing_of_head, standing_at, event_at, calls_after, with_call, JwtItem, spell_jwt, capped, spell_state, Publication, ViewModel, view_in, answer_of, asks_of, Answer, Denied, Wait, TooLong, Message, Method3, Wanted, JwtAsk, JwtOutcome, CallKind, Stream, Tokens, Check, Watch, Stage, Unnamed, Ready, Asking, ServedCall, was_seen, Turned, goes_on, has_ended, with_refusal, with_last_message, stream_answer, health_of, token_answer, call_answer, stage_turn, call_turn, turn_before, calls_turn, change_first, is_unnamed, name_stage, name_on, name_first, is_asking, item_for, next_ask, give_call, give_stage, give_on, give_first, Talking, Said, first_of, then_, silent, written, with_served, after_event, after_body, after_happening, after_happenings, after_frame, frame_said, frames_said, break_said, with_turned, ended_by, feed_said, turn_said, name_said, given_said, names_said}
 use Rattle.h2_conn.specs.declared.happening.Happening.TheVariants as happening
-use Rattle.h2_conn.specs.declared.phase.Phase.{Phase}
-use Rattle.h2_conn.specs.Conns.{frame_result, frame_fault_on, after_frame_fault}
-use Rattle.grpc_wire.specs.declared.refusal.Refusal.TheVariants.{LongResponse, UnknownService}
-use Rattle.grpc_conn.specs.declared.event.CallEvent.{CallEvent}
 use Rattle.grpc_conn.specs.declared.event.CallEvent.TheVariants.{Nothing, Malformed, Refuse}
 use Rattle.grpc_conn.specs.declared.event.CallEvent.TheVariants as calls
-use Rattle.grpc_conn.specs.Verdicts.{verdict}
-use Rattle.grpc_conn.specs.Calls.{standing_of_head, standing_at, event_at, calls_after, with_call, without}
-use Rattle.workload_proto.specs.declared.message.JwtItem.{JwtItem}
-use Rattle.workload_proto.specs.Spelling.{spell_jwt, capped}
-use Rattle.wl_health.specs.Messages.{spell_state}
-use Rattle.wl_snapshot.specs.Snapshots.{Publication}
-use Rattle.wl_snapshot.specs.Views.{ViewModel, view_in}
-use Rattle.wl_snapshot.specs.Answers.{answer_of, asks_of}
-use Rattle.wl_snapshot.specs.declared.answers.Answer.{Answer}
-use Rattle.wl_snapshot.specs.declared.answers.Answer.TheVariants.{Denied, Wait, TooLong, Message}
-use Rattle.wl_snapshot.specs.declared.answers.Method3.{Method3}
-use Rattle.wl_snapshot.specs.declared.token_asks.Wanted.{Wanted}
-use Rattle.wl_session.specs.declared.asks.JwtAsk.{JwtAsk}
-use Rattle.wl_session.specs.declared.asks.JwtOutcome.{JwtOutcome}
+use Rattle.grpc_conn.specs.Calls.{without}
 use Rattle.wl_session.specs.declared.asks.JwtOutcome.TheVariants as outcomes
-use Rattle.wl_session.specs.declared.served.CallKind.{CallKind}
-use Rattle.wl_session.specs.declared.served.CallKind.TheVariants.{Stream, Tokens, Check, Watch}
-use Rattle.wl_session.specs.declared.served.Stage.{Stage}
-use Rattle.wl_session.specs.declared.served.Stage.TheVariants.{Unnamed, Ready, Asking}
-use Rattle.wl_session.specs.declared.served.ServedCall.{ServedCall}
-use Rattle.wl_session.specs.Kinds.{kind_of, was_seen}
-use Rattle.wl_session.specs.Answering.{Turned, goes_on, has_ended, with_refusal, with_last_message, stream_answer, health_of, token_answer, call_answer, stage_turn, call_turn, turn_before, calls_turn}
-use Rattle.wl_session.specs.Tokens.{change_first, is_unnamed, is_unnamed_stage, name_stage, name_on, name_first, is_asking, is_asking_stage, item_for, next_ask, give_call, give_stage, give_on, give_first}
-use Rattle.wl_session.specs.Talks.{Talking, Said, first_of, then_, silent, written, with_served, others, after_event, after_body, after_happening, after_happenings, after_frame, frame_said, frames_said, break_said}
-use Rattle.wl_session.specs.Sessions.{with_turned, ended_by, feed_said, turn_said, name_said, given_said}
+use Rattle.wl_session.specs.Kinds.{kind_of}
+use Rattle.wl_session.specs.Tokens.{is_unnamed_stage, is_asking_stage}
+use Rattle.wl_session.specs.Talks.{others}
 use Rattle.wl_session.proofs.ItemSequences.{then_assoc, then_silent}
-use Rattle.wl_session.specs.Steps.{names_said}
 use Rattle.wl_session.specs.Items.{Item, FrameItem, BrokenItem, answered_where, calls_on, views_said, item_said, items_said, attestation, broken_items, reading_items, stage_view, call_view}
 use Rattle.wl_session.proofs.Attestations.{first_here, first_later, first_of_none}
 

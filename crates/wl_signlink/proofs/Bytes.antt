@@ -11,11 +11,6 @@ use Rattle.serde_json.specs.Data.{string}
 use Rattle.serde_json.specs.View.{items_of}
 use Rattle.serde_json.specs.Written.{items_have_float}
 
--- what reading bytes as UTF-8 tells
-pub told : {X E : Type 0} (bytes : List ℕ) (P : X → Type 0) (Q : E → Type 0) (r : Result X E) → MatchResult r (λ x. P x × IsUtf8 bytes) (λ e. (IsUtf8 bytes → ⊥) × Q e) → is_ok r ≡ is_utf8 bytes
-told bytes P Q (Ok x) h = sym (is_utf8-from_IsUtf8 bytes h.1)
-told bytes P Q (Err e) h = sym (false_from_ne_true (is_utf8 bytes) (λ yes. h.0 (IsUtf8-from_is_utf8 bytes yes)))
-
 -- each of a list of texts is one
 pub text_at : (list : List (List ℕ)) (i : ℕ) (d : List ℕ) → list_all is_utf8 list ≡ true → i < length list → is_utf8 (get_or list i d) ≡ true
 text_at list i d all within = by (is_utf8 (get_or list i d)) refl

@@ -7,8 +7,8 @@ use Rattle.std.proofs.Common.{arith}
 use Rattle.std.proofs.lemmas.List.{length-append}
 use Rattle.std.proofs.lemmas.Map.Views.{length-le_from_below}
 use Rattle.sorted_lists.specs.Keys.{item_at}
-use Rattle.sorted_lists.proofs.Chosen.{rises_filter, all_filter, length_filter, rises_places, all_places}
-use Rattle.sorted_lists.proofs.Found.{found_all}
+use Rattle.sorted_lists.proofs.Selections.{rises_filter, all_filter, length_filter, rises_places, all_places}
+use Rattle.sorted_lists.proofs.SearchResults.{found_all}
 use Rattle.wl_entry.specs.Keys.{entry_key}
 use Rattle.wl_entry.specs.Limits.{EntryWithin}
 use Rattle.wl_entry.specs.declared.entries.Entry.{Entry}

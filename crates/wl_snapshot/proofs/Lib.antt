@@ -3,3 +3,4 @@ pub mod ViewModels
 pub mod Equalities
 mod ItemBytes
 mod Marks
+pub mod Samples

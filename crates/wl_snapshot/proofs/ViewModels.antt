@@ -4,8 +4,8 @@ use Rattle.std.proofs.Common.{arith, refl, sym, ◌∙◌, ap, subst}
 use Rattle.std.proofs.lemmas.List.{length-map}
 use Rattle.list_laws.specs.Lists.{Rises}
 use Rattle.sorted_lists.specs.Keys.{item_at}
-use Rattle.sorted_lists.proofs.Chosen.{rises_filter, all_filter, length_filter, rises_map, all_map, both_all}
-use Rattle.sorted_lists.proofs.Found.{found_has}
+use Rattle.sorted_lists.proofs.Selections.{rises_filter, all_filter, length_filter, rises_map, all_map, both_all}
+use Rattle.sorted_lists.proofs.SearchResults.{found_has}
 use Rattle.wl_entry.specs.Asks.{is_ask_of}
 use Rattle.wl_entry.specs.Keys.{entry_key, svid_key, bundle_key}
 use Rattle.wl_entry.specs.Limits.{EntryWithin, BundleWithin, SignedWithin}

@@ -1,14 +1,9 @@
 -- The asks of entries rise as the entries do.
 use Rattle.std.specs.Prelude.{◌≡◌, List, map}
 use Rattle.std.proofs.Common.{refl, sym, subst}
-use Rattle.list_laws.specs.Lists.{Rises}
+use Rattle.wl_store.proofs.Common.{Rises, ask_of, entry_key, Ask, Entry, asks_of}
 use Rattle.list_laws.proofs.AscendingKeys.{rises_map}
-use Rattle.wl_entry.specs.Asks.{ask_of}
-use Rattle.wl_entry.specs.Keys.{entry_key}
-use Rattle.wl_entry.specs.declared.asks.Ask.{Ask}
-use Rattle.wl_entry.specs.declared.entries.Entry.{Entry}
 use Rattle.wl_entry.specs.Keys.{ask_key}
-use Rattle.wl_store.specs.Stores.{asks_of}
 
 pub asks_rise : (entries : List Entry) (asks : List Ask) → asks ≡ asks_of entries → Rises (map entry_key entries) → Rises (map ask_key asks)
 asks_rise entries asks are rises =

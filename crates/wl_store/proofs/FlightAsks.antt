@@ -9,9 +9,7 @@ use Rattle.std.specs.Cmp.Lexicographic.{slice_cmp, pointwise, bytes_decides}
 use Rattle.std.proofs.lemmas.List.{map-append, take_more}
 use Rattle.std.proofs.lemmas.List.Elements.{filter-append}
 use Rattle.std.proofs.lemmas.Map.Text.{is_eq-slice_cmp}
-use Rattle.wl_entry.specs.Same.{same_ask}
-use Rattle.wl_entry.specs.declared.asks.Ask.{Ask}
-use Rattle.wl_store.specs.declared.tickets.Flight.{Flight}
+use Rattle.wl_store.proofs.Common.{same_ask, Ask, Flight}
 use Rattle.wl_store.specs.Stores.{is_in_flight}
 use Rattle.wl_store.specs.Groups.{flight_ask, asks_under}
 

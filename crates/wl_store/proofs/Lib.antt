@@ -1,3 +1,4 @@
+mod Common
 pub mod Asks
 pub mod FlightAsks
 pub mod Publications

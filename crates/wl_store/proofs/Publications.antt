@@ -3,21 +3,14 @@ use Rattle.std.specs.Prelude.{◌≡◌, ℕ, Bool, true, false, if◌then◌els
 use Rattle.std.specs.Str.{bytes_eq}
 use Rattle.std.specs.List.Sorted.{IsStrictlySortedBy}
 use Rattle.std.proofs.Common.{arith, refl, sym, ◌∙◌, ap}
-use Rattle.list_laws.specs.Lists.{Rises}
+use Rattle.wl_store.proofs.Common.{Rises, ask_of, entry_key, same_ask, Ask, Entry, Bundle, Svid, Cached, is_listed, asks_of}
 use Rattle.list_laws.specs.Keys.{item_at}
 use Rattle.list_laws.proofs.Elements.{all_such}
-use Rattle.wl_entry.specs.Asks.{ask_of, is_ask_of}
-use Rattle.wl_entry.specs.Keys.{entry_key}
-use Rattle.wl_entry.specs.Same.{same_ask}
-use Rattle.wl_entry.specs.declared.asks.Ask.{Ask}
-use Rattle.wl_entry.specs.declared.entries.Entry.{Entry}
-use Rattle.wl_entry.specs.declared.bundles.Bundle.{Bundle}
-use Rattle.wl_entry.specs.declared.signing.Svid.{Svid}
+use Rattle.wl_entry.specs.Asks.{is_ask_of}
 use Rattle.wl_snapshot.specs.Snapshots.{IsPublication, IsAsked}
 use Rattle.wl_entry.specs.Keys.{ask_key}
-use Rattle.svid_cache.specs.Caches.{Cached, IsCached, is_listed}
+use Rattle.svid_cache.specs.Caches.{IsCached}
 use Rattle.svid_cache.proofs.KeyTests.{passes, listed_found}
-use Rattle.wl_store.specs.Stores.{asks_of}
 use Rattle.wl_store.specs.Steps.{IsStock}
 use Rattle.wl_store.proofs.Asks.{asks_rise}
 

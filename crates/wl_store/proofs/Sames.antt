@@ -2,12 +2,9 @@
 use Rattle.std.specs.Prelude.{◌≡◌, ◌&&◌, Bool, true, false, List}
 use Rattle.std.specs.Cmp.Lexicographic.{pointwise}
 use Rattle.std.proofs.Common.{refl, ◌∙◌}
-use Rattle.wl_entry.specs.declared.entries.Entry.{Entry}
-use Rattle.wl_entry.specs.declared.bundles.Bundle.{Bundle}
-use Rattle.wl_entry.specs.declared.signing.Svid.{Svid}
-use Rattle.wl_entry.specs.Same.{same_entry, same_svid, same_bundle}
+use Rattle.wl_store.proofs.Common.{Entry, Bundle, Svid, same_svid, Publication}
+use Rattle.wl_entry.specs.Same.{same_entry, same_bundle}
 use Rattle.wl_entry.proofs.Sames.{both_true, list_self, entry_self, svid_self, bundle_self}
-use Rattle.wl_snapshot.specs.Snapshots.{Publication}
 use Rattle.wl_store.specs.Stores.{shows_parts}
 
 -- a publication shows its own parts

@@ -8,17 +8,12 @@ use Rattle.svid_cache.specs.declared.install.Installed.{Installed}
 use Rattle.svid_cache.specs.declared.install.Installed.TheVariants as installed
 use Rattle.std.specs.Cmp.Lexicographic.{pointwise}
 use Rattle.std.proofs.Common.{arith, refl, sym, ◌∙◌, ap, subst}
-use Rattle.wl_entry.specs.Same.{same_entry, same_svid, same_bundle}
+use Rattle.wl_store.proofs.Common.{same_svid, Ask, Entry, Bundle, Svid, Publication, asks_of, Flight, Cached, is_listed}
+use Rattle.wl_entry.specs.Same.{same_entry, same_bundle}
 use Rattle.list_laws.proofs.Elements.{all_filter, length_filter, all_append}
-use Rattle.wl_entry.specs.declared.asks.Ask.{Ask}
 use Rattle.wl_entry.specs.declared.signing.Signed.{Signed}
-use Rattle.wl_entry.specs.declared.entries.Entry.{Entry}
-use Rattle.wl_entry.specs.declared.bundles.Bundle.{Bundle}
-use Rattle.wl_entry.specs.declared.signing.Svid.{Svid}
-use Rattle.wl_snapshot.specs.Snapshots.{Publication}
-use Rattle.wl_store.specs.Stores.{Store, asks_of, cached_of, refusal, install, svids_after, as_unfit, leaf_judged, shows, shows_parts, publish, after_signed, with_entries, without_flight}
-use Rattle.wl_store.specs.declared.tickets.Flight.{Flight}
-use Rattle.svid_cache.specs.Caches.{Cached, is_listed, kept_for, with_svid, is_below, is_above, unless_older, unless_unfit, has_ended, lasts, is_refused}
+use Rattle.wl_store.specs.Stores.{Store, cached_of, refusal, install, svids_after, as_unfit, leaf_judged, shows, shows_parts, publish, after_signed, with_entries, without_flight}
+use Rattle.svid_cache.specs.Caches.{kept_for, with_svid, is_below, is_above, unless_older, unless_unfit, has_ended, lasts, is_refused}
 use Rattle.wl_store.specs.declared.tickets.Change.TheVariants as change
 use Rattle.wl_store.specs.Steps.{Stored, stored_after, stored_of, change_to, Trusted, AllTrusted, with_parts, IsInstalled}
 use Rattle.std.proofs.lemmas.Bool.{and_parts}

@@ -4,7 +4,7 @@ use Rattle.std.specs.List.{list_any}
 use Rattle.std.proofs.Common.{arith, refl, sym, ◌∙◌, ap, append-nil}
 use Rattle.std.proofs.lemmas.List.{drop_more, drop_all}
 use Rattle.std.proofs.lemmas.Bool.Decides.{nat_tests}
-use Rattle.wl_store.specs.declared.tickets.Flight.{Flight}
+use Rattle.wl_store.proofs.Common.{Flight}
 use Rattle.wl_store.specs.Flights.{unmarked}
 use Rattle.wl_store.specs.Stores.{without_flight}
 

@@ -5,27 +5,23 @@ use Rattle.std.specs.List.{list_any}
 use Rattle.std.specs.Cmp.Lexicographic.{pointwise}
 use Rattle.std.proofs.Common.{refl, sym, ◌∙◌, ap, subst}
 use Rattle.std.proofs.lemmas.Bool.{or_parts}
-use Rattle.list_laws.specs.Lists.{Rises}
+use Rattle.wl_store.proofs.Common.{Rises, ask_of, entry_key, same_ask, same_svid, Ask, Entry, Svid, Publication, is_listed, Cached, asks_of}
 use Rattle.list_laws.specs.Keys.{item_at}
 use Rattle.list_laws.proofs.Equality.{bytes_are, same_bytes}
 use Rattle.list_laws.proofs.Keys.{found_has}
 use Rattle.wl_selector.specs.Selectors.{has_text}
 use Rattle.wl_selector.proofs.Members.{front_out, back_out}
-use Rattle.wl_entry.specs.Asks.{ask_of, is_ask_of}
-use Rattle.wl_entry.specs.Keys.{entry_key, svid_key}
-use Rattle.wl_entry.specs.Same.{same_ask, same_svid}
-use Rattle.wl_entry.specs.declared.asks.Ask.{Ask}
-use Rattle.wl_entry.specs.declared.entries.Entry.{Entry}
-use Rattle.wl_entry.specs.declared.signing.Svid.{Svid}
+use Rattle.wl_entry.specs.Asks.{is_ask_of}
+use Rattle.wl_entry.specs.Keys.{svid_key}
 use Rattle.wl_entry.proofs.Sames.{entry_is, svids_are}
 use Rattle.wl_entry.proofs.FoundAtKeys.{found_passes}
-use Rattle.wl_snapshot.specs.Snapshots.{Publication, IsPublication, IsAsked}
-use Rattle.svid_cache.specs.Caches.{is_listed, lasts, has_ended, with_svid, Cached}
+use Rattle.wl_snapshot.specs.Snapshots.{IsPublication, IsAsked}
+use Rattle.svid_cache.specs.Caches.{lasts, has_ended, with_svid}
 use Rattle.svid_cache.proofs.AskBlocks.{find_put}
 use Rattle.svid_cache.proofs.KeyTests.{passes, listed_found}
 use Rattle.svid_cache.specs.declared.install.Installed.{Installed}
 use Rattle.svid_cache.specs.declared.install.Installed.TheVariants as installed
-use Rattle.wl_store.specs.Stores.{Store, svids_after, asks_of, publish, next_publication, shows}
+use Rattle.wl_store.specs.Stores.{Store, svids_after, publish, next_publication, shows}
 use Rattle.wl_snapshot.specs.Untouched.{SameBut}
 use Rattle.wl_store.specs.Touched.{is_entry, ids_gone, ids_new, ids_ended}
 use Rattle.wl_store.proofs.Asks.{asks_rise}

@@ -4,14 +4,10 @@ use Rattle.std.specs.Option.{option_eq}
 use Rattle.std.specs.List.{list_any}
 use Rattle.std.specs.Cmp.Lexicographic.{pointwise}
 use Rattle.std.proofs.Common.{refl, sym, ◌∙◌, ap, subst}
-use Rattle.list_laws.specs.Keys.{item_at}
+use Rattle.wl_subscribe.proofs.Common.{item_at, is_entitled, Bundle, Entry, Publication}
 use Rattle.wl_entry.specs.Keys.{bundle_key}
 use Rattle.wl_entry.specs.Same.{same_bundle}
-use Rattle.wl_entry.specs.Entitled.{is_entitled}
-use Rattle.wl_entry.specs.declared.bundles.Bundle.{Bundle}
-use Rattle.wl_entry.specs.declared.entries.Entry.{Entry}
 use Rattle.wl_entry.proofs.Sames.{bundles_are, bundle_self}
-use Rattle.wl_snapshot.specs.Snapshots.{Publication}
 use Rattle.wl_subscribe.specs.Differing.{is_other_bundle, federates_anew}
 
 same_found : (found : Option Bundle) → option_eq same_bundle found found ≡ true

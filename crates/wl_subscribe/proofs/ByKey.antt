@@ -8,10 +8,10 @@ use Rattle.std.specs.Cmp.Lexicographic.{nat_list_cmp_total}
 use Rattle.std.proofs.Common.{Ordering, Less, Equal, Greater, refl, sym, ◌∙◌, ap, subst}
 use Rattle.std.proofs.lemmas.Map.Text.{is_eq-slice_cmp}
 use Rattle.list_laws.specs.Lists.{Rises}
-use Rattle.list_laws.specs.Keys.{item_at}
-use Rattle.list_laws.proofs.Equality.{bytes_are, same_bytes}
+use Rattle.wl_subscribe.proofs.Common.{item_at, bytes_are, same_bytes}
 use Rattle.list_laws.proofs.Keys.{found_all}
 use Rattle.list_laws.proofs.Order.{order, not_same, turned}
+use Rattle.sorted_blocks.proofs.OneMoreItem.{all_past}
 
 -- an item, where it passes a test
 abbrev pub kept : {X : Type 0} → (X → Bool) → Option X → Option X
@@ -82,13 +82,9 @@ first_passed : {X : Type 0} (key : X → List ℕ) (x : X) (xs : List X) (k : Li
 unfolding item_at
 first_passed key x xs k other = rw other refl
 
-all_above : (a b : List ℕ) (ks : List (List ℕ)) → order a b ≡ Less → AllByRecursion (λ z. order b z ≡ Less) ks → AllByRecursion (λ z. order a z ≡ Less) ks
-all_above a b [] less all = tt
-all_above a b (k ∷ ks) less all = (nat_list_cmp_total.trans a b k less all.0, all_above a b ks less all.1)
-
 -- nothing has a key that is below the first one
 below_none : {X : Type 0} (key : X → List ℕ) (y : X) (ys : List X) (k : List ℕ) → order k (key y) ≡ Less → AllByRecursion (λ z. order (key y) z ≡ Less) (map key ys) → item_at key (y ∷ ys) k ≡ None
-below_none key y ys k less above = above_none key k (y ∷ ys) (less, all_above k (key y) (map key ys) less above)
+below_none key y ys k less above = above_none key k (y ∷ ys) (less, all_past k (key y) (map key ys) less above)
 
 none_behind : {X : Type 0} (key : X → List ℕ) (x : X) (xs : List X) (k : List ℕ) → bytes_eq (key x) k ≡ true → AllByRecursion (λ z. order (key x) z ≡ Less) (map key xs) → item_at key xs k ≡ None
 none_behind key x xs k at over = above_none key k xs (subst (λ l. AllByRecursion (λ z. order l z ≡ Less) (map key xs)) (bytes_are (key x) k at) over)

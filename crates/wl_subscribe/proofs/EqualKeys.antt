@@ -1,14 +1,12 @@
 -- What is at a key that is not among those that differ is the same in both lists.
 use Rattle.std.specs.Prelude.{◌≡◌, ℕ, Bool, true, false, List, [], ◌++◌, is_some, Option, Some, None}
 use Rattle.std.proofs.Common.{refl, sym, ◌∙◌, ap, subst}
-use Rattle.list_laws.specs.Keys.{item_at}
-use Rattle.wl_selector.specs.Selectors.{has_text}
+use Rattle.wl_subscribe.proofs.Common.{item_at, has_text, entry_key, Publication}
 use Rattle.wl_selector.proofs.Members.{front_out, back_out}
-use Rattle.wl_entry.specs.Keys.{entry_key, svid_key}
+use Rattle.wl_entry.specs.Keys.{svid_key}
 use Rattle.wl_entry.specs.Same.{same_entry, same_svid}
 use Rattle.wl_entry.proofs.Sames.{entry_is, svid_is}
 use Rattle.wl_entry.proofs.FoundAtKeys.{found_passes}
-use Rattle.wl_snapshot.specs.Snapshots.{Publication}
 use Rattle.wl_snapshot.specs.Untouched.{SameBut}
 use Rattle.wl_subscribe.specs.Differing.{is_item, keys_gone, keys_new}
 use Rattle.wl_subscribe.proofs.ByKey.{key_found}

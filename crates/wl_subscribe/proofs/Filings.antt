@@ -12,11 +12,9 @@ use Rattle.std.proofs.lemmas.List.{take_more}
 use Rattle.std.proofs.lemmas.List.Folds.{list_any-append}
 use Rattle.std.proofs.lemmas.List.Elements.{filter_more}
 use Rattle.std.proofs.lemmas.Map.Text.{is_eq-slice_cmp}
-use Rattle.list_laws.proofs.Equality.{bytes_are, same_bytes}
-use Rattle.wl_selector.specs.Selectors.{has_text, has_texts}
+use Rattle.wl_subscribe.proofs.Common.{bytes_are, same_bytes, has_text, is_entitled, Entry}
+use Rattle.wl_selector.specs.Selectors.{has_texts}
 use Rattle.wl_selector.proofs.Members.{has_text_append}
-use Rattle.wl_entry.specs.Entitled.{is_entitled}
-use Rattle.wl_entry.specs.declared.entries.Entry.{Entry}
 use Rattle.wl_subscribe.specs.Filed.{has_number, numbers_at, is_filed}
 
 or_left : (a b : Bool) → a ≡ true → (a || b) ≡ true

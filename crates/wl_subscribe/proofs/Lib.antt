@@ -1,7 +1,7 @@
+mod Common
 mod Bundles
 mod ByKey
 mod EqualKeys
 pub mod Filings
 mod MemberNumbers
 mod Reasons
-mod Samples

@@ -7,7 +7,7 @@ use Rattle.std.specs.BTreeMap.{BTreeMap, get, is_at, insert_entry}
 use Rattle.std.proofs.Common.{cond, Ordering, Greater, refl, sym, ◌∙◌, ap, subst, arith}
 use Rattle.std.proofs.lemmas.Bool.Decides.{nat_tests}
 use Rattle.std.specs.Cmp.{both_ways}
-use Rattle.wl_selector.specs.Selectors.{has_text}
+use Rattle.wl_subscribe.proofs.Common.{has_text}
 use Rattle.wl_subscribe.specs.Subscribed.{members_without}
 use Rattle.wl_subscribe.specs.Filed.{is_filed, IsKept}
 

@@ -11,19 +11,14 @@ use Rattle.std.proofs.Common.{cond, Less, refl, sym, ◌∙◌, ap, subst, arith
 use Rattle.std.proofs.lemmas.Bool.{and_parts}
 use Rattle.std.proofs.lemmas.Bool.Decides.{nat_tests}
 use Rattle.std.proofs.lemmas.List.Folds.{list_any-append}
-use Rattle.list_laws.specs.Keys.{item_at}
-use Rattle.list_laws.proofs.Equality.{bytes_are, same_bytes}
+use Rattle.wl_subscribe.proofs.Common.{item_at, bytes_are, same_bytes, has_text, is_entitled, entry_key, Entry, Bundle, Publication}
 use Rattle.list_laws.proofs.AscendingKeys.{rises_filter}
-use Rattle.wl_selector.specs.Selectors.{has_text}
-use Rattle.wl_entry.specs.Entitled.{is_entitled}
-use Rattle.wl_entry.specs.Keys.{entry_key, svid_key, bundle_key}
+use Rattle.wl_entry.specs.Keys.{svid_key, bundle_key}
 use Rattle.wl_entry.specs.Same.{same_entry, same_svid, same_bundle}
-use Rattle.wl_entry.specs.declared.entries.Entry.{Entry}
 use Rattle.wl_entry.specs.declared.signing.Svid.{Svid}
-use Rattle.wl_entry.specs.declared.bundles.Bundle.{Bundle}
 use Rattle.wl_entry.proofs.Sames.{entry_is, svid_is, bundle_is, entry_self, svid_self, bundle_self}
 use Rattle.wl_snapshot.specs.declared.views.Held.{Held}
-use Rattle.wl_snapshot.specs.Snapshots.{Publication, IsPublication}
+use Rattle.wl_snapshot.specs.Snapshots.{IsPublication}
 use Rattle.wl_snapshot.specs.Same.{same_view_model}
 use Rattle.wl_snapshot.specs.Views.{ViewModel, held_of, held_key, is_federated, is_seen, view_model_of, view_in}
 use Rattle.wl_snapshot.proofs.Choices.{chosen_by}

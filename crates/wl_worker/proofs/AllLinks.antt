@@ -2,29 +2,15 @@
 use Rattle.std.specs.Prelude.{◌≡◌, ◌⊎◌, ⊤, ℕ, ◌+◌, ◌<◌, ◌≤◌, List, [], ◌∷◌, ◌++◌, length, Option, Some, None, IfSome, IsSome}
 use Rattle.std.proofs.Common.{arith, refl, sym, ◌∙◌, ap, subst, inl, length-append}
 use Rattle.std.proofs.lemmas.List.{append-nil}
-use Rattle.wl_entry.specs.declared.asks.Ask.{Ask}
-use Rattle.wl_entry.specs.declared.signing.Signed.{Signed}
-use Rattle.wl_entry.specs.declared.tokens.JwtToken.{JwtToken}
-use Rattle.wl_edge.specs.declared.origin.Origin.{Origin}
-use Rattle.wl_edge.specs.Edge.{Rose}
-use Rattle.wl_edge.specs.Links.{LinkLog, IsFresh}
-use Rattle.wl_edge.specs.Listeners.{ListenerLog, BoundSocket, CameOver, OnlyAdds, links_given, with_kind, Finishes}
-use Rattle.wl_edge.specs.declared.listener.AcceptKind.{AcceptKind}
+use Rattle.wl_worker.proofs.Common.{Ask, Signed, JwtToken, Origin, Rose, LinkLog, ListenerLog, BoundSocket, OnlyAdds, links_given, with_kind, Finishes, AcceptKind, Delivery, fresh_session, Ended, RoundEnd, SeatEnd, RoseBy, asker, Round, AskedBy, IsIn, ServedState, Around, Stands, Began, RoundTells, Known, AreJudged, TookAllUnless, TookPart, TookFully, SeatWorld, seat_world, known, Tends, Under, SeatView, seat_view, CountsStarved, Runs}
+use Rattle.wl_edge.specs.Links.{IsFresh}
+use Rattle.wl_edge.specs.Listeners.{CameOver}
 use Rattle.wl_edge.specs.declared.listener.AcceptKind.TheVariants as kind
-use Rattle.ask_mail.specs.declared.mail.Delivery.{Delivery}
-use Rattle.wl_session.specs.Sessions.{fresh_session}
-use Rattle.wl_worker.specs.declared.ended.Ended.{Ended}
 use Rattle.wl_worker.specs.declared.ended.Ended.TheVariants as ended
-use Rattle.wl_worker.specs.declared.ended.RoundEnd.{RoundEnd}
 use Rattle.wl_worker.specs.declared.ended.RoundEnd.TheVariants as ends
-use Rattle.wl_worker.specs.declared.seat.SeatEnd.{SeatEnd}
 use Rattle.wl_worker.specs.declared.seat.SeatEnd.TheVariants as seat
-use Rattle.wl_worker.specs.Counts.{RoseBy}
-use Rattle.wl_worker.specs.Outcomes.{asker}
-use Rattle.wl_worker.specs.Rounds.{Round, AskedBy, IsIn}
-use Rattle.wl_worker.specs.Served.{ServedState, Around, Stands, Began, RoundTells}
-use Rattle.wl_worker.specs.Tended.{Known, AreJudged, IsOwn, TookAllUnless, TookPart, TookFully, SeatWorld, seat_world, known, Tends}
-use Rattle.wl_worker.specs.Seating.{Under, under, finished_link, SeatView, seat_view, CountsStarved, Runs, Tending, TendsOn, TendsRest, TendsLast, TendsBy}
+use Rattle.wl_worker.specs.Tended.{IsOwn}
+use Rattle.wl_worker.specs.Seating.{under, finished_link, Tending, TendsOn, TendsRest, TendsLast, TendsBy}
 use Rattle.wl_edge.proofs.KnownSockets.{adds_same}
 use Rattle.wl_worker.proofs.RoundTraces.{nothing_talked}
 use Rattle.wl_worker.proofs.TakenRounds.{began}

@@ -3,28 +3,13 @@ use Rattle.std.proofs.Common.{◌≡◌, ℕ, List, [], ◌∷◌, ◌++◌, Opt
 use Rattle.std.proofs.lemmas.List.{append-nil}
 use mathlib.Core.List.{IsPrefix}
 use Rattle.list_laws.specs.Lists.{BeginsWith}
-use Rattle.wl_entry.specs.declared.asks.Ask.{Ask}
-use Rattle.wl_entry.specs.declared.signing.Signed.{Signed}
-use Rattle.wl_snapshot.specs.Snapshots.{Publication}
+use Rattle.wl_worker.proofs.Common.{Ask, Signed, Publication, Passing, Origin, LinkLog, Heard, AttestorCall, Delivery, JwtAsk, JwtOutcome, SessionState, fresh_session, talk, Ended, RoundEnd, Round, HaveAsks, turned_session, session_after, trace, number_of, AskedBy, AreOutcomes, AreKnown, IsIn, RoseBy, Asker, unanswered, unsigned, GainsAll, IsOutcome, ServedState, Around, Stands, Began, ReadIn, ReadBy, RoundTells, HasSeenLast}
 use Rattle.wl_publish.specs.Lists.{NonFallingFrom}
-use Rattle.wl_publish.specs.Listings.{Passing}
-use Rattle.wl_edge.specs.declared.origin.Origin.{Origin}
-use Rattle.wl_edge.specs.Links.{LinkLog}
-use Rattle.wl_edge.specs.declared.link.Heard.{Heard}
-use Rattle.wl_edge.specs.declared.attestor.AttestorCall.{AttestorCall}
-use Rattle.ask_mail.specs.declared.mail.Delivery.{Delivery}
-use Rattle.wl_session.specs.declared.asks.JwtAsk.{JwtAsk}
-use Rattle.wl_session.specs.declared.asks.JwtOutcome.{JwtOutcome}
-use Rattle.wl_session.specs.Sessions.{SessionState, fresh_session}
-use Rattle.wl_session.specs.Items.{talk}
-use Rattle.wl_worker.specs.declared.ended.Ended.{Ended}
 use Rattle.wl_worker.specs.declared.ended.Ended.TheVariants as ended
-use Rattle.wl_worker.specs.declared.ended.RoundEnd.{RoundEnd}
 use Rattle.wl_worker.specs.declared.ended.RoundEnd.TheVariants as ends
-use Rattle.wl_worker.specs.Rounds.{Round, HaveAsks, turned_session, session_after, trace, numbers, number_of, answers, outcomes, AskedBy, AreRounds, AreOutcomes, AreKnown, IsIn}
-use Rattle.wl_worker.specs.Counts.{RoseBy}
-use Rattle.wl_worker.specs.Outcomes.{Asker, unanswered, unsigned, GainsAll, calls_by, attestor_calls, IsOutcome}
-use Rattle.wl_worker.specs.Served.{ServedState, Around, Stands, Began, ReadIn, ReadBy, OutcomesBy, RoundTells, HasSeenLast}
+use Rattle.wl_worker.specs.Rounds.{numbers, answers, outcomes, AreRounds}
+use Rattle.wl_worker.specs.Outcomes.{calls_by, attestor_calls}
+use Rattle.wl_worker.specs.Served.{OutcomesBy}
 use Rattle.wl_worker.specs.Connections.{CameTo, Gathers, ConnectionTells, Serving}
 use Rattle.wl_worker.proofs.Growth.{gains_none, gains_then, ticked_none, ticked_then, link_none, link_then, rose_none, rose_then, unanswered_append, unsigned_append, in_front, in_back, outcome_grows, have_such}
 use Rattle.wl_worker.proofs.SeenPublications.{read_prefix, rises_over, prefix_then, prefix_same, known_longer}

@@ -1,14 +1,9 @@
 -- The rounds of a connection are determined by what they took from the outside.
 use Rattle.std.proofs.Common.{◌≡◌, ℕ, ◌+◌, ◌≤◌, inl, inr, true, List, [], ◌∷◌, ◌++◌, length, Option, Some, None, is_some, refl, sym, ap, subst, ◌∙◌, append_assoc, arith, length-append}
 use Rattle.std.specs.Prelude.{IsSome}
-use Rattle.wl_snapshot.specs.Snapshots.{Publication}
+use Rattle.wl_worker.proofs.Common.{Publication, Origin, JwtAsk, JwtOutcome, SessionFault, SessionState, unnamed_in, asks_in, failure_in, Round, answer_told, answers_told, shown_told, given_told, outcomes_told, heard_told, heard_session, named_session, turned_session, round_told, HaveCalls, HaveAsks, IsWhole, session_after, pieces, AskedBy, number_of, AreWhole, IsIn, AreKnown}
 use Rattle.wl_publish.specs.Lists.{NumberedFrom, Numbered}
-use Rattle.wl_edge.specs.declared.origin.Origin.{Origin}
-use Rattle.wl_session.specs.declared.asks.JwtAsk.{JwtAsk}
-use Rattle.wl_session.specs.declared.asks.JwtOutcome.{JwtOutcome}
-use Rattle.wl_session.specs.declared.asks.SessionFault.{SessionFault}
-use Rattle.wl_session.specs.Sessions.{SessionState, unnamed_in, asks_in, failure_in}
-use Rattle.wl_worker.specs.Rounds.{Round, answer_told, answers_told, shown_told, given_told, outcomes_told, heard_told, heard_session, named_session, turned_session, round_told, HaveCalls, HaveAsks, IsAsk, any_outcome, IsWhole, session_after, pieces, answers, AskedBy, numbers, number_of, still, found, looks_of, looks, AreWhole, IsIn, IsKnown, AreKnown}
+use Rattle.wl_worker.specs.Rounds.{IsAsk, any_outcome, answers, numbers, still, found, looks_of, looks, IsKnown}
 
 -- ---- lists that end with one item
 

@@ -4,12 +4,11 @@ use Rattle.std.specs.List.{AllByRecursion}
 use Rattle.std.proofs.Common.{arith, refl, sym, ◌∙◌, ap, subst}
 use Rattle.std.proofs.lemmas.Bool.Decides.{nat_tests}
 use Rattle.wl_entry.specs.declared.signing.Svid.{Svid}
-use Rattle.wl_snapshot.specs.Snapshots.{Publication}
+use Rattle.wl_worker.proofs.Common.{Publication, IsLast}
 use Rattle.svid_cache.specs.Caches.{lasts}
 use Rattle.wl_store.specs.Stores.{Store, after_claim, shows_parts}
 use Rattle.wl_store.specs.Steps.{Stored, stored_after}
 use Rattle.wl_store.proofs.StoreSteps.{settled_same, settled_new}
-use Rattle.wl_publish.specs.Lists.{IsLast}
 use Rattle.wl_worker.specs.Upkeep.{NoneEnded}
 
 abbrev AllLast : ℕ → List Svid → Type 0

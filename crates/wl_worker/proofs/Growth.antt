@@ -2,20 +2,12 @@
 use Rattle.std.proofs.Common.{◌≡◌, ℕ, ◌+◌, ◌≤◌, ◌⊎◌, inl, inr, true, List, [], ◌∷◌, ◌++◌, Option, Some, None, sym, ap, ◌∙◌, append_assoc, arith}
 use Rattle.std.specs.Prelude.{IsSomeAnd}
 use Rattle.std.proofs.lemmas.List.{append-nil}
-use Rattle.wl_edge.specs.Edge.{Rose}
-use Rattle.wl_edge.specs.Links.{LinkLog}
-use Rattle.wl_edge.specs.declared.link.Heard.{Heard}
-use Rattle.ask_mail.specs.declared.mail.Delivery.{Delivery}
+use Rattle.wl_worker.proofs.Common.{Rose, LinkLog, Heard, Delivery, JwtToken, SessionState, asks_in, JwtAsk, JwtOutcome, IsIn, HaveAsks, given_told, RoseBy, Asker, unanswered, unsigned, GainsAll, IsOutcome, log_on}
 use Rattle.wl_entry.specs.Fitness.{token_unfit, is_still_fresh}
-use Rattle.wl_entry.specs.declared.tokens.JwtToken.{JwtToken}
-use Rattle.wl_session.specs.Sessions.{SessionState, asks_in}
-use Rattle.wl_session.specs.declared.asks.JwtAsk.{JwtAsk}
-use Rattle.wl_session.specs.declared.asks.JwtOutcome.{JwtOutcome}
 use Rattle.wl_session.specs.declared.asks.JwtOutcome.TheVariants as outcomes
-use Rattle.wl_worker.specs.Rounds.{IsIn, IsAsk, HaveAsks, given_told}
-use Rattle.wl_worker.specs.Counts.{RoseBy}
-use Rattle.wl_worker.specs.Outcomes.{Asker, unanswered, unsigned, GainsAll, Ticked, WasAnswered, IsOutcome}
-use Rattle.wl_worker.specs.Served.{log_on, LinkGains}
+use Rattle.wl_worker.specs.Rounds.{IsAsk}
+use Rattle.wl_worker.specs.Outcomes.{Ticked, WasAnswered}
+use Rattle.wl_worker.specs.Served.{LinkGains}
 
 -- ---- lists that are recorded
 

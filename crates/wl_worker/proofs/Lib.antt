@@ -1,3 +1,4 @@
+mod Common
 pub mod SignerAsks
 pub mod Owners
 pub mod ExpiredGone

@@ -1,18 +1,14 @@
 -- What a connection came to that took all that it was due.
 use Rattle.std.proofs.Common.{◌≡◌, ℕ, ◌⊎◌, inl, inr, Bool, true, List, [], ◌∷◌, ◌++◌, length, Some, None, sym, ap, ◌∙◌}
 use Rattle.std.proofs.lemmas.List.{append-nil}
-use Rattle.h2_conn.specs.declared.fault.ConnFault.{ConnFault}
-use Rattle.wl_snapshot.specs.Snapshots.{Publication}
-use Rattle.wl_edge.specs.Links.{LinkLog}
-use Rattle.wl_edge.specs.declared.link.Heard.{Heard}
+use Rattle.wl_worker.proofs.Common.{ConnFault, Publication, LinkLog, Heard, failure_in, talk, Round, session_after, trace, pieces_given, ServedState, Stands, log_on}
 use Rattle.wl_edge.specs.declared.link.Heard.TheVariants as heard
 use Rattle.wl_session.specs.declared.asks.SessionFault.TheVariants as faults
-use Rattle.wl_session.specs.Sessions.{is_done_in, failure_in}
-use Rattle.wl_session.specs.Items.{talk}
+use Rattle.wl_session.specs.Sessions.{is_done_in}
 use Rattle.wl_worker.specs.declared.ended.Ended.TheVariants as ended
 use Rattle.wl_worker.specs.declared.ended.RoundEnd.TheVariants as ends
-use Rattle.wl_worker.specs.Rounds.{Round, session_after, trace, numbers, pieces_given}
-use Rattle.wl_worker.specs.Served.{ServedState, Stands, log_on, EndIs}
+use Rattle.wl_worker.specs.Rounds.{numbers}
+use Rattle.wl_worker.specs.Served.{EndIs}
 use Rattle.wl_worker.specs.Connections.{GaveEnd, CameTo}
 use Rattle.wl_worker.proofs.RoundNumbers.{all_read, one_unread}
 

@@ -1,33 +1,18 @@
 -- What the parts of a seat's serving do for its links, one after another.
 use Rattle.std.specs.Prelude.{◌≡◌, ◌⊎◌, ℕ, ◌+◌, ◌<◌, ◌≤◌, List, [], ◌∷◌, ◌++◌, length, Option, Some, IfSome, IsSome}
 use Rattle.std.proofs.Common.{arith, refl, sym, ◌∙◌, subst}
-use Rattle.wl_entry.specs.declared.asks.Ask.{Ask}
-use Rattle.wl_entry.specs.declared.signing.Signed.{Signed}
-use Rattle.wl_entry.specs.declared.tokens.JwtToken.{JwtToken}
-use Rattle.wl_publish.specs.Listings.{Passing}
-use Rattle.wl_edge.specs.declared.origin.Origin.{Origin}
-use Rattle.wl_edge.specs.Edge.{Rose}
-use Rattle.wl_edge.specs.Links.{LinkLog, IsFresh}
-use Rattle.wl_edge.specs.Listeners.{ListenerLog, BoundSocket, CameOver, OnlyAdds, with_kind, Finishes}
-use Rattle.wl_edge.specs.declared.fault.EdgeFault.{EdgeFault}
+use Rattle.wl_worker.proofs.Common.{Ask, Signed, JwtToken, Passing, Origin, Rose, LinkLog, ListenerLog, BoundSocket, OnlyAdds, with_kind, Finishes, EdgeFault, fresh_session, Ended, RoundEnd, SeatEnd, RoseBy, asker, ServedState, Around, RoundTells, SeatWorld, seat_world, Tends, Under, SeatView, seat_view, CountsStarved, Slab, links_of}
+use Rattle.wl_edge.specs.Links.{IsFresh}
+use Rattle.wl_edge.specs.Listeners.{CameOver}
 use Rattle.wl_edge.specs.declared.fault.EdgeFault.TheVariants as edge
 use Rattle.wl_edge.specs.declared.listener.AcceptKind.TheVariants as kind
-use Rattle.wl_session.specs.Sessions.{fresh_session}
-use Rattle.wl_worker.specs.declared.ended.Ended.{Ended}
 use Rattle.wl_worker.specs.declared.ended.Ended.TheVariants as ended
-use Rattle.wl_worker.specs.declared.ended.RoundEnd.{RoundEnd}
 use Rattle.wl_worker.specs.declared.ended.RoundEnd.TheVariants as ends
-use Rattle.wl_worker.specs.declared.seat.SeatEnd.{SeatEnd}
 use Rattle.wl_worker.specs.declared.seat.SeatEnd.TheVariants as seat
 use Rattle.wl_worker.specs.declared.step.Step.{Step}
 use Rattle.wl_worker.specs.declared.step.Step.TheVariants as step
-use Rattle.wl_worker.specs.Counts.{RoseBy}
-use Rattle.wl_worker.specs.Outcomes.{asker}
-use Rattle.wl_worker.specs.Served.{ServedState, Around, RoundTells}
-use Rattle.wl_worker.specs.Tended.{SeatWorld, seat_world, Tends}
-use Rattle.wl_worker.specs.Seating.{Under, under, finished_link, SeatView, seat_view, CountsStarved, seat_end_of, TendsRest, TendsBy, KeepsTending, FinishesTending}
-use Rattle.slab.specs.Slab.{Slab, slab_len}
-use Rattle.wl_worker.specs.Slots.{links_of}
+use Rattle.wl_worker.specs.Seating.{under, finished_link, seat_end_of, TendsRest, TendsBy, KeepsTending, FinishesTending}
+use Rattle.slab.specs.Slab.{slab_len}
 use Rattle.wl_worker.proofs.SlotLinks.{count_links}
 use Rattle.wl_worker.proofs.SeatParts.{IsOnStep}
 use Rattle.wl_worker.proofs.AllLinks.{IsOn, going_round, going_over, going_moved, last_moved, rest_on, last_more, last_by, last_tends, going_comes, going_starves, going_starves_served, rest_new, going_answered, going_failed, going_none}

@@ -4,7 +4,7 @@ use Rattle.std.specs.List.{AllByRecursion}
 use Rattle.std.proofs.Common.{arith, refl, sym, ◌∙◌, ap, subst, ⊎_elim}
 use Rattle.std.proofs.lemmas.Bool.Decides.{nat_tests}
 use Rattle.list_laws.proofs.Elements.{all_such, all_append}
-use Rattle.wl_worker.specs.Owners.{owned_by, tag, one_apart}
+use Rattle.wl_worker.proofs.Common.{owned_by, tag, one_apart}
 use Rattle.wl_worker.specs.Numbering.{Numbered, none_apart}
 use Rattle.wl_worker.proofs.Owners.{owned_append, own_tag, other_tag, tally_append, tally_mid, own_once, apart, each_other}
 

@@ -3,7 +3,8 @@ use Rattle.std.specs.Prelude.{◌≡◌, ℕ, ◌+◌, ◌==◌, Bool, true, fal
 use Rattle.std.specs.List.{AllByRecursion}
 use Rattle.std.proofs.Common.{zero, arith, refl, ◌∙◌, ap}
 use Rattle.list_laws.proofs.Equality.{same_number}
-use Rattle.wl_worker.specs.Owners.{owned_by, items_of, tag, one_apart, tally}
+use Rattle.wl_worker.proofs.Common.{owned_by, items_of, tag, one_apart}
+use Rattle.wl_worker.specs.Owners.{tally}
 
 -- ---- what one owner has
 

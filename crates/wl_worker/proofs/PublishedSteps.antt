@@ -3,15 +3,13 @@ use Rattle.std.specs.Prelude.{◌≡◌, ℕ, ◌+◌, Bool, true, false, List, 
 use Rattle.std.specs.List.{Contains}
 use Rattle.std.proofs.Common.{arith, refl, sym, ◌∙◌, ap, subst}
 use Rattle.logbook.specs.Pages.{Book}
-use Rattle.wl_entry.specs.declared.asks.Ask.{Ask}
-use Rattle.wl_entry.specs.declared.signing.Signed.{Signed}
+use Rattle.wl_worker.proofs.Common.{Ask, Signed, Publication, IsLast}
 use Rattle.wl_entry.specs.declared.signing.Svid.{Svid}
 use Rattle.wl_document.specs.declared.fault.DocFault.{DocFault}
 use Rattle.wl_document.specs.declared.fault.DocFault.TheVariants.{NotJson, Version, Missing, Kind, Id, Selector, NoSelectors, Duplicate, ForeignDomain, Base64, NoOwnBundle, TooMany, TooLong, Memory}
 use Rattle.wl_document.specs.Checks.{Faults}
 use Rattle.wl_document.specs.Documents.{document_state}
 use Rattle.wl_document.specs.States.{State}
-use Rattle.wl_snapshot.specs.Snapshots.{Publication}
 use Rattle.svid_cache.specs.Caches.{with_svid, is_below, is_above}
 use Rattle.svid_cache.specs.declared.install.Installed.{Installed}
 use Rattle.svid_cache.specs.declared.install.Installed.TheVariants as installed
@@ -20,7 +18,6 @@ use Rattle.wl_store.specs.declared.tickets.Change.TheVariants as change
 use Rattle.wl_store.specs.Stores.{Store, with_entries, after_signed, install, svids_after, shows_parts}
 use Rattle.wl_store.specs.Steps.{Stored, stored_after, after_sync, change_to}
 use Rattle.wl_store.proofs.StoreSteps.{settled_same, settled_new, change_same}
-use Rattle.wl_publish.specs.Lists.{IsLast}
 use Rattle.wl_publish.specs.Listings.{Listing, listing}
 use Rattle.wl_desk.specs.Desks.{grown, noted}
 use Rattle.wl_edge.specs.declared.signer.SignerCall.TheVariants.{X509}

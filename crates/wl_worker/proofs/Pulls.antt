@@ -1,10 +1,9 @@
 -- Laws of an upstream that is asked again and again.
 use Rattle.std.specs.Prelude.{ℕ, ◌+◌, ◌<◌, ◌≤◌, ◌^◌, [], ◌++◌, Option, Some, None}
 use Rattle.std.proofs.Common.{arith, ◌∙◌, sym, subst, append_assoc, inl, inr, ⊎_elim}
-use Rattle.wl_edge.specs.Edge.{Rose}
+use Rattle.wl_worker.proofs.Common.{Rose, RoseBy}
 use Rattle.wl_edge.specs.Upstreams.{UpstreamLog, one_more}
 use Rattle.wl_worker.proofs.Owners.{none_after}
-use Rattle.wl_worker.specs.Counts.{RoseBy}
 use Rattle.wl_worker.specs.Upkeep.{PulledOnce, PulledLater, PulledAgain}
 
 pub not_pulled : (told : Option UpstreamLog) → PulledLater told told

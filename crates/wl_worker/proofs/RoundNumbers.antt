@@ -1,13 +1,9 @@
 -- One number is read in each round, except the one in which the talk fails.
 use Rattle.std.proofs.Common.{◌≡◌, ◌+◌, List, [], ◌∷◌, length, Option, Some, None, refl, ap, ◌∙◌, arith, length-append}
 use Rattle.std.specs.Prelude.{IsSome}
-use Rattle.wl_snapshot.specs.Snapshots.{Publication}
-use Rattle.wl_session.specs.declared.asks.JwtAsk.{JwtAsk}
-use Rattle.wl_session.specs.declared.asks.JwtOutcome.{JwtOutcome}
-use Rattle.wl_session.specs.declared.asks.SessionFault.{SessionFault}
-use Rattle.wl_session.specs.Sessions.{SessionState, Running, Fallen, OutOfMemory, asks_in, failure_in}
-use Rattle.wl_session.specs.Steps.{turn_told, outcome_told}
-use Rattle.wl_worker.specs.Rounds.{Round, shown_told, given_told_at, given_told, outcomes_told, named_session, turned_session, round_told, session_after, pieces, numbers, number_of, AreWhole}
+use Rattle.wl_worker.proofs.Common.{Publication, JwtAsk, JwtOutcome, SessionFault, SessionState, Running, Fallen, OutOfMemory, asks_in, failure_in, turn_told, Round, shown_told, given_told_at, given_told, outcomes_told, named_session, turned_session, round_told, session_after, pieces, number_of, AreWhole}
+use Rattle.wl_session.specs.Steps.{outcome_told}
+use Rattle.wl_worker.specs.Rounds.{numbers}
 
 -- ---- what goes on, goes on
 

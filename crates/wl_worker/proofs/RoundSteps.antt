@@ -1,25 +1,11 @@
 -- A step of the code is a round of the trace, or the part of one that was taken before memory ran out.
 use Rattle.std.proofs.Common.{◌≡◌, ℕ, ◌⊎◌, inl, inr, List, [], ◌∷◌, Option, Some, None, Ok, Err, refl, sym, ap, subst, ◌∙◌}
 use Rattle.std.specs.Prelude.{Result, OnOk, IsSome, IfSome}
-use Rattle.h2_conn.specs.declared.fault.ConnFault.{ConnFault}
-use Rattle.wl_octets.specs.declared.memory.Memory.{Memory}
-use Rattle.wl_entry.specs.declared.asks.Ask.{Ask}
-use Rattle.wl_entry.specs.declared.signing.Signed.{Signed}
-use Rattle.wl_snapshot.specs.Snapshots.{Publication}
-use Rattle.wl_publish.specs.Listings.{Passing}
+use Rattle.wl_worker.proofs.Common.{ConnFault, Memory, Ask, Signed, Publication, Passing, Origin, AttestorCall, Delivery, JwtAsk, JwtOutcome, SessionFault, SessionState, Running, Fallen, OutOfMemory, unnamed_in, failure_in, turn_told, Round, then_told, heard_told, name_told_at, answer_told, answers_told, shown_told, outcomes_told, heard_session, named_session, turned_session, round_told, HaveCalls, HaveAsks, IsWhole, IsIn, Asker, IsOutcome, Around, last_shown, HasSeenLast}
 use Rattle.wl_publish.specs.Reading.{Reads}
-use Rattle.wl_edge.specs.declared.origin.Origin.{Origin}
-use Rattle.wl_edge.specs.declared.attestor.AttestorCall.{AttestorCall}
-use Rattle.ask_mail.specs.declared.mail.Delivery.{Delivery}
-use Rattle.wl_session.specs.declared.asks.JwtAsk.{JwtAsk}
-use Rattle.wl_session.specs.declared.asks.JwtOutcome.{JwtOutcome}
-use Rattle.wl_session.specs.declared.asks.SessionFault.{SessionFault}
 use Rattle.wl_session.specs.declared.asks.SessionFault.TheVariants as faults
-use Rattle.wl_session.specs.Sessions.{SessionState, Running, Fallen, OutOfMemory, unnamed_in, failure_in}
-use Rattle.wl_session.specs.Steps.{turn_told}
-use Rattle.wl_worker.specs.Rounds.{Round, then_told, heard_told, name_told_at, answer_told, answers_told, shown_told, outcomes_told, heard_session, named_session, turned_session, round_told, HaveCalls, HaveAsks, any_outcome, IsRound, IsWhole, IsIn}
-use Rattle.wl_worker.specs.Outcomes.{Asker, IsOutcome}
-use Rattle.wl_worker.specs.Served.{Around, around, last_shown, HasSeenLast}
+use Rattle.wl_worker.specs.Rounds.{any_outcome, IsRound}
+use Rattle.wl_worker.specs.Served.{around}
 use Rattle.wl_worker.specs.Stepping.{Came, Attests, Gives, TurnTells, StepTells}
 use Rattle.wl_worker.proofs.Growth.{gains_none, ticked_none, rose_none, have_such}
 use Rattle.wl_worker.proofs.SeenPublications.{last_in, keeps_then, keeps_seen, seen_longer}

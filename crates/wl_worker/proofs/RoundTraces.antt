@@ -1,19 +1,16 @@
 -- A session follows the trace of its rounds, and what it wrote is the talk over it.
 use Rattle.std.proofs.Common.{◌≡◌, ℕ, ◌⊎◌, inl, inr, true, List, [], ◌∷◌, ◌++◌, Option, Some, None, refl, sym, ap, subst, ◌∙◌, append_assoc}
-use Rattle.h2_frame.specs.Reading.{End, Reading, reading_from}
-use Rattle.h2_conn.specs.declared.fault.ConnFault.{ConnFault}
-use Rattle.wl_snapshot.specs.Snapshots.{Publication}
-use Rattle.wl_session.specs.declared.asks.JwtAsk.{JwtAsk}
-use Rattle.wl_session.specs.declared.asks.JwtOutcome.{JwtOutcome}
+use Rattle.wl_worker.proofs.Common.{End, ConnFault, Publication, JwtAsk, JwtOutcome, Talking, SessionState, Running, Fallen, OutOfMemory, fresh_session, unnamed_in, asks_in, talk, Round, then_told, heard_told, name_told_at, answer_told, answers_told, shown_told, given_told_at, given_told, outcomes_told, heard_session, named_session, turned_session, round_told, session_after, trace}
+use Rattle.h2_frame.specs.Reading.{Reading, reading_from}
 use Rattle.wl_session.specs.Tokens.{first_unnamed}
-use Rattle.wl_session.specs.Talks.{Talking, fresh_talk}
-use Rattle.wl_session.specs.Sessions.{SessionState, Running, Fallen, OutOfMemory, fresh_session, feed_said, name_said, state_of_fault, unnamed_in, asks_in}
+use Rattle.wl_session.specs.Talks.{fresh_talk}
+use Rattle.wl_session.specs.Sessions.{feed_said, name_said, state_of_fault}
 use Rattle.wl_session.specs.Steps.{Told}
-use Rattle.wl_session.specs.Items.{Item, items_said, item_said, talk, reading_items}
+use Rattle.wl_session.specs.Items.{Item, items_said, item_said, reading_items}
 use Rattle.wl_session.proofs.SessionFacts.{settled_fresh, settled_feed, settled_name}
 use Rattle.wl_session.proofs.WithoutSelectors.{blind, blind_said, one_item, reading_blind, name_some_blind, name_none_blind}
 use Rattle.wl_session.proofs.Traces.{IsStill, Follows, FollowsOn, after_more, read_greets, name_greets, stays, turn_follows, outcome_follows}
-use Rattle.wl_worker.specs.Rounds.{Round, then_told, heard_told, name_told_at, answer_told, answers_told, shown_told, given_told_at, given_told, outcomes_told, heard_session, named_session, turned_session, round_told, heard_items, answer_item, answer_item_at, answer_items, shown_items, given_item_at, outcome_items, round_items, session_after, trace}
+use Rattle.wl_worker.specs.Rounds.{heard_items, answer_item, answer_item_at, answer_items, shown_items, given_item_at, outcome_items, round_items}
 
 -- one step and then another
 pub then_follows : (first : Told) (next : SessionState → Told) (items more rest : List Item) → FollowsOn first items more → FollowsOn (next first.after) (items ++ more) rest

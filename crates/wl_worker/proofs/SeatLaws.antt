@@ -3,35 +3,22 @@ use Rattle.std.specs.Prelude.{◌≡◌, ◌⊎◌, ℕ, ◌+◌, ◌≤◌, Lis
 use mathlib.Core.List.{IsPrefix}
 use Rattle.std.proofs.Common.{arith, refl, sym, ◌∙◌, ap, subst, append_assoc, length-append, ⊎_elim}
 use Rattle.std.proofs.lemmas.List.{nil_from_length}
-use Rattle.wl_entry.specs.declared.asks.Ask.{Ask}
-use Rattle.wl_entry.specs.declared.signing.Signed.{Signed}
-use Rattle.wl_entry.specs.declared.tokens.JwtToken.{JwtToken}
-use Rattle.wl_snapshot.specs.Snapshots.{Publication}
-use Rattle.wl_publish.specs.Listings.{Passing}
-use Rattle.wl_edge.specs.declared.attestor.AttestorCall.{AttestorCall}
-use Rattle.ask_mail.specs.declared.mail.Delivery.{Delivery}
-use Rattle.wl_edge.specs.declared.listener.AcceptKind.{AcceptKind}
+use Rattle.wl_worker.proofs.Common.{Ask, Signed, JwtToken, Publication, Passing, AttestorCall, Delivery, AcceptKind, Origin, LinkLog, ListenerLog, FinishedLink, BoundSocket, OnlyAdds, links_given, with_kind, Finishes, Asker, asker, unanswered, unsigned, GainsAll, IsOutcome, owned_by, items_of, tag, one_apart, Round, number_of, AreOutcomes, IsIn, Around, ServedState, Stands, Began, ReadBy, ReadIn, RoseBy, Known, AreJudged, TookAllUnless, TookFully, TookPart, SeatWorld, seat_world, known, Tends, Under, Runs, SeatEnd}
 use Rattle.wl_edge.specs.declared.listener.AcceptKind.TheVariants as kind
-use Rattle.wl_edge.specs.declared.origin.Origin.{Origin}
-use Rattle.wl_edge.specs.Links.{LinkLog}
-use Rattle.wl_edge.specs.Listeners.{ListenerLog, FinishedLink, BoundSocket, OnlyAdds, links_given, with_kind, Finishes}
-use Rattle.wl_worker.specs.Outcomes.{Asker, asker, unanswered, unsigned, GainsAll, Ticked, attestor_calls, IsOutcome}
-use Rattle.wl_worker.specs.Owners.{owned_by, items_of, tag, one_apart, tally}
+use Rattle.wl_worker.specs.Outcomes.{Ticked, attestor_calls}
+use Rattle.wl_worker.specs.Owners.{tally}
 use Rattle.wl_worker.specs.Numbering.{Numbered, none_apart}
-use Rattle.wl_worker.specs.Rounds.{Round, numbers, answers, outcomes, number_of, AreOutcomes, IsIn}
-use Rattle.wl_worker.specs.Served.{Around, ServedState, Stands, Began, ReadBy, ReadIn}
-use Rattle.wl_worker.specs.Counts.{RoseBy}
-use Rattle.wl_worker.specs.Tended.{Known, AreJudged, IsOwn, TookAllUnless, TookFully, TookPart, SeatWorld, seat_world, ListenerGains, SeatGathers, known, Tends}
-use Rattle.wl_worker.specs.Seating.{Under, Runs, Tending}
-use Rattle.wl_worker.specs.declared.seat.SeatEnd.{SeatEnd}
+use Rattle.wl_worker.specs.Rounds.{numbers, answers, outcomes}
+use Rattle.wl_worker.specs.Tended.{IsOwn, ListenerGains, SeatGathers}
+use Rattle.wl_worker.specs.Seating.{Tending}
 use Rattle.wl_worker.specs.declared.seat.SeatEnd.TheVariants as seat
 use Rattle.wl_worker.proofs.Growth.{gains_none, gains_then, ticked_none, ticked_then, rose_none, rose_then, unanswered_append, unsigned_append, in_front, outcome_grows}
 use Rattle.wl_worker.proofs.SeenPublications.{are_longer, prefix_then, prefix_same}
 use Rattle.wl_worker.proofs.ConnectionRounds.{answers_added, calls_added, outcomes_added, outcomes_such}
-use Rattle.wl_worker.proofs.SeatParts.{given_append}
 use Rattle.wl_worker.proofs.Owners.{none_after, items_append, items_tag, split}
 use Rattle.wl_worker.proofs.NumberedLinks as numbering
 use Rattle.wl_edge.proofs.KnownSockets.{came_still}
+use Rattle.wl_edge.proofs.LinksGiven.{given_append}
 
 -- ---- what rounds took from the outside
 

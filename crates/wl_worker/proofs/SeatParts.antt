@@ -4,42 +4,20 @@ use Rattle.std.proofs.Common.{cond, arith, refl, sym, ◌∙◌, ap, subst, appe
 use Rattle.std.proofs.lemmas.List.{append-nil}
 use Rattle.std.proofs.lemmas.List.Sums.{sum_by-cons}
 use mathlib.Core.List.{IsPrefix}
-use Rattle.wl_entry.specs.declared.asks.Ask.{Ask}
-use Rattle.wl_entry.specs.declared.signing.Signed.{Signed}
-use Rattle.wl_snapshot.specs.Snapshots.{Publication}
-use Rattle.wl_publish.specs.Listings.{Passing}
-use Rattle.wl_edge.specs.declared.origin.Origin.{Origin}
-use Rattle.wl_edge.specs.Edge.{Rose}
-use Rattle.wl_edge.specs.Listeners.{ListenerLog, FinishedLink, BoundSocket, OnlyAdds, is_link, links_given, with_kind, HasOpenLink, Finishes}
-use Rattle.wl_edge.specs.declared.listener.AcceptKind.{AcceptKind}
+use Rattle.wl_worker.proofs.Common.{Ask, Signed, Publication, Passing, Origin, Rose, ListenerLog, FinishedLink, BoundSocket, OnlyAdds, links_given, with_kind, Finishes, AcceptKind, fresh_session, LinkLog, Round, links_of, RoundEnd, Asker, Around, ServedState, HasSeenLast, ReadBy, RoundTells, SeatWorld, seat_world, Under, SeatView, seat_view, SeatEnd, EdgeFault}
+use Rattle.wl_edge.specs.Listeners.{is_link, HasOpenLink}
 use Rattle.wl_edge.specs.declared.listener.AcceptKind.TheVariants as kind
-use Rattle.wl_session.specs.Sessions.{fresh_session}
-use Rattle.wl_edge.specs.Links.{LinkLog}
-use Rattle.wl_worker.specs.Rounds.{Round}
-use Rattle.wl_worker.specs.Slots.{links_of}
-use Rattle.wl_worker.specs.declared.ended.RoundEnd.{RoundEnd}
-use Rattle.wl_worker.specs.Outcomes.{Asker}
-use Rattle.wl_worker.specs.Served.{Around, ServedState, HasSeenLast, ReadBy, RoundTells}
-use Rattle.wl_worker.specs.Tended.{SeatWorld, seat_world, HasNoEnd, HasLastEnd, AcceptsTo, ListenedTo}
-use Rattle.wl_worker.specs.Seating.{Under, SeatView, seat_view, seen_by, HasOpen, HaveSeenLast, Fit, ListensOn, Goes, StepAccepts, EndFits, StepFits, Stepped, EndedBy, Rests, RestsAt, seat_end_of}
-use Rattle.wl_worker.specs.declared.seat.SeatEnd.{SeatEnd}
+use Rattle.wl_worker.specs.Tended.{HasNoEnd, HasLastEnd, AcceptsTo, ListenedTo}
+use Rattle.wl_worker.specs.Seating.{seen_by, HasOpen, HaveSeenLast, Fit, ListensOn, Goes, StepAccepts, EndFits, StepFits, Stepped, EndedBy, Rests, RestsAt, seat_end_of}
 use Rattle.wl_worker.specs.declared.seat.SeatEnd.TheVariants as seat
 use Rattle.wl_worker.specs.declared.step.Step.{Step}
 use Rattle.wl_worker.specs.declared.step.Step.TheVariants as step
-use Rattle.wl_edge.specs.declared.fault.EdgeFault.{EdgeFault}
 use Rattle.wl_edge.specs.declared.fault.EdgeFault.TheVariants as edge
 use Rattle.wl_edge.proofs.KnownSockets.{adds_none, adds_same, adds_then}
+use Rattle.wl_edge.proofs.LinksGiven.{given_append}
 use Rattle.wl_worker.proofs.SeenPublications.{seen_longer, prefix_then, prefix_same, read_prefix}
 
 -- ---- the listener
-
-pub given_append : (xs ys : List AcceptKind) → links_given (xs ++ ys) ≡ links_given xs + links_given ys
-given_append [] ys =
-    let none : links_given [] ≡ 0 = refl in
-    omega (arith, none)
-given_append (x ∷ xs) ys =
-    let one : AcceptKind → ℕ = λ z. cond (is_link z) 1 0 in
-    omega (arith, given_append xs ys, sum_by-cons one x xs, sum_by-cons one x (xs ++ ys))
 
 pub listens_none : (told : Option ListenerLog) (n : ℕ) → ListensOn told told n n []
 listens_none None n = refl

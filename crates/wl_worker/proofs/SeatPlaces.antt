@@ -3,12 +3,10 @@ use Rattle.std.specs.Prelude.{◌≡◌, ℕ, ◌+◌, ◌==◌, Bool, true, Lis
 use Rattle.std.proofs.Common.{arith, sym, ◌∙◌, ap, subst, length-append}
 use Rattle.std.proofs.lemmas.List.{append-nil, nil_from_length}
 use Rattle.std.proofs.lemmas.Bool.Decides.{nat_tests}
-use Rattle.wl_entry.specs.declared.asks.Ask.{Ask}
-use Rattle.wl_entry.specs.declared.tokens.JwtToken.{JwtToken}
-use Rattle.slab.specs.Slab.{Slab, get, slab_len, Updates}
-use Rattle.wl_edge.specs.Listeners.{ListenerLog, HasOpenLink}
-use Rattle.wl_worker.specs.Slots.{links_of}
-use Rattle.wl_worker.specs.Seating.{Under, SeatView, HasOpen, Goes, KeepsTending, FinishesTending}
+use Rattle.wl_worker.proofs.Common.{Ask, JwtToken, Slab, ListenerLog, links_of, Under, SeatView}
+use Rattle.slab.specs.Slab.{get, slab_len, Updates}
+use Rattle.wl_edge.specs.Listeners.{HasOpenLink}
+use Rattle.wl_worker.specs.Seating.{HasOpen, Goes, KeepsTending, FinishesTending}
 use Rattle.wl_worker.specs.declared.step.Step.TheVariants as step
 use Rattle.wl_worker.proofs.SlotLinks.{Between, came, went, count_links}
 use Rattle.wl_worker.proofs.SeatParts.{goes_moved, goes_still, open_link}

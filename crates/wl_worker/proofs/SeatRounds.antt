@@ -1,23 +1,10 @@
 -- What a round of one link is to its seat.
 use Rattle.std.specs.Prelude.{◌≡◌, ◌⊎◌, ℕ, ◌<◌, List, ◌++◌, Option, Some, None, IfSome, IsSome}
 use Rattle.std.proofs.Common.{arith, refl, sym, subst, inl, inr, true≢false}
-use Rattle.wl_entry.specs.declared.asks.Ask.{Ask}
-use Rattle.wl_entry.specs.declared.signing.Signed.{Signed}
-use Rattle.wl_publish.specs.Listings.{Passing}
-use Rattle.wl_edge.specs.declared.origin.Origin.{Origin}
-use Rattle.wl_edge.specs.Edge.{Rose}
-use Rattle.wl_edge.specs.Links.{LinkLog}
-use Rattle.wl_edge.specs.Listeners.{ListenerLog, BoundSocket}
-use Rattle.ask_mail.specs.declared.mail.Delivery.{Delivery}
-use Rattle.wl_session.specs.Sessions.{SessionState}
-use Rattle.wl_worker.specs.declared.ended.Ended.{Ended}
+use Rattle.wl_worker.proofs.Common.{Ask, Signed, Passing, Origin, Rose, LinkLog, ListenerLog, BoundSocket, Delivery, SessionState, Ended, RoundEnd, Asker, IsOutcome, Round, session_after, AreOutcomes, Around, ServedState, Stands, Began, log_on, ReadBy, RoundTells, TookAllUnless, seat_world}
 use Rattle.wl_worker.specs.declared.ended.Ended.TheVariants as ended
-use Rattle.wl_worker.specs.declared.ended.RoundEnd.{RoundEnd}
 use Rattle.wl_worker.specs.declared.ended.RoundEnd.TheVariants as ends
-use Rattle.wl_worker.specs.Outcomes.{Asker, IsOutcome}
-use Rattle.wl_worker.specs.Rounds.{Round, session_after, AreOutcomes}
-use Rattle.wl_worker.specs.Served.{Around, ServedState, Stands, Began, StandsAt, log_on, OutcomesBy, ReadBy, RoundTells}
-use Rattle.wl_worker.specs.Tended.{TookAllUnless, seat_world}
+use Rattle.wl_worker.specs.Served.{StandsAt, OutcomesBy}
 use Rattle.wl_worker.proofs.Growth.{in_back, outcome_grows}
 use Rattle.wl_worker.proofs.TakenRounds.{began}
 use Rattle.wl_worker.proofs.LinkEnds.{came_closed, came_failed}

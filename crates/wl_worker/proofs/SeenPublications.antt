@@ -5,16 +5,12 @@ use Rattle.std.specs.List.{AllByRecursion}
 use Rattle.std.proofs.lemmas.List.{append-nil}
 use Rattle.list_laws.proofs.Elements.{all_append}
 use mathlib.Core.List.{IsPrefix}
-use Rattle.wl_entry.specs.declared.asks.Ask.{Ask}
-use Rattle.wl_entry.specs.declared.signing.Signed.{Signed}
-use Rattle.wl_snapshot.specs.Snapshots.{Publication}
-use Rattle.wl_publish.specs.Lists.{NumberedFrom, IsLast, NonFallingFrom}
-use Rattle.wl_publish.specs.Listings.{Passing}
+use Rattle.wl_worker.proofs.Common.{Ask, Signed, Publication, IsLast, Passing, SessionState, Running, Fallen, OutOfMemory, Round, IsIn, AreKnown, number_of, ReadIn, last_shown, HasSeenLast}
+use Rattle.wl_publish.specs.Lists.{NumberedFrom, NonFallingFrom}
 use Rattle.wl_publish.specs.Reading.{Reads}
-use Rattle.wl_session.specs.Sessions.{SessionState, Running, Fallen, OutOfMemory}
 use Rattle.wl_session.specs.Settled.{MayTurn}
-use Rattle.wl_worker.specs.Rounds.{Round, IsIn, IsKnown, AreKnown, number_of, numbers}
-use Rattle.wl_worker.specs.Served.{ReadIn, last_shown, HasSeenLast}
+use Rattle.wl_publish.proofs.Numbers.{last_of, falls_more}
+use Rattle.wl_worker.specs.Rounds.{IsKnown, numbers}
 use Rattle.wl_worker.specs.Stepping.{KeepsLast}
 use Rattle.wl_worker.proofs.Growth.{in_front, in_back}
 
@@ -25,10 +21,6 @@ known_longer p seen list pre is = subst (λ (l : List Publication). IsIn p l) pr
 
 pub last_in : (p : Publication) (list : List Publication) → IsLast list p → IsIn p list
 last_in p list last = subst (λ (l : List Publication). IsIn p l) (sym last.1) (in_back p last.0 (p ∷ []) (inl refl))
-
-last_of : (n : ℕ) (before : List Publication) (p : Publication) → NumberedFrom n (before ++ p ∷ []) → p.number ≡ n + length before
-last_of n [] p h = omega (arith, h.0)
-last_of n (q ∷ before) p h = omega (arith, last_of (n + 1) before p h.1)
 
 -- x is not above p, and is p where its number is
 abbrev IsUpTo : Publication → Publication → Type 0
@@ -123,10 +115,6 @@ are_longer seen list (r ∷ past) pre known = (one_longer r.shown known.0, are_l
     one_longer (Some p) is = known_longer p seen list pre is
 
 -- ---- numbers do not fall
-
-falls_more : (low : ℕ) (mine : List ℕ) (m : ℕ) → NonFallingFrom low mine → AllByRecursion (λ k. k ≤ m) mine → low ≤ m → NonFallingFrom low (mine ++ m ∷ [])
-falls_more low [] m h all le = (le, tt)
-falls_more low (k ∷ mine) m h all le = (h.0, falls_more k mine m h.1 all.1 all.0)
 
 numbers_below : (list : List Publication) (p : Publication) → (n : ℕ) × NumberedFrom n list → IsLast list p → (past : List Round) → AreKnown list past → AllByRecursion (λ k. k ≤ p.number) (numbers past)
 numbers_below list p numbered last [] known = tt

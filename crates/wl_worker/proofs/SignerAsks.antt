@@ -1,12 +1,10 @@
 -- Laws of what a signer was asked so far.
 use Rattle.std.specs.Prelude.{◌≡◌, ◌≤◌, ℕ, List, [], ◌∷◌, Option, Some, None, Result, Ok, Err}
 use Rattle.std.proofs.Common.{sym, ap, subst}
-use Rattle.wl_entry.specs.declared.asks.Ask.{Ask}
+use Rattle.wl_worker.proofs.Common.{Ask, Delivery, EdgeFault}
 use Rattle.ask_mail.specs.Mail.{Signs}
 use Rattle.ask_mail.specs.declared.mail.Asked.{Asked as TokenAsk}
-use Rattle.ask_mail.specs.declared.mail.Delivery.{Delivery}
 use Rattle.wl_edge.specs.Calls.{Gains, Answers}
-use Rattle.wl_edge.specs.declared.fault.EdgeFault.{EdgeFault}
 use Rattle.wl_edge.specs.declared.fault.EdgeFault.TheVariants as edge
 use Rattle.wl_edge.specs.declared.signer.SignerCall.{SignerCall}
 use Rattle.wl_edge.specs.declared.signer.SignerCall.TheVariants.{X509, Jwt}

@@ -5,8 +5,9 @@ use Rattle.std.proofs.lemmas.Bool.{cases_lt}
 use Rattle.std.proofs.lemmas.List.{get_or_past}
 use Rattle.std.proofs.lemmas.List.Recursion.{is_count_by}
 use Rattle.slab.proofs.SlabLemmas.{vacant_after_removal}
-use Rattle.slab.specs.Slab.{Slab, get, Updates}
-use Rattle.wl_worker.specs.Slots.{slot_of, links_of}
+use Rattle.wl_worker.proofs.Common.{Slab, links_of}
+use Rattle.slab.specs.Slab.{get, Updates}
+use Rattle.wl_worker.specs.Slots.{slot_of}
 
 -- x stands between these in b, and not in a
 pub record Between {T U : Type 0} (f : T → U) (x : T) (a b : List (Option T)) : Type 0 where

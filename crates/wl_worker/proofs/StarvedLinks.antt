@@ -1,18 +1,8 @@
 -- Links for which memory ran out are counted, and the seat goes on.
 use Rattle.std.specs.Prelude.{◌≡◌, ◌⊎◌, ℕ, ◌+◌, List, ◌∷◌, ◌++◌, length, Option, Some, None, IfSome}
 use Rattle.std.proofs.Common.{arith, refl, sym, subst, inl, inr}
-use Rattle.wl_entry.specs.declared.asks.Ask.{Ask}
-use Rattle.wl_entry.specs.declared.tokens.JwtToken.{JwtToken}
-use Rattle.ask_mail.specs.declared.mail.Delivery.{Delivery}
-use Rattle.wl_edge.specs.Links.{LinkLog}
-use Rattle.wl_edge.specs.Listeners.{ListenerLog, FinishedLink, BoundSocket}
-use Rattle.wl_worker.specs.Counts.{RoseBy}
-use Rattle.wl_worker.specs.Owners.{owned_by, items_of, one_apart}
-use Rattle.wl_worker.specs.Rounds.{Round, IsIn}
-use Rattle.wl_worker.specs.Served.{Around, Began}
-use Rattle.wl_worker.specs.Tended.{Known, AreJudged, TookAllUnless, TookFully, TookPart, SeatWorld, seat_world, SeatGathers, known}
-use Rattle.wl_worker.specs.Seating.{Under, Runs, CountsStarved}
-use Rattle.wl_worker.specs.declared.ended.Ended.{Ended}
+use Rattle.wl_worker.proofs.Common.{Ask, JwtToken, Delivery, LinkLog, ListenerLog, FinishedLink, BoundSocket, RoseBy, owned_by, items_of, one_apart, Round, IsIn, Around, Began, Known, AreJudged, TookAllUnless, TookFully, TookPart, SeatWorld, seat_world, known, Under, Runs, CountsStarved, Ended}
+use Rattle.wl_worker.specs.Tended.{SeatGathers}
 use Rattle.wl_worker.specs.declared.ended.Ended.TheVariants as ended
 use Rattle.wl_worker.proofs.Growth.{rose_then}
 use Rattle.wl_worker.proofs.SeatLaws.{Beside, beside_weaken}

@@ -2,24 +2,13 @@
 use Rattle.std.proofs.Common.{◌≡◌, ℕ, inl, true, List, [], ◌∷◌, ◌++◌, Option, Some, None, Ok, Err, refl, sym, ap, subst, ◌∙◌, append_assoc, is_some}
 use Rattle.std.specs.Prelude.{Result, OnOk, IsSome, IfSome}
 use Rattle.std.proofs.lemmas.List.{append-nil, map-append}
-use Rattle.h2_conn.specs.declared.fault.ConnFault.{ConnFault}
-use Rattle.h2_frame.specs.Reading.{End, reading_from}
-use Rattle.wl_octets.specs.declared.memory.Memory.{Memory}
-use Rattle.wl_snapshot.specs.Snapshots.{Publication}
-use Rattle.wl_session.specs.Talks.{Talking}
-use Rattle.wl_session.specs.declared.asks.JwtAsk.{JwtAsk}
-use Rattle.wl_session.specs.declared.asks.JwtOutcome.{JwtOutcome}
-use Rattle.wl_session.specs.declared.asks.SessionFault.{SessionFault}
+use Rattle.wl_worker.proofs.Common.{ConnFault, End, Memory, Publication, Talking, JwtAsk, JwtOutcome, SessionFault, SessionState, Running, Fallen, OutOfMemory, unnamed_in, asks_in, failure_in, turn_told, Origin, AttestorCall, Delivery, then_told, heard_told, name_told_at, answer_told, answers_told, given_told_at, given_told, outcomes_told, HaveCalls, HaveAsks, RoseBy, Asker, unanswered, unsigned, GainsAll, IsOutcome, last_shown}
+use Rattle.h2_frame.specs.Reading.{reading_from}
 use Rattle.wl_session.specs.declared.asks.SessionFault.TheVariants as faults
-use Rattle.wl_session.specs.Sessions.{SessionState, Running, Fallen, OutOfMemory, state_of_fault, feed_said, unnamed_in, asks_in, failure_in, Feeds, Names, Turns, GivesOutcome}
-use Rattle.wl_session.specs.Steps.{Told, quiet, turn_told, outcome_told}
-use Rattle.wl_edge.specs.declared.origin.Origin.{Origin}
-use Rattle.wl_edge.specs.declared.attestor.AttestorCall.{AttestorCall}
-use Rattle.ask_mail.specs.declared.mail.Delivery.{Delivery}
-use Rattle.wl_worker.specs.Rounds.{then_told, heard_told, name_told, name_told_at, answer_told, answers_told, given_told_at, given_told, outcomes_told, HaveCalls, HaveAsks}
-use Rattle.wl_worker.specs.Counts.{RoseBy}
-use Rattle.wl_worker.specs.Outcomes.{Asker, unanswered, unsigned, GainsAll, attestor_call, calls_by, IsOutcome}
-use Rattle.wl_worker.specs.Served.{last_shown}
+use Rattle.wl_session.specs.Sessions.{state_of_fault, feed_said, Feeds, Names, Turns, GivesOutcome}
+use Rattle.wl_session.specs.Steps.{Told, quiet, outcome_told}
+use Rattle.wl_worker.specs.Rounds.{name_told}
+use Rattle.wl_worker.specs.Outcomes.{attestor_call, calls_by}
 use Rattle.wl_worker.specs.Stepping.{Came, KeepsLast, Attests, Gives, TurnTells}
 use Rattle.wl_worker.proofs.Growth.{gains_none, gains_then, ticked_none, ticked_then, rose_none, rose_then, unanswered_append, unsigned_append, in_front, in_back, outcome_grows, have_such}
 use Rattle.wl_worker.proofs.SeenPublications.{keeps_self, keeps_then}

@@ -1,17 +1,10 @@
 -- A connection stands for the rounds that it took.
 use Rattle.std.proofs.Common.{◌≡◌, ℕ, List, [], ◌∷◌, ◌++◌, refl, sym, ap, subst, ◌∙◌, append_assoc}
 use Rattle.std.proofs.lemmas.List.{append-nil}
-use Rattle.wl_entry.specs.declared.asks.Ask.{Ask}
-use Rattle.wl_entry.specs.declared.signing.Signed.{Signed}
-use Rattle.wl_snapshot.specs.Snapshots.{Publication}
-use Rattle.wl_publish.specs.Listings.{Passing}
-use Rattle.wl_edge.specs.Links.{LinkLog}
-use Rattle.wl_edge.specs.declared.link.Heard.{Heard}
+use Rattle.wl_worker.proofs.Common.{Ask, Signed, Publication, Passing, LinkLog, Heard, SessionState, talk, Round, round_told, IsWhole, session_after, trace, pieces, AreWhole, pieces_given, ServedState, Stands, Began, log_on, ReadIn}
 use Rattle.wl_edge.specs.declared.link.Heard.TheVariants as heard
-use Rattle.wl_session.specs.Sessions.{SessionState}
-use Rattle.wl_session.specs.Items.{talk}
-use Rattle.wl_worker.specs.Rounds.{Round, round_told, IsRound, IsWhole, session_after, trace, pieces, AreWhole, AreRounds, GoesOn, pieces_given}
-use Rattle.wl_worker.specs.Served.{ServedState, Stands, Began, log_on, IsPiece, ReadIn}
+use Rattle.wl_worker.specs.Rounds.{IsRound, AreRounds, GoesOn}
+use Rattle.wl_worker.specs.Served.{IsPiece}
 use Rattle.wl_worker.proofs.RoundTraces.{talk_grows}
 use Rattle.wl_worker.proofs.SeenPublications.{read_prefix, read_known, are_longer, rises_on}
 

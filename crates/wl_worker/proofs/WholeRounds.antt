@@ -1,22 +1,12 @@
 -- A round as a whole: a sending, a receive with its step, and a sending again.
 use Rattle.std.proofs.Common.{◌≡◌, ℕ, ◌⊎◌, inl, inr, true, List, [], ◌∷◌, ◌++◌, Option, Some, None, Ok, Err, refl, sym, ap, subst, ◌∙◌}
 use Rattle.std.proofs.lemmas.List.{append-nil}
-use Rattle.wl_octets.specs.declared.memory.Memory.{Memory}
-use Rattle.wl_entry.specs.declared.asks.Ask.{Ask}
-use Rattle.wl_entry.specs.declared.signing.Signed.{Signed}
-use Rattle.wl_snapshot.specs.Snapshots.{Publication}
-use Rattle.wl_edge.specs.declared.origin.Origin.{Origin}
-use Rattle.wl_edge.specs.Links.{LinkLog}
-use Rattle.wl_edge.specs.declared.link.Heard.{Heard}
+use Rattle.wl_worker.proofs.Common.{Memory, Ask, Signed, Publication, Origin, LinkLog, Heard, SessionState, Running, Fallen, OutOfMemory, failure_in, Ended, RoundEnd, Round, HaveAsks, turned_session, pieces_given, Asker, IsOutcome, ServedState, Around, Stands, Began, log_on, RoundTells}
 use Rattle.wl_edge.specs.declared.link.Heard.TheVariants as heard
-use Rattle.wl_session.specs.Sessions.{SessionState, Running, Fallen, OutOfMemory, is_done_in, failure_in}
-use Rattle.wl_worker.specs.declared.ended.Ended.{Ended}
+use Rattle.wl_session.specs.Sessions.{is_done_in}
 use Rattle.wl_worker.specs.declared.ended.Ended.TheVariants as ended
-use Rattle.wl_worker.specs.declared.ended.RoundEnd.{RoundEnd}
 use Rattle.wl_worker.specs.declared.ended.RoundEnd.TheVariants as ends
-use Rattle.wl_worker.specs.Rounds.{Round, HaveAsks, turned_session, pieces_given}
-use Rattle.wl_worker.specs.Outcomes.{Asker, IsOutcome}
-use Rattle.wl_worker.specs.Served.{ServedState, Around, Stands, Began, StandsAt, log_on, LinkGains, HeardOne, EndIs, IsPiece, RoundTells}
+use Rattle.wl_worker.specs.Served.{StandsAt, LinkGains, HeardOne, EndIs, IsPiece}
 use Rattle.wl_worker.specs.Sending.{SentTo, Settles, end_of}
 use Rattle.wl_worker.specs.Stepping.{StepTells, HearTells}
 use Rattle.wl_worker.proofs.Growth.{gains_none, ticked_none, rose_none, link_then, log_then}

@@ -6,18 +6,12 @@ use Rattle.std.specs.Cmp.Lexicographic.{bytes_decides}
 use Rattle.std.proofs.lemmas.Bool.{cases_lt, cases_eq, lt-ltb, le-ltb, le-leb, lt-leb, eq-eqb, ne_eqb}
 use Rattle.std.proofs.lemmas.List.{drop-drop, map-append, take-append-drop}
 use Rattle.std.proofs.Math.Seq.{take-add}
-use Rattle.wl_entry.specs.declared.unfit.CertFault.{CertFault}
+use Rattle.wl_x509.proofs.Common.{CertFault, Span, Leaf, Frame, ◌>>=◌, content, value_at, part_at, option_at, short_time, long_time, then_end, time_at, validity_at, names_in, names_from, alternative_names, uris_of, extension_at, extensions_in, extensions_from, extension_list, extensions_part, issuing_at, subject_at, body_at, frame_of, signature_at, one_uri, leaf_of, encoding, between, TimeForm, utc, generalized, CertTime, time_text, IsTimeOf, subject_alt_name}
 use Rattle.wl_entry.specs.declared.unfit.CertFault.TheVariants as fault
-use Rattle.wl_x509.specs.declared.values.Span.{Span}
-use Rattle.wl_x509.specs.declared.leaves.Leaf.{Leaf}
-use Rattle.wl_x509.specs.declared.parts.Frame.{Frame}
-use Rattle.list_laws.specs.Results.{◌>>=◌}
 use Rattle.list_laws.proofs.Results.{bind_then, ok_is}
-use Rattle.wl_x509.specs.Values.{content, value_at, part_at, option_at}
-use Rattle.wl_x509.specs.Times.{short_time, long_time}
-use Rattle.wl_x509.specs.Leaves.{then_end, told_time, time_at, validity_at, names_in, names_from, alternative_names, uris_of, extension_at, extensions_in, extensions_from, extension_list, extensions_part, issuing_at, subject_at, body_at, frame_of, signature_at, one_uri, leaf_of}
-use Rattle.wl_x509.specs.Encodings.{encoding, AreBytes, between}
-use Rattle.wl_x509.specs.Certificates.{optional, TimeForm, utc, generalized, CertTime, time_text, time_tag, encoded_time, IsTimeOf, GeneralName, encoded_name, uris_among, Extension, subject_alt_name, subject_names, other_extension, parts_of_extension, extension_content, encoded_extension, uris_of_extension, encoded_extensions, uris_of_extensions, Certificate, body_content, certificate_content, encoded_certificate, IsLeafOf}
+use Rattle.wl_x509.specs.Leaves.{told_time}
+use Rattle.wl_x509.specs.Encodings.{AreBytes}
+use Rattle.wl_x509.specs.Certificates.{optional, time_tag, encoded_time, GeneralName, encoded_name, uris_among, Extension, subject_names, other_extension, parts_of_extension, extension_content, encoded_extension, uris_of_extension, encoded_extensions, uris_of_extensions, Certificate, body_content, certificate_content, encoded_certificate, IsLeafOf}
 use Rattle.wl_x509.proofs.Encodings.{encoded}
 use Rattle.wl_x509.proofs.Digits.{IsTimeText, short_found, long_found}
 

@@ -3,8 +3,9 @@ use Rattle.std.proofs.Common.{◌≡◌, ℕ, ◌+◌, ◌-◌, ◌*◌, ◌/◌
 use Rattle.std.proofs.lemmas.Bool.{cases_lt, cases_eq, cases_Bool, and_parts, leb-true, ltb-true, lt-ltb, le-ltb, le-leb, eq-eqb, ne_eqb}
 use Rattle.std.proofs.lemmas.List.{drop_more, drop_all, get_or-drop}
 use Rattle.jiff_core.specs.Calendar.{days_in_month}
-use Rattle.wl_x509.specs.Times.{◌>>?◌, is_digit, two_at, is_day, is_clock, unix_seconds, clock_at, short_time, long_time}
-use Rattle.wl_x509.specs.Certificates.{TimeForm, utc, generalized, CertTime, two_digits, year_digits, IsYearOf, text_behind_year, time_text, IsTimeOf}
+use Rattle.wl_x509.proofs.Common.{short_time, long_time, TimeForm, utc, generalized, CertTime, time_text, IsTimeOf}
+use Rattle.wl_x509.specs.Times.{◌>>?◌, is_digit, two_at, is_day, is_clock, unix_seconds, clock_at}
+use Rattle.wl_x509.specs.Certificates.{two_digits, year_digits, IsYearOf, text_behind_year}
 use Rattle.wl_x509.proofs.Encodings.{two_more}
 
 -- ---- what is read

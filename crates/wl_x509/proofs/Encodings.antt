@@ -3,10 +3,9 @@ use Rattle.std.proofs.Common.{◌≡◌, ℕ, suc, ◌+◌, ◌-◌, min, ◌*�
 use Rattle.std.proofs.lemmas.Bool.{cases_lt, cases_eq, lt-ltb, le-ltb, le-leb, lt-leb, eq-eqb, ne_eqb}
 use Rattle.std.proofs.lemmas.List.{drop_more, drop-drop, drop-take, take-take, take_at, drop_at, length-take, length-drop, get_or-take, get_or-drop}
 use Rattle.std.proofs.Math.Seq.{take-append-add}
-use Rattle.wl_entry.specs.declared.unfit.CertFault.TheVariants.{Truncated, Length}
-use Rattle.wl_x509.specs.declared.values.Span.{Span}
-use Rattle.wl_x509.specs.Values.{content, content_at, long_at, longer_at, value_at}
-use Rattle.wl_x509.specs.Encodings.{length_bytes, encoding, AreBytes, between, IsEncoded, IsRead}
+use Rattle.wl_x509.proofs.Common.{Truncated, Length, Span, content, value_at, encoding, between}
+use Rattle.wl_x509.specs.Values.{content_at, long_at, longer_at}
+use Rattle.wl_x509.specs.Encodings.{length_bytes, AreBytes, IsEncoded, IsRead}
 
 -- ---- places
 

@@ -1,16 +1,10 @@
 -- No reading says that memory ran out.
 use Rattle.std.specs.Prelude.{◌≡◌, ℕ, zero, suc, ◌+◌, ◌-◌, ◌*◌, ◌==◌, nat_lt, nat_le, Bool, true, false, if◌then◌else◌, List, [], ◌∷◌, ◌++◌, length, slice_index, Option, Some, None, Result, Ok, Err}
 use Rattle.std.specs.Str.{bytes_eq}
-use Rattle.wl_entry.specs.declared.unfit.CertFault.{CertFault}
-use Rattle.wl_entry.specs.declared.unfit.CertFault.TheVariants.{Truncated, Tag, Length, Time, Extra, NoUri, ManyUris, Memory}
-use Rattle.wl_x509.specs.declared.values.Span.{Span}
-use Rattle.wl_x509.specs.declared.leaves.Leaf.{Leaf}
-use Rattle.wl_x509.specs.declared.parts.Frame.{Frame}
-use Rattle.list_laws.specs.Results.{◌>>=◌}
-use Rattle.wl_x509.specs.Values.{content, content_at, long_at, longer_at, value_at, part_at, option_at}
-use Rattle.wl_x509.specs.Times.{short_time, long_time}
-use Rattle.wl_x509.specs.Certificates.{subject_alt_name}
-use Rattle.wl_x509.specs.Leaves.{then_end, told_time, time_at, validity_at, names_in, names_from, alternative_names, uris_of, extension_at, extensions_in, extensions_from, extension_list, extensions_part, issuing_at, subject_at, body_at, frame_of, signature_at, one_uri, leaf_of}
+use Rattle.wl_x509.proofs.Common.{CertFault, Truncated, Length, Extra, ManyUris, Span, Leaf, Frame, ◌>>=◌, content, value_at, part_at, option_at, short_time, long_time, subject_alt_name, then_end, time_at, validity_at, names_in, names_from, alternative_names, uris_of, extension_at, extensions_in, extensions_from, extension_list, extensions_part, issuing_at, subject_at, body_at, frame_of, signature_at, one_uri, leaf_of}
+use Rattle.wl_entry.specs.declared.unfit.CertFault.TheVariants.{Tag, Time, NoUri, Memory}
+use Rattle.wl_x509.specs.Values.{content_at, long_at, longer_at}
+use Rattle.wl_x509.specs.Leaves.{told_time}
 
 -- a fault is another one
 abbrev Clear : {A : Type 0} → Result A CertFault → Type 0

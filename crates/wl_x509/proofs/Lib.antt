@@ -1,7 +1,8 @@
+mod Common
 pub mod Encodings
 pub mod Digits
 pub mod CertificateEncoding
-pub mod Again
+pub mod RoundTrips
 pub mod Tallies
-pub mod Found
+pub mod LeafReading
 pub mod Faults

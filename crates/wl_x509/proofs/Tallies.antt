@@ -1,13 +1,8 @@
 -- Tallies of what is read in parts.
 use Rattle.std.proofs.Common.{◌≡◌, ℕ, zero, suc, ◌+◌, ◌<◌, ◌≤◌, ◌==◌, Bool, true, false, cond, nat_lt, nat_le, List, [], ◌∷◌, ◌++◌, length, slice_index, Result, Ok, Err, refl, sym, ap, ◌∙◌, arith}
 use Rattle.std.proofs.lemmas.Bool.Decides.{nat_tests}
-use Rattle.wl_entry.specs.declared.unfit.CertFault.{CertFault}
-use Rattle.wl_entry.specs.declared.unfit.CertFault.TheVariants.{Extra, ManyUris}
-use Rattle.wl_x509.specs.declared.values.Span.{Span}
+use Rattle.wl_x509.proofs.Common.{CertFault, Extra, ManyUris, Span, ◌>>=◌, value_at, part_at, then_end, names_in, extension_at, extensions_in, one_uri}
 use Rattle.wl_x509.specs.declared.names.Uris.{Uris}
-use Rattle.list_laws.specs.Results.{◌>>=◌}
-use Rattle.wl_x509.specs.Values.{value_at, part_at}
-use Rattle.wl_x509.specs.Leaves.{then_end, names_in, extension_at, extensions_in, one_uri}
 use Rattle.wl_x509.specs.Tallies.{no_uris, met, tally, tallied, ended, chosen, IsMet}
 
 end_by : (b : Bool) (f : Uris) (us : List Span) (at : ℕ) → tallied f (cond b (Err (Extra at)) (Ok us)) ≡ cond b (Err (Extra at)) (Ok (tally f us))

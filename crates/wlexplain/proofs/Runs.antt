@@ -2,22 +2,13 @@
 use Rattle.std.proofs.Common.{◌≡◌, ℕ, ◌+◌, ◌≤◌, inl, inr, Bool, true, false, List, [], ◌++◌, length, take, drop, Option, Some, None, Result, Ok, Err, IfSome, refl, sym, ap, subst, ◌∙◌, append_assoc, append-nil, arith}
 use Rattle.std.proofs.lemmas.List.{take-append-drop, length-append, take-append-le, take_all}
 use Rattle.wl_edge.specs.Edge.{Rose, Gained, GainedPrefix}
+use Rattle.wl_edge.proofs.Sinks.{gained_none, gained_more}
 use Rattle.fault_lines.specs.Explanations.{explained_text}
 use Rattle.wlexplain.specs.declared.run.TheConstants.{READ_LIMIT, DONE, READ_FAILED, OUT_OF_MEMORY}
 use Rattle.wlexplain.specs.Following.{whole_lines, last_line}
 use Rattle.wlexplain.specs.Endings.{AreRead, done, read_failed, write_failed, no_memory}
 use Rattle.wlexplain.specs.Steps.{Moment, moment, Follows, IsOver, EndsAt, StepEnds, IsAll, LinesEnd, WritesDue}
 use Rattle.wlexplain.proofs.Cuts.{explained_by, whole_more, last_more}
-
-gained_none : (m : Option (List ℕ)) → Gained m m []
-gained_none None = tt
-gained_none (Some taken) = rw (append-nil taken) refl
-
-gained_more : (a b c : Option (List ℕ)) (s t : List ℕ) → Gained a b s → Gained b c t → Gained a c (s ++ t)
-gained_more None b c s t p r = tt
-gained_more (Some taken) b c s t p r =
-    let got = subst (λ (m : Option (List ℕ)). Gained m c t) p r in
-    got ∙ rw (append_assoc taken s t) refl
 
 -- a prefix after what went out before is one of all that is due
 prefix_more : (a b c : Option (List ℕ)) (s due whole tail : List ℕ) → whole ≡ s ++ (due ++ tail) → Gained a b s → GainedPrefix b c due → GainedPrefix a c whole

@@ -1,4 +1,4 @@
-use Rattle.h2_flow.proofs.Begun.{pull_counts}
+use Rattle.h2_flow.proofs.BegunCounts.{pull_counts}
 use Rattle.h2_flow.proofs.Progress.{reached_prefix, reached_progress, pull_finishes}
 use Rattle.h2_flow.proofs.laws.writes_what_began.Goals as goal
 

@@ -1,6 +1,6 @@
 use Rattle.wl_entry.specs.Entitled.{is_entitled}
 use Rattle.wl_snapshot.specs.Views.{is_seen}
-use Rattle.laws_headline.proofs.Found.{passed_over, replaced}
+use Rattle.laws_headline.proofs.FilteredLists.{passed_over, replaced}
 use Rattle.laws_headline.proofs.laws.foreign_items_change_nothing.Goals as goal
 
 pub returns : goal.returns

@@ -7,7 +7,7 @@ use Rattle.pb_wire.specs.Grammar.{StandsAt}
 use Rattle.pb_wire.specs.Reading.{field_at}
 use Rattle.list_laws.specs.Lists.{AreBytes}
 use Rattle.pb_wire.proofs.Fields.{field_holds, field_again}
-use Rattle.pb_wire.proofs.Written.{bytes_back, varint_back}
+use Rattle.pb_wire.proofs.ReadBack.{bytes_back, varint_back}
 use Rattle.pb_wire.proofs.reading.read_field.Goals as goal
 
 is_found : (bytes : List ℕ) (at : ℕ) (r : Result Field WireFault) → AreBytes bytes → r ≡ field_at bytes at → IfOk r (λ f. StandsAt bytes at f)

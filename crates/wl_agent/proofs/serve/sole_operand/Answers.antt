@@ -1,4 +1,4 @@
-use Rattle.wl_agent.proofs.Sole.{no_sole}
+use Rattle.wl_agent.proofs.Operands.{no_sole}
 use Rattle.wl_agent.proofs.serve.sole_operand.Goals as goal
 
 pub returns-in-len3-up : goal.returns-in-len3-up

@@ -1,4 +1,4 @@
-use Rattle.wl_config.proofs.Distinct.{within_added}
+use Rattle.wl_config.proofs.NewNames.{within_added}
 use Rattle.wl_config.proofs.sockets.socket.Goals as goal
 
 pub returns-clause-within : goal.returns-clause-within

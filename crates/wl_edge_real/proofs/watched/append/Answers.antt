@@ -1,4 +1,4 @@
-use Rattle.wl_edge_real.proofs.Longer.{begins_itself}
+use Rattle.wl_edge_real.proofs.Prefixes.{begins_itself}
 use Rattle.wl_edge_real.proofs.watched.append.Goals as goal
 
 pub loop-number-init : goal.loop-number-init

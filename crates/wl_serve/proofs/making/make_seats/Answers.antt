@@ -4,7 +4,7 @@ use Rattle.std.specs.List.{AllZip, range_with_len}
 use Rattle.std.proofs.lemmas.List.{length-append}
 use Rattle.wl_dealing.specs.Dealt.{dealt}
 use Rattle.wl_serve.specs.Prepared.{IsSeat, AreSeats}
-use Rattle.wl_serve.proofs.Made.{made_more, pushed}
+use Rattle.wl_serve.proofs.SeatLists.{made_more, pushed}
 use Rattle.wl_serve.proofs.making.make_seats.Goals as goal
 
 pub loop-number-preserved : goal.loop-number-preserved

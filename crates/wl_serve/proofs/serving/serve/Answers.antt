@@ -1,7 +1,7 @@
 use Rattle.std.proofs.Common.{subst}
 use Rattle.std.specs.Prelude.{None}
 use Rattle.wl_config.specs.Configs.{Within}
-use Rattle.wl_serve.proofs.Ran.{some_seats, idle_seats, serve_tells}
+use Rattle.wl_serve.proofs.Courses.{some_seats, idle_seats, serve_tells}
 use Rattle.wl_serve.proofs.serving.serve.Goals as goal
 
 pub serve_parts-end-requires-clause-some : goal.serve_parts-end-requires-clause-some

@@ -2,7 +2,7 @@ use Rattle.std.proofs.Common.{◌∙◌, ap, refl}
 use Rattle.std.specs.Prelude.{Err, None}
 use Rattle.wl_serve.specs.Serving.{end_of}
 use Rattle.wl_serve.proofs.Lists.{ends_shown}
-use Rattle.wl_serve.proofs.Ran.{sat_from, sat_tells, refused_first, taken_first}
+use Rattle.wl_serve.proofs.Courses.{sat_from, sat_tells, refused_first, taken_first}
 use Rattle.wl_serve.proofs.serving.serve_first.Goals as goal
 
 pub returns-in-Ok-serve_manager : goal.returns-in-Ok-serve_manager

@@ -1,6 +1,6 @@
 use Rattle.std.proofs.Common.{◌∙◌, ap, sym}
 use Rattle.std.specs.Prelude.{length, None}
-use Rattle.wl_serve.proofs.Ran.{sat_back}
+use Rattle.wl_serve.proofs.Courses.{sat_back}
 use Rattle.wl_serve.proofs.serving.serve_parts.Goals as goal
 
 pub returns : goal.returns

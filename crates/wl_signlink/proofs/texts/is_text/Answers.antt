@@ -1,5 +1,5 @@
 use Rattle.std.proofs.Common.{◌∙◌}
-use Rattle.wl_signlink.proofs.Bytes.{told}
+use Rattle.wl_selector.proofs.Texts.{told}
 use Rattle.wl_signlink.proofs.texts.is_text.Goals as goal
 
 pub returns : goal.returns

@@ -1,6 +1,6 @@
 use Rattle.std.proofs.Common.{arith}
 use Rattle.std.proofs.lemmas.Result.{err_from_is_err_and}
-use Rattle.wl_x509.proofs.Found.{leaf_ok, leaf_err, leaf_uri_err, only_leaf, refuses_leaf}
+use Rattle.wl_x509.proofs.LeafReading.{leaf_ok, leaf_err, leaf_uri_err, only_leaf, refuses_leaf}
 use Rattle.wl_x509.proofs.CertificateEncoding.{certificate_found}
 use Rattle.wl_x509.proofs.leaves.read_leaf.Goals as goal
 

@@ -1,7 +1,7 @@
 use Rattle.std.proofs.Common.{sym, ◌∙◌, ap}
 use Rattle.svid_cache.specs.Caches.{Cached}
 use Rattle.svid_cache.specs.Timetables.{cached_by}
-use Rattle.svid_cache.proofs.KeptAlready.{install_stays, same_svids, put_differs, changes}
+use Rattle.svid_cache.proofs.RepeatedKeeps.{install_stays, same_svids, put_differs, changes}
 use Rattle.svid_cache.proofs.timetable.Timetable.prepare_install.Goals as goal
 
 pub returns-then-leaves_as_is-clause-next : goal.returns-then-leaves_as_is-clause-next

@@ -1,6 +1,6 @@
 use Rattle.std.proofs.Common.{◌∙◌, ap}
 use Rattle.wl_match.specs.Indexes.{entitled_places}
-use Rattle.wl_match.proofs.Chosen.{rising_are, there_are, chosen_are}
+use Rattle.wl_match.proofs.ChosenPlaces.{rising_are, there_are, chosen_are}
 use Rattle.wl_match.proofs.index.Index.entitled.Goals as goal
 
 pub returns-clause-chosen : goal.returns-clause-chosen

@@ -1,5 +1,5 @@
 use Rattle.std.proofs.Common.{refl, ◌∙◌}
-use Rattle.wl_session_tests.proofs.Samples.{one_entry}
+use Rattle.wl_snapshot.proofs.Samples.{one_entry}
 use Rattle.wl_session_tests.proofs.tests.publications.listed.Goals as goal
 
 pub invariant_of-result : goal.invariant_of-result

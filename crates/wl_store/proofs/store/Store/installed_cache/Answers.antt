@@ -1,5 +1,5 @@
 use Rattle.std.proofs.Common.{refl, sym, ◌∙◌, subst}
-use Rattle.svid_cache.proofs.KeptAlready.{same_svids}
+use Rattle.svid_cache.proofs.RepeatedKeeps.{same_svids}
 use Rattle.wl_store.specs.Stores.{cached_of}
 use Rattle.wl_store.specs.Steps.{AllTrusted, Trusted, kept_after}
 use Rattle.wl_store.proofs.StoreSteps.{refusal_installs, refusal_gives, install_gives}

@@ -3,7 +3,7 @@ use Rattle.std.specs.Cmp.Lexicographic.{pointwise}
 use Rattle.wl_entry.specs.Same.{same_svid}
 use Rattle.svid_cache.specs.Caches.{lasts, has_ended, without_ended}
 use Rattle.svid_cache.specs.Timetables.{cached_by}
-use Rattle.svid_cache.proofs.KeptAlready.{same_svids}
+use Rattle.svid_cache.proofs.RepeatedKeeps.{same_svids}
 use Rattle.wl_store.specs.Steps.{AllTrusted}
 use Rattle.wl_store.proofs.StoreSteps.{still_trusted, ended_differs}
 use Rattle.wl_store.proofs.store.Store.swept.Goals as goal

@@ -3,12 +3,8 @@ use Rattle.std.proofs.Common.{◌≡◌, ℕ, zero, suc, ◌+◌, ◌-◌, min, 
 use Rattle.std.specs.List.{flat_map}
 use Rattle.std.proofs.lemmas.Bool.{le-ltb, le-leb, lt-leb, eq-eqb}
 use Rattle.std.proofs.lemmas.List.{append-nil, map-append, length-take, length-drop, take_all, drop_at}
-use Rattle.wl_x509.specs.declared.values.Span.{Span}
-use Rattle.wl_x509.specs.declared.leaves.Leaf.{Leaf}
-use Rattle.wl_x509.specs.Values.{content, value_at, part_at, option_at}
-use Rattle.wl_x509.specs.Leaves.{then_end, time_at, validity_at, names_in, names_from, alternative_names, uris_of, extension_at, extensions_in, extensions_from, extension_list, extensions_part, issuing_at, subject_at, body_at, frame_of, signature_at, one_uri, leaf_of}
-use Rattle.wl_x509.specs.Encodings.{encoding, between}
-use Rattle.wl_x509.specs.Certificates.{optional, TimeForm, utc, generalized, CertTime, time_text, time_tag, encoded_time, IsTimeOf, GeneralName, encoded_name, uris_among, Extension, subject_alt_name, subject_names, other_extension, parts_of_extension, extension_content, encoded_extension, uris_of_extension, encoded_extensions, uris_of_extensions, Certificate, body_content, certificate_content, IsLeafOf}
+use Rattle.wl_x509.proofs.Common.{Span, Leaf, content, value_at, part_at, option_at, then_end, time_at, validity_at, names_in, names_from, alternative_names, uris_of, extension_at, extensions_in, extensions_from, extension_list, extensions_part, issuing_at, subject_at, body_at, frame_of, signature_at, one_uri, leaf_of, encoding, between, TimeForm, utc, generalized, CertTime, time_text, IsTimeOf, subject_alt_name}
+use Rattle.wl_x509.specs.Certificates.{optional, time_tag, encoded_time, GeneralName, encoded_name, uris_among, Extension, subject_names, other_extension, parts_of_extension, extension_content, encoded_extension, uris_of_extension, encoded_extensions, uris_of_extensions, Certificate, body_content, certificate_content, IsLeafOf}
 use Rattle.wl_x509.proofs.Encodings.{byte_of, behind_first, room_for, encoding_read}
 use Rattle.wl_x509.proofs.Digits.{short_again, long_again}
 

@@ -1,25 +1,21 @@
 -- Each fault's line reads back to the sentence of that fault.
 use Rattle.std.specs.Prelude.{◌≡◌, ℕ, ◌==◌, ◌&&◌, ◌||◌, Bool, true, false, not, if◌then◌else◌, List, [], ◌∷◌, ◌++◌, codes, Some}
 use Rattle.std.proofs.Common.{refl, ◌∙◌, ap}
-use Rattle.spiffe_id.specs.declared.faults.IdFault.{IdFault}
+use Rattle.fault_laws.proofs.Common.{IdFault, AreBounded, told_at, Place, DocFault, ConfigFault, fault_numbers, config_numbers, document_says, config_says, item, id_item}
 use Rattle.spiffe_id.specs.declared.faults.IdFault.TheVariants as id
-use Rattle.fault_lines.specs.Lines.{AreBounded}
 use Rattle.fault_lines.specs.Explanations.{sentence, explained_text, or_line}
-use Rattle.fault_lines.specs.Sentences.{place_of, has_item, item_suffix, id_what, id_what_at, document_alone, document_what, document_what_of, document_rest, document_placed, document_sentence, config_alone, config_long, config_what, config_what_of, config_rest, config_placed, config_sentence, script_alone, script_line, script_sentence, told_at}
+use Rattle.fault_lines.specs.Sentences.{place_of, has_item, item_suffix, id_what, id_what_at, document_alone, document_what, document_what_of, document_rest, document_placed, document_sentence, config_alone, config_long, config_what, config_what_of, config_rest, config_placed, config_sentence, script_alone, script_line, script_sentence}
 use Rattle.fault_lines.proofs.RoundTrip.{text_read}
 use Rattle.fault_lines.specs.Lines as lines
 use Rattle.fault_lines.specs.Texts as say
-use Rattle.wl_document.specs.declared.fault.Place.{Place}
-use Rattle.wl_document.specs.declared.fault.DocFault.{DocFault}
 use Rattle.wl_document.specs.declared.fault.DocFault.TheVariants as document
-use Rattle.wl_config.specs.declared.fault.ConfigFault.{ConfigFault}
 use Rattle.wl_config.specs.declared.fault.ConfigFault.TheVariants as config
 use Rattle.wl_replay.specs.declared.fault.ScriptFault.{ScriptFault}
 use Rattle.wl_replay.specs.declared.fault.ScriptFault.TheVariants as script
-use Rattle.wl_replay.specs.Faults.{fault_numbers, id_numbers}
+use Rattle.wl_replay.specs.Faults.{id_numbers}
 use Rattle.fault_laws.specs.Lines as written
-use Rattle.fault_laws.specs.Lines.{config_line, config_numbers}
-use Rattle.fault_laws.specs.Sentences.{document_says, config_says, script_says, name_in_document, name_in_config, item, id_item, id_says}
+use Rattle.fault_laws.specs.Lines.{config_line}
+use Rattle.fault_laws.specs.Sentences.{script_says, name_in_document, name_in_config, id_says}
 
 -- ---- the sentence of a fault's numbers
 

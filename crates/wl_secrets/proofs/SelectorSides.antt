@@ -3,24 +3,15 @@ use Rattle.std.proofs.Common.{◌≡◌, ℕ, ◌==◌, ◌<◌, ◌⊎◌, inl,
 use Rattle.std.specs.List.{AllByRecursion}
 use Rattle.std.proofs.lemmas.List.{get_or-replicate}
 use Rattle.h2_conn.proofs.Walk.{at_cond}
-use Rattle.wl_entry.specs.Entitled.{is_entitled}
-use Rattle.wl_entry.specs.declared.entries.Entry.{Entry}
-use Rattle.wl_entry.specs.declared.tokens.JwtToken.{JwtToken}
-use Rattle.wl_snapshot.specs.Snapshots.{Publication}
-use Rattle.wl_session.specs.declared.asks.JwtAsk.{JwtAsk}
-use Rattle.wl_session.specs.Sessions.{asks_in}
+use Rattle.wl_secrets.proofs.Common.{is_entitled, Entry, JwtToken, Publication, JwtAsk, asks_in, CONNS, Event, Seat, joined_seat, named_seat, told_seat, feed_seat, turn_seat, tokens_of, kept_token, Beginning, Moment, moment, token_seat, ask_of_seat, seat, Attested, joined_as, named_as, attested_after, attested, Side, seat_step}
 use Rattle.wl_session.specs.Steps.{Told}
-use Rattle.wl_core.specs.declared.events.TheConstants.{CONNS}
-use Rattle.wl_core.specs.declared.events.Event.{Event}
 use Rattle.wl_core.specs.declared.events.Event.TheVariants as events
-use Rattle.wl_core.specs.declared.seats.Seat.{Seat}
-use Rattle.wl_core.specs.Seats.{joined_seat, named_seat, told_seat, feed_seat, turn_seat}
-use Rattle.wl_core.specs.Tokens.{KeptTokens, tokens_of, kept_token, outcome_of}
-use Rattle.wl_core.specs.Moments.{Beginning, Moment, moment, answer_ask, token_seat, ask_of_seat, publication, seat}
-use Rattle.wl_secrets.specs.Sides.{Attested, joined_as, named_as, attested_after, attested, Covers, IsOnSide, Side}
+use Rattle.wl_core.specs.Tokens.{KeptTokens, outcome_of}
+use Rattle.wl_core.specs.Moments.{answer_ask, publication}
+use Rattle.wl_secrets.specs.Sides.{Covers, IsOnSide}
 use Rattle.wl_secrets.proofs.Calls.{Bounds, CallerOn, SessionOn, CoversOn, feed_on, turn_on, outcome_on, AskOn, ask_on, session_looser}
 use Rattle.wl_secrets.proofs.Keeps.{AskIs}
-use Rattle.wl_responses.proofs.Runs.{seat_step, seat_next}
+use Rattle.wl_responses.proofs.Runs.{seat_next}
 
 -- ---- as what a session was attested
 

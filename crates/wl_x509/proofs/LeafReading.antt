@@ -1,17 +1,13 @@
 -- From what the code keeps of a certificate to its leaf.
 use Rattle.std.proofs.Common.{◌≡◌, ℕ, List, Result, Ok, Err, refl, sym, ap, ◌∙◌}
-use Rattle.wl_entry.specs.declared.unfit.CertFault.{CertFault}
-use Rattle.wl_entry.specs.declared.unfit.CertFault.TheVariants.{Truncated, Tag, Length, Time, Extra, NoUri, ManyUris, Memory}
-use Rattle.wl_x509.specs.declared.values.Span.{Span}
+use Rattle.wl_x509.proofs.Common.{CertFault, Truncated, Length, Extra, ManyUris, Span, Frame, Leaf, ◌>>=◌, frame_of, extensions_part, signature_at, one_uri, leaf_of}
+use Rattle.wl_entry.specs.declared.unfit.CertFault.TheVariants.{Tag, Time, NoUri, Memory}
 use Rattle.wl_x509.specs.declared.names.Uris.{Uris}
-use Rattle.wl_x509.specs.declared.parts.Frame.{Frame}
-use Rattle.wl_x509.specs.declared.leaves.Leaf.{Leaf}
-use Rattle.list_laws.specs.Results.{◌>>=◌}
-use Rattle.wl_x509.specs.Leaves.{frame_of, extensions_part, signature_at, one_uri, leaf_of, Refuses}
+use Rattle.wl_x509.specs.Leaves.{Refuses}
 use Rattle.wl_x509.specs.Tallies.{no_uris, tallied, chosen, found_in}
 use Rattle.wl_x509.specs.Certificates.{IsOnlyLeafOf, HasNoLeaf}
 use Rattle.wl_x509.proofs.Tallies.{chosen_is}
-use Rattle.wl_x509.proofs.Again.{certificate_again}
+use Rattle.wl_x509.proofs.RoundTrips.{certificate_again}
 
 -- the leaf of a frame and of the URIs that were met
 abbrev pub leaf_by : List ℕ → Frame × Uris → Result Leaf CertFault

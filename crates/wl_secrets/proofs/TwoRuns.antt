@@ -2,23 +2,21 @@
 use Rattle.std.proofs.Common.{◌≡◌, ℕ, ◌==◌, Bool, true, false, if◌then◌else◌, List, [], ◌∷◌, Option, Some, None, Result, Ok, Err, refl, sym, ap, subst, ◌∙◌}
 use Rattle.std.proofs.lemmas.Bool.{eqb-true}
 use Rattle.std.specs.Prelude.{find}
-use Rattle.wl_entry.specs.declared.entries.Entry.{Entry}
-use Rattle.wl_entry.specs.declared.signing.Signed.{Signed}
+use Rattle.wl_secrets.proofs.Common.{Entry, Signed, Store, Stored, Event, Beginning, Moment, moment, Attested, joined_as, named_as, attested_after, attested, Side}
 use Rattle.wl_document.specs.declared.fault.DocFault.{DocFault}
 use Rattle.wl_document.specs.States.{State}
 use Rattle.wl_document.specs.Documents.{document_state}
 use Rattle.wl_store.specs.declared.tickets.Flight.{Flight}
-use Rattle.wl_store.specs.Stores.{Store, after_claim, after_signed, install}
-use Rattle.wl_store.specs.Steps.{Stored, stored_after, after_sync}
-use Rattle.wl_core.specs.declared.events.Event.{Event}
+use Rattle.wl_store.specs.Stores.{after_claim, after_signed, install}
+use Rattle.wl_store.specs.Steps.{stored_after, after_sync}
 use Rattle.wl_core.specs.declared.events.Event.TheVariants as events
-use Rattle.wl_core.specs.Moments.{Beginning, Moment, moment, moment_after, reading_of, after_reading, after_document, flight_in, signed_with, after_identity, failed_with, after_no_identity, store, publication}
+use Rattle.wl_core.specs.Moments.{moment_after, reading_of, after_reading, after_document, flight_in, signed_with, after_identity, failed_with, after_no_identity, store, publication}
 use Rattle.wl_secrets.specs.Runs.{Step, with_pair, first_run, second_run, is_at}
-use Rattle.wl_secrets.specs.Sides.{Attested, joined_as, named_as, attested_after, attested, IsOnSide, Side}
+use Rattle.wl_secrets.specs.Sides.{IsOnSide}
 use Rattle.wl_secrets.specs.Foreign.{IsAsFit, Fits}
 use Rattle.wl_secrets.proofs.HiddenStores.{hidden, shade, entries_alike, claim_alike, signed_alike, install_alike, ticket_alike}
 use Rattle.wl_secrets.proofs.ViewModels.{shown_after, shown_failed, domain_after, AreAlike, published_alike}
-use Rattle.wl_secrets.proofs.Known.{side_before}
+use Rattle.wl_secrets.proofs.SelectorSides.{side_before}
 
 -- ---- the store
 

@@ -2,17 +2,16 @@
 use Rattle.std.proofs.Common.{◌≡◌, ℕ, List, [], ◌∷◌, map, Option, Some, None, refl, ap}
 use Rattle.h2_frame.specs.Reading.{End, reading_from}
 use Rattle.h2_conn.specs.declared.fault.ConnFault.{ConnFault}
-use Rattle.wl_snapshot.specs.Snapshots.{Publication}
-use Rattle.wl_snapshot.specs.Views.{view_in}
+use Rattle.wl_secrets.proofs.Common.{Publication, view_in, SessionState, asks_in, outcome_told, Item, feed_items}
 use Rattle.wl_session.specs.declared.asks.JwtOutcome.{JwtOutcome}
 use Rattle.wl_session.specs.declared.served.Stage.{Stage}
 use Rattle.wl_session.specs.declared.served.Stage.TheVariants.{Unnamed, Ready, Asking}
 use Rattle.wl_session.specs.declared.served.ServedCall.{ServedCall}
 use Rattle.wl_session.specs.Agreeing.{SeesAlike, SeeAlike}
 use Rattle.wl_session.specs.Talks.{Said}
-use Rattle.wl_session.specs.Sessions.{SessionState, Running, Fallen, OutOfMemory, feed_said, asks_in}
-use Rattle.wl_session.specs.Steps.{fed_by, feed_told, turn_told, outcome_told}
-use Rattle.wl_session.specs.Items.{Item, feed_items, turn_items, view_where_new, stage_view, call_view, views_item}
+use Rattle.wl_session.specs.Sessions.{Running, Fallen, OutOfMemory, feed_said}
+use Rattle.wl_session.specs.Steps.{fed_by, feed_told, turn_told}
+use Rattle.wl_session.specs.Items.{turn_items, view_where_new, stage_view, call_view, views_item}
 use Rattle.wl_session.proofs.Agreements.{alike}
 use Rattle.wl_secrets.proofs.Calls.{Bounds, StageOn, CallsOn, SessionOn}
 

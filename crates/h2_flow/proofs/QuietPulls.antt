@@ -1,11 +1,8 @@
 -- A pull after a pull writes nothing.
 use Rattle.std.proofs.Common.{◌≡◌, inl, inr, ℕ, zero, suc, ◌<◌, Bool, not, List, [], ◌∷◌, ◌++◌, length, filter, refl, sym, ap, ◌∙◌, arith}
 use Rattle.std.proofs.lemmas.Bool.{cases_Bool}
-use Rattle.h2_flow.specs.declared.flow.Flow.{Flow}
-use Rattle.h2_flow.specs.declared.stream.Stream.{Stream}
-use Rattle.h2_flow.specs.Streams.{Sent, no_turn, turn}
-use Rattle.h2_flow.specs.Pulls.{Round, round, all_work, all_rounds}
-use Rattle.h2_flow.specs.Outboxes.{Out, is_number, without_stream, pull_of, IsQuiet}
+use Rattle.h2_flow.proofs.Common.{Flow, Stream, Sent, no_turn, turn, Round, round, all_work, all_rounds, Out, is_number, without_stream, pull_of}
+use Rattle.h2_flow.specs.Outboxes.{IsQuiet}
 use Rattle.h2_flow.proofs.Turns.{turn_works}
 use Rattle.h2_flow.proofs.Rounds.{still, round_works, rounds_step, some_sent, after_some}
 

@@ -1,12 +1,7 @@
 -- A pull raises the count of begun messages by those that waited before it and do not after it.
 use Rattle.std.proofs.Common.{◌≡◌, ◌⊎◌, inl, inr, ℕ, zero, suc, ◌+◌, ◌==◌, nat_lt, Bool, true, false, cond, List, [], ◌∷◌, length, Option, Some, None, refl, sym, ◌∙◌, add-zero, arith}
-use Rattle.h2_flow.specs.declared.flow.Flow.{Flow}
-use Rattle.h2_flow.specs.declared.stream.Stream.{Stream}
-use Rattle.h2_flow.specs.Windows.{allowed_of}
-use Rattle.h2_flow.specs.Streams.{Turn, headers_turn, data_turn, last_turn, next_turn, body_turn, head_turn, turn}
-use Rattle.h2_flow.specs.Pulls.{Round, round, rounds, all_rounds, all_work}
-use Rattle.h2_flow.specs.Outboxes.{Out, pull_of}
-use Rattle.h2_flow.specs.Progress.{left_of, count_begun, count_all_begun}
+use Rattle.h2_flow.proofs.Common.{Flow, Stream, allowed_of, Turn, headers_turn, data_turn, last_turn, next_turn, body_turn, head_turn, turn, Round, round, rounds, all_rounds, all_work, Out, pull_of, left_of}
+use Rattle.h2_flow.specs.Progress.{count_begun, count_all_begun}
 
 -- nothing comes to wait
 abbrev Falls : Option (List ℕ) → Option (List ℕ) → Type 0

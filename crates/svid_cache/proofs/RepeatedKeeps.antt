@@ -8,16 +8,13 @@ use Rattle.std.specs.Cmp.Lexicographic.{slice_cmp, pointwise}
 use Rattle.std.proofs.Common.{Less, arith, refl, sym, ◌∙◌, ap, subst}
 use Rattle.std.proofs.lemmas.Bool.{and_parts}
 use Rattle.std.proofs.lemmas.Slice.Eq.{bytes_eq-Decides}
-use Rattle.list_laws.specs.Lists.{Rises}
-use Rattle.list_laws.proofs.Order.{order, turned, level_self}
-use Rattle.wl_entry.specs.Keys.{svid_key}
-use Rattle.wl_entry.specs.Same.{same_ask, same_signed, same_svid}
-use Rattle.wl_entry.specs.declared.asks.Ask.{Ask}
-use Rattle.wl_entry.specs.declared.signing.Svid.{Svid}
+use Rattle.svid_cache.proofs.Common.{Rises, level_self, svid_key, same_ask, Ask, Svid, Cached, kept_for, with_svid, is_below, is_above}
+use Rattle.list_laws.proofs.Order.{order, turned}
+use Rattle.wl_entry.specs.Same.{same_signed, same_svid}
 use Rattle.wl_entry.proofs.Sames.{svid_is, svids_are, both_true, ask_self, svid_self, list_self}
 use Rattle.svid_cache.specs.declared.install.Installed.{Installed}
 use Rattle.svid_cache.specs.declared.install.Installed.TheVariants as installed
-use Rattle.svid_cache.specs.Caches.{Cached, kept_for, keeps, with_svid, is_below, is_above, is_refused, after_install}
+use Rattle.svid_cache.specs.Caches.{keeps, is_refused, after_install}
 use Rattle.svid_cache.proofs.AskBlocks.{some_is, found_go}
 
 -- ---- what is found
