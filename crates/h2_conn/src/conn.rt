@@ -24,6 +24,7 @@ use crate::writing::{final_bytes, pull};
 use h2_flow::Outbox;
 use h2_frame::{Frame, FrameFault};
 use hpack::Decoder;
+use output_parts::Output;
 use std::alloc::Global;
 use std::marker::Model;
 use std::mem;
@@ -322,7 +323,7 @@ impl Conn {
     /// were queued, and then rounds of the streams. After a fault it writes what control frames
     /// were still queued and GOAWAY, once, and nothing after it.
     #[tactic(auto, unfolding(crate::specs::Conns::flush_of))]
-    pub fn flush(&mut self, out: &mut Octets) -> Result<(), Memory>
+    pub fn flush(&mut self, out: &mut Output) -> Result<(), Memory>
         ensures after { OnOk result (self.new ≡ (flush_of self.old).after) }
         ensures bytes { OnOk result (out.new ≡ out.old ++ (flush_of self.old).bytes) }
         ensures prefix { GainsFront (flush_of self.old).bytes out.old out.new }

@@ -10,6 +10,7 @@ use crate::control::close;
 use crate::fault::ConnFault;
 use crate::state::State;
 use h2_frame::{Body, Frame, put_frame};
+use output_parts::Output;
 use std::alloc::Global;
 use wl_octets::{Memory, Octets, Row};
 
@@ -52,7 +53,7 @@ fn end_responses(state: &mut State, ended: &[u32])
 
 /// Writes all that may be written, and ends what that ends.
 #[tactic(auto, using(crate::proofs::Sounds::s_pulled), unfolding(crate::specs::Conns::after_pull))]
-pub fn pull(state: &mut State, alloc: Global, out: &mut Octets) -> Result<(), Memory>
+pub fn pull(state: &mut State, alloc: Global, out: &mut Output) -> Result<(), Memory>
     requires { Sound state.old }
     ensures sound { OnOk result (Sound state.new) }
     ensures ok { OnOk result (state.new ≡ after_pull state.old (pull_of state.old.outbox)) }

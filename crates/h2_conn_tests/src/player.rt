@@ -5,6 +5,7 @@ ghost use Rattle.h2_conn.specs.Kinds.{FitsBody};
 
 use h2_conn::{Conn, ConnError, ConnFault, Happening};
 use h2_frame::{Body, Frame, FrameFault, Parser};
+use output_parts::Output;
 use std::alloc::Global;
 use std::process::Abort;
 use wl_octets::{Header, Octets, Row};
@@ -93,9 +94,9 @@ pub fn hear_bytes(rt: &impl Abort, alloc: Global, player: &mut Player, bytes: &[
 
 /// What the connection writes now.
 pub fn flush(rt: &impl Abort, alloc: Global, player: &mut Player) -> Octets {
-    let mut out = Octets::empty(alloc);
+    let mut out = Output::empty(alloc);
     player.conn.flush(&mut out).expect(rt, "memory");
-    out
+    out.into_octets(alloc).expect(rt, "memory")
 }
 
 // ---- happenings as text

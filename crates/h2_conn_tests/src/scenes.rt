@@ -29,6 +29,7 @@ use crate::player::{Player, break_by, flush, hear, hear_bytes, notes, start};
 use crate::samples::{bytes_of, number, put_bytes};
 use h2_conn::Conn;
 use h2_frame::{Body, Frame, FrameFault};
+use output_parts::Output;
 use std::alloc::Global;
 use std::process::Abort;
 use wl_octets::{Header, Octets, Row};
@@ -238,10 +239,11 @@ fn has_failed(rt: &impl Abort, alloc: Global, player: &mut Player, scene: &str, 
 fn writes(rt: &impl Abort, alloc: Global, conn: &mut Conn, scene: &str, words: &str) {
     let mut due = octets(rt, alloc, b"-");
     put_bytes(rt, &mut due, words);
-    let mut out = octets(rt, alloc, b"-");
+    let mut out = Output::empty(alloc);
+    out.push_slice(b"-").expect(rt, "memory");
     for _ in 0..2 {
         conn.flush(&mut out).expect(rt, "memory");
-        assert_eq!(rt; out.as_slice(), due.as_slice(), "{scene}");
+        assert_eq!(rt; out.as_plain(), Some(due.as_slice()), "{scene}");
     }
 }
 

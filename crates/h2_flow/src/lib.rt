@@ -12,7 +12,6 @@ mod message;
 mod outbox;
 mod overflow;
 mod pull;
-mod room;
 mod stream;
 mod streams;
 

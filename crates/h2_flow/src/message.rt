@@ -1,6 +1,6 @@
 //! Messages of streams.
 
-ghost use Rattle.std.specs.Prelude.{◌≡◌, ◌^◌, ◌<◌, [], length};
+ghost use Rattle.std.specs.Prelude.{◌≡◌, ◌^◌, ◌<◌, [], length, IfSome};
 ghost use Rattle.std.specs.Str.{bytes_eq};
 ghost use Rattle.std.specs.Cmp.{partial_equiv_from_equiv};
 ghost use Rattle.std.specs.Cmp.Lexicographic.{nat_list_eq_equiv};
@@ -54,6 +54,16 @@ impl Message {
     {
         Message {
             holding: Holding::Common(bytes),
+        }
+    }
+
+    /// The bytes, where others have them too.
+    pub fn shared(&self) -> Option<&Shared<Octets>>
+        ensures { IfSome result (λ s. s.now ≡ self.now) }
+    {
+        match &self.holding {
+            Holding::Own(_) => None,
+            Holding::Common(bytes) => Some(bytes),
         }
     }
 

@@ -12,11 +12,11 @@ use crate::flow::{Flow, TableSizeUpdate};
 use crate::message::Message;
 use crate::overflow::Overflow;
 use crate::pull::take_rounds;
-use crate::room::make_room;
 use crate::stream::Stream;
 use crate::streams;
 use crate::streams::{credit, has_in, open_in, raise, take_out, written_in};
 use h2_wire::limit::{INITIAL_WINDOW_SIZE, MAX_LIVE_STREAMS, MAX_WINDOW_SIZE};
+use output_parts::Output;
 use std::alloc::Global;
 use std::marker::Model;
 use wl_octets::{Memory, Octets, Row, Shared};
@@ -283,7 +283,7 @@ impl Outbox {
     /// END_STREAM it wrote. Where memory runs out the windows, the counts and the control
     /// frames stay as they were, and no later call writes anything.
     #[tactic(auto, unfolding(crate::specs::Outboxes::pull_of))]
-    pub fn pull(&mut self, out: &mut Octets, ended: &mut Row<u32>) -> Result<(), Memory>
+    pub fn pull(&mut self, out: &mut Output, ended: &mut Row<u32>) -> Result<(), Memory>
         ensures left { OnOk result (self.new ≡ (pull_of self.old).left) }
         ensures bytes { OnOk result (out.new ≡ out.old ++ (pull_of self.old).bytes) }
         ensures ended { OnOk result (ended.new ≡ ended.old ++ (pull_of self.old).ended) }
@@ -300,7 +300,6 @@ impl Outbox {
             return Err(Memory);
         }
         self.failed = true;
-        make_room(self.alloc, self.flow, self.streams.as_slice(), out);
         out.push_slice(self.control.as_slice())?;
         let mut flow = self.flow;
         take_rounds(&mut flow, self.streams.as_mut_slice(), out, ended)?;

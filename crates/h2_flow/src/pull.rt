@@ -1,7 +1,8 @@
 //! Writing what the windows allow.
 
-ghost use Rattle.std.specs.Prelude.{◌≡◌, ◌≤◌, ◌+◌, ◌-ℤ◌, ℕ, true, false, None, Some, pos, if◌then◌else◌, List, ◌++◌, length};
+ghost use Rattle.std.specs.Prelude.{◌≡◌, ◌≤◌, ◌+◌, ◌-ℤ◌, ℕ, true, false, None, Some, pos, if◌then◌else◌, List, ◌++◌, length, take, drop};
 ghost use Rattle.h2_wire.specs.declared.limit.TheConstants.{MAX_FRAME_SIZE};
+ghost use Rattle.h2_wire.specs.declared.frame_type.TheConstants.{DATA};
 ghost use Rattle.h2_wire.specs.Encoding.{frame_bytes};
 ghost use Rattle.h2_flow.specs.Windows.{room_of, window_of};
 ghost use Rattle.h2_flow.specs.Streams.{size_update_bytes, after_block, headers_turn, data_turn, next_turn, last_turn, body_turn, turn};
@@ -9,9 +10,11 @@ ghost use Rattle.h2_flow.specs.Pulls.{round, all_rounds, Puts, Takes, Makes};
 
 use crate::block::Block;
 use crate::flow::{Flow, TableSizeUpdate, allowed};
+use crate::message::Message;
 use crate::stream::{Stream, left};
 use h2_wire::{flag, frame_type, head_of_frame};
-use wl_octets::{Memory, Octets, Row};
+use output_parts::Output;
+use wl_octets::{Memory, Row};
 
 /// What stands before the next block: a size update to 0, which empties the table of header
 /// compression, where that is due (RFC 7541, section 6.3).
@@ -37,7 +40,7 @@ fn after_block(update: TableSizeUpdate) -> TableSizeUpdate
 /// Writes one frame, whose payload comes in two parts.
 #[tactic(auto, using(list_laws::proofs::Fronts::gains_before, list_laws::proofs::Fronts::gains_after), unfolding(h2_wire::specs::Encoding::frame_bytes))]
 fn put(
-    out: &mut Octets,
+    out: &mut Output,
     kind: u8,
     flags: u8,
     stream: u32,
@@ -59,7 +62,7 @@ fn put_headers(
     flow: &mut Flow,
     stream: &mut Stream,
     block: &Block,
-    out: &mut Octets,
+    out: &mut Output,
 ) -> Result<(), Memory>
     ensures { (told : List ℕ)
         → Takes result
@@ -84,7 +87,7 @@ fn put_trailers(
     flow: &mut Flow,
     stream: &mut Stream,
     block: &Block,
-    out: &mut Octets,
+    out: &mut Output,
     ended: &mut Row<u32>,
 ) -> Result<(), Memory>
     ensures { Takes result (headers_turn flow.old stream.old block.now true) out.old out.new ended.old ended.new flow.new stream.new }
@@ -105,6 +108,39 @@ fn put_trailers(
     }
 }
 
+/// How many bytes of DATA a frame has at least for its payload to be lent: a copy of fewer takes less time (own rule).
+const LENT_LENGTH: u32 = 4_096;
+
+/// Writes a frame of DATA, whose payload is so many bytes of the message from there on. A long one is lent.
+#[tactic(auto, using(list_laws::proofs::Fronts::gains_before, list_laws::proofs::Fronts::gains_after), unfolding(h2_wire::specs::Encoding::frame_bytes))]
+fn put_part(
+    out: &mut Output,
+    stream: u32,
+    message: &Message,
+    from: usize,
+    count: u32,
+) -> Result<(), Memory>
+    requires at_most { count ≤ MAX_FRAME_SIZE }
+    requires within { from + count ≤ length message.now }
+    ensures { Puts result (frame_bytes DATA 0 stream (take count (drop from message.now))) out.old out.new }
+{
+    if count >= LENT_LENGTH
+        && let Some(shared) = message.shared()
+    {
+        let head = head_of_frame(count, frame_type::DATA, 0, stream);
+        return out.push_frame(head, shared.share()?, from, count as usize);
+    }
+    let (_, rest) = message.as_slice().split_at(from);
+    put(
+        out,
+        frame_type::DATA,
+        0,
+        stream,
+        &[],
+        rest.split_at(count as usize).0,
+    )
+}
+
 /// What a credit is after this many bytes of DATA.
 fn spent(initial: u32, credit: i64, bytes: u32) -> i64
     requires { bytes ≤ room_of (window_of initial credit) }
@@ -115,17 +151,15 @@ fn spent(initial: u32, credit: i64, bytes: u32) -> i64
 
 /// Writes the next bytes of the message that began last.
 #[tactic(auto, unfolding(crate::specs::Streams::data_turn))]
-fn put_data(flow: &mut Flow, stream: &mut Stream, out: &mut Octets) -> Result<(), Memory>
+fn put_data(flow: &mut Flow, stream: &mut Stream, out: &mut Output) -> Result<(), Memory>
     ensures { (told : List ℕ)
         → Takes result (data_turn flow.old stream.old) out.old out.new told told flow.new stream.new }
 {
-    let left = left(stream);
-    let count = allowed(*flow, stream.credit, left.len());
+    let count = allowed(*flow, stream.credit, left(stream).len());
     if count == 0 {
         return Ok(());
     }
-    let (bytes, _) = left.split_at(count as usize);
-    match put(out, frame_type::DATA, 0, stream.number, &[], bytes) {
+    match put_part(out, stream.number, &stream.last, stream.sent, count) {
         Ok(()) => {}
         Err(memory) => return Err(memory),
     }
@@ -152,7 +186,7 @@ fn begin(stream: &mut Stream)
 fn put_last(
     flow: &mut Flow,
     stream: &mut Stream,
-    out: &mut Octets,
+    out: &mut Output,
     ended: &mut Row<u32>,
 ) -> Result<(), Memory>
     ensures { Takes result (last_turn flow.old stream.old stream.old.trailers) out.old out.new ended.old ended.new flow.new stream.new }
@@ -168,7 +202,7 @@ fn put_last(
 fn put_next(
     flow: &mut Flow,
     stream: &mut Stream,
-    out: &mut Octets,
+    out: &mut Output,
     ended: &mut Row<u32>,
 ) -> Result<(), Memory>
     ensures { Takes result (next_turn flow.old stream.old stream.old.waiting) out.old out.new ended.old ended.new flow.new stream.new }
@@ -192,7 +226,7 @@ fn put_next(
 fn put_body(
     flow: &mut Flow,
     stream: &mut Stream,
-    out: &mut Octets,
+    out: &mut Output,
     ended: &mut Row<u32>,
 ) -> Result<(), Memory>
     ensures { Takes result
@@ -210,7 +244,7 @@ fn put_body(
 fn take_turn(
     flow: &mut Flow,
     stream: &mut Stream,
-    out: &mut Octets,
+    out: &mut Output,
     ended: &mut Row<u32>,
 ) -> Result<(), Memory>
     ensures { Takes result
@@ -227,7 +261,7 @@ fn take_turn(
 fn take_round(
     flow: &mut Flow,
     streams: &mut [Stream],
-    out: &mut Octets,
+    out: &mut Output,
     ended: &mut Row<u32>,
 ) -> Result<(), Memory>
     ensures { Makes result
@@ -243,7 +277,7 @@ fn take_round(
 pub(crate) fn take_rounds(
     flow: &mut Flow,
     streams: &mut [Stream],
-    out: &mut Octets,
+    out: &mut Output,
     ended: &mut Row<u32>,
 ) -> Result<(), Memory>
     ensures { Makes result

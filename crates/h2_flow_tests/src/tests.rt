@@ -1,6 +1,7 @@
 //! Worked bytes: an outbox's calls and what its pulls write.
 
 use h2_flow::{Outbox, Overflow};
+use output_parts::Output;
 use std::alloc::{AllocGlobal, Global};
 use std::test::Fail;
 use wl_octets::{Memory, Octets, Row, Shared};
@@ -55,10 +56,18 @@ fn are_parts(bytes: &[u8], parts: &[&[u8]]) -> bool {
 }
 
 /// Whether these frames are after the byte that was there, and these streams have ended.
-fn is_pulled(out: &Octets, ended: &Row<u32>, frames: &[&[u8]], ends: &[u32]) -> bool {
-    match out.as_slice().split_first() {
-        Some((b'-', written)) => are_parts(written, frames) && ended.as_slice() == ends,
-        _ => false,
+fn is_pulled(
+    alloc: Global,
+    out: &Output,
+    ended: &Row<u32>,
+    frames: &[&[u8]],
+    ends: &[u32],
+) -> Result<bool, Memory> {
+    let mut bytes = vec![in alloc; 0; out.len()]?;
+    out.copy_from(0, bytes.as_mut_slice());
+    match bytes.as_slice().split_first() {
+        Some((b'-', written)) => Ok(are_parts(written, frames) && ended.as_slice() == ends),
+        _ => Ok(false),
     }
 }
 
@@ -69,12 +78,13 @@ fn pulls(
     frames: &[&[u8]],
     ends: &[u32],
 ) -> Result<bool, Memory> {
-    let mut out = Octets::from_slice(alloc, b"-")?;
+    let mut out = Output::empty(alloc);
+    out.push_slice(b"-")?;
     let mut ended = Row::empty(alloc);
     outbox.pull(&mut out, &mut ended)?;
-    let first = is_pulled(&out, &ended, frames, ends);
+    let first = is_pulled(alloc, &out, &ended, frames, ends)?;
     outbox.pull(&mut out, &mut ended)?;
-    Ok(first && is_pulled(&out, &ended, frames, ends))
+    Ok(first && is_pulled(alloc, &out, &ended, frames, ends)?)
 }
 
 fn controls(outbox: &mut Outbox, frames: &[u8]) -> Result<bool, Memory> {

@@ -4,6 +4,7 @@ ghost use Rattle.std.specs.Prelude.{◌≡◌, ◌∷◌, [], ◌++◌, IfOk, On
 ghost use Rattle.list_laws.specs.Lists.{GainsFront};
 ghost use Rattle.wl_core.specs.Lines.{out_lines, failure_lines, idle_lines};
 
+use output_parts::Output;
 use std::alloc::Global;
 use wl_document::DocFault;
 use wl_entry::Unfit;
@@ -77,14 +78,15 @@ pub fn say_all(said: &mut Row<Line>, lines: Row<Line>) -> Result<(), Memory>
 pub fn session_lines(
     alloc: Global,
     conn: u32,
-    out: Octets,
+    out: Output,
     failure: Option<SessionFault>,
 ) -> Result<Row<Line>, Memory>
     ensures { IfOk result (λ l. l ≡ out_lines conn out ++ failure_lines conn failure) }
 {
     let mut lines = Row::empty(alloc);
     if out.len() > 0 {
-        lines.push(Line::Out { conn, bytes: out })?;
+        let bytes = out.into_octets(alloc)?;
+        lines.push(Line::Out { conn, bytes })?;
     }
     if let Some(SessionFault::Protocol(fault)) = failure {
         lines.push(Line::Ended {

@@ -4,8 +4,9 @@ ghost use Rattle.std.specs.Prelude.{◌≡◌, ◌++◌, None, Ok, IfOk, OnOk, I
 ghost use Rattle.wl_session.specs.Sessions.{unnamed_in, Names};
 ghost use Rattle.wl_session.specs.Steps.{names_told};
 
+use output_parts::Output;
 use std::alloc::Global;
-use wl_octets::{Memory, Octets};
+use wl_octets::Memory;
 use wl_selector::Selectors;
 use wl_session::Session;
 
@@ -23,7 +24,7 @@ fn copy_caller(alloc: Global, caller: &Option<Selectors>) -> Result<Option<Selec
 fn name_one(
     session: &mut Session,
     caller: Option<Selectors>,
-    out: &mut Octets,
+    out: &mut Output,
 ) -> Result<(), Memory>
     requires { IsSome (unnamed_in session.old) }
     ensures { OnOk result (Names caller session.old (Ok tt) out.old out.new session.new) }
@@ -39,7 +40,7 @@ pub fn name_all(
     alloc: Global,
     session: &mut Session,
     caller: &Option<Selectors>,
-    out: &mut Octets,
+    out: &mut Output,
 ) -> Result<(), Memory>
     ensures after { OnOk result (session.new ≡ (names_told caller.now session.old).after) }
     ensures bytes { OnOk result (out.new ≡ out.old ++ (names_told caller.now session.old).bytes) }

@@ -15,10 +15,11 @@ use crate::counts::begun_at;
 use crate::events::CONNS;
 use crate::lines::{Line, one_line, session_lines};
 use crate::naming::name_all;
+use output_parts::Output;
 use std::alloc::Global;
 use std::mem;
 use wl_match::Index;
-use wl_octets::{Memory, Octets, Row};
+use wl_octets::{Memory, Row};
 use wl_selector::Selectors;
 use wl_session::{JwtOutcome, Session, SessionFault};
 use wl_snapshot::Snapshot;
@@ -36,7 +37,7 @@ fn take_turn(
     snapshot: &Snapshot,
     index: &Index,
     is_marked: bool,
-    out: &mut Octets,
+    out: &mut Output,
 ) -> Result<(), SessionFault>
     requires follows { MayTurn snapshot.now session.old }
     requires named { unnamed_in session.old ≡ None }
@@ -54,7 +55,7 @@ fn take_turn(
 impl Seat {
     /// The caller's bytes; each call that is ready after them is attested.
     #[tactic(auto, using(crate::proofs::CallAnswers::fed_well, crate::proofs::CallAnswers::fed_badly))]
-    pub fn feed(&mut self, alloc: Global, piece: &[u8], out: &mut Octets) -> Result<(), Memory>
+    pub fn feed(&mut self, alloc: Global, piece: &[u8], out: &mut Output) -> Result<(), Memory>
         ensures told { OnOk result (IsTold (feed_seat piece.now self.old) self.new.session out.old out.new) }
         ensures caller { self.new.caller ≡ self.old.caller }
     {
@@ -75,7 +76,7 @@ impl Seat {
         snapshot: &Snapshot,
         index: &Index,
         is_marked: bool,
-        out: &mut Octets,
+        out: &mut Output,
     ) -> Result<(), Memory>
         requires follows { MayTurn snapshot.now self.old.session }
         requires named { unnamed_in self.old.session ≡ None }
@@ -93,7 +94,7 @@ impl Seat {
 
     /// The first waiting ask gets this outcome.
     #[tactic(auto, using(crate::proofs::CallAnswers::given_well))]
-    pub fn give(&mut self, outcome: JwtOutcome, out: &mut Octets) -> Result<(), Memory>
+    pub fn give(&mut self, outcome: JwtOutcome, out: &mut Output) -> Result<(), Memory>
         requires { IsSome (asks_in self.old.session) }
         ensures told { OnOk result (IsTold (outcome_told outcome self.old.session) self.new.session out.old out.new) }
         ensures caller { self.new.caller ≡ self.old.caller }
@@ -241,7 +242,7 @@ impl Seats {
             }
             Some(seat) => {
                 let mut seat = seat;
-                let mut out = Octets::empty(alloc);
+                let mut out = Output::empty(alloc);
                 seat.feed(alloc, piece, &mut out)?;
                 let failure = seat.session.failure();
                 self.put(conn, seat);
@@ -276,7 +277,7 @@ impl Seats {
             }
             Some(seat) => {
                 let mut seat = seat;
-                let mut out = Octets::empty(alloc);
+                let mut out = Output::empty(alloc);
                 seat.turn(snapshot, index, is_marked, &mut out)?;
                 let failure = seat.session.failure();
                 self.put(conn, seat);

@@ -14,10 +14,11 @@ ghost use Rattle.std.specs.Prelude.{None, Some};
 
 use crate::lines::{Line, idle_lines, one_line, session_lines};
 use crate::seats::{Seat, Seats};
+use output_parts::Output;
 use std::alloc::Global;
 use wl_entry::{Free, JwtToken};
 use wl_manager::Manager;
-use wl_octets::{Memory, Octets, Row};
+use wl_octets::{Memory, Row};
 use wl_session::{JwtAsk, JwtOutcome};
 
 /// The manager of a world, in which everything is vouched for.
@@ -98,7 +99,7 @@ fn answer(
         }
         Some(ask) => {
             let outcome = outcome_of(alloc, manager, ask, now, given)?;
-            let mut out = Octets::empty(alloc);
+            let mut out = Output::empty(alloc);
             seat.give(outcome, &mut out)?;
             let lines = session_lines(alloc, conn, out, seat.session.failure())?;
             Ok(lines)

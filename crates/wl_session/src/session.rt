@@ -12,11 +12,12 @@ use crate::talk::{Talk, first_of};
 use call_counts::CallCounts;
 use h2_conn::ConnFault;
 use h2_frame::{Frame, FrameFault, Parser};
+use output_parts::Output;
 use std::alloc::Global;
 use std::marker::Model;
 use std::snapshot;
 use wl_match::Index;
-use wl_octets::{Memory, Octets, Row};
+use wl_octets::{Memory, Row};
 use wl_selector::Selectors;
 use wl_snapshot::Snapshot;
 
@@ -66,7 +67,7 @@ impl Session {
     /// is in `out`. After a fault or out of memory each later call that can be refused gives that answer again; out of
     /// memory, `out` gained a prefix of what was due.
     #[tactic(auto, using(crate::proofs::SessionFacts::settled_feed))]
-    pub fn feed(&mut self, piece: &[u8], out: &mut Octets) -> Result<(), SessionFault>
+    pub fn feed(&mut self, piece: &[u8], out: &mut Output) -> Result<(), SessionFault>
         ensures { Feeds piece.now self.old result out.old out.new self.new }
     {
         if let Some(fault) = self.failed {
@@ -101,7 +102,7 @@ impl Session {
     pub fn name(
         &mut self,
         selectors: Option<Selectors>,
-        out: &mut Octets,
+        out: &mut Output,
     ) -> Result<(), SessionFault>
         requires { IsSome (unnamed_in self.old) }
         ensures { Names selectors self.old result out.old out.new self.new }
@@ -118,7 +119,7 @@ impl Session {
     /// A turn: each ready call is answered on its view of this publication, where that is not the view that answered it
     /// last. The publication may not be older than the last turn's, and has to be the same where its number is. A turn on
     /// the last turn's number in which no call is new makes no view.
-    pub fn turn(&mut self, snapshot: &Snapshot, out: &mut Octets) -> Result<(), SessionFault>
+    pub fn turn(&mut self, snapshot: &Snapshot, out: &mut Output) -> Result<(), SessionFault>
         requires follows { MayTurn snapshot.now self.old }
         requires named { unnamed_in self.old ≡ None }
         ensures { Turns snapshot.now self.old result out.old out.new self.new }
@@ -131,7 +132,7 @@ impl Session {
         &mut self,
         snapshot: &Snapshot,
         index: &Index,
-        out: &mut Octets,
+        out: &mut Output,
     ) -> Result<(), SessionFault>
         requires follows { MayTurn snapshot.now self.old }
         requires named { unnamed_in self.old ≡ None }
@@ -148,7 +149,7 @@ impl Session {
         &mut self,
         snapshot: &Snapshot,
         index: &Index,
-        out: &mut Octets,
+        out: &mut Output,
     ) -> Result<(), SessionFault>
         requires follows { MayTurn snapshot.now self.old }
         requires named { unnamed_in self.old ≡ None }
@@ -172,7 +173,7 @@ impl Session {
         &mut self,
         snapshot: &Snapshot,
         index: Option<&Index>,
-        out: &mut Octets,
+        out: &mut Output,
     ) -> Result<(), SessionFault>
         requires follows { MayTurn snapshot.now self.old }
         requires index { IfSome index (λ i. i.now ≡ snapshot.now.entries) }
@@ -210,7 +211,7 @@ impl Session {
     /// The ask that `asks` gives gets this outcome. When all tokens of its call have come, the call's message is queued;
     /// where one cannot be had, the call ends with status 14.
     #[tactic(auto, using(crate::proofs::SessionFacts::settled_given))]
-    pub fn given(&mut self, outcome: JwtOutcome, out: &mut Octets) -> Result<(), SessionFault>
+    pub fn given(&mut self, outcome: JwtOutcome, out: &mut Output) -> Result<(), SessionFault>
         requires { IsSome (asks_in self.old) }
         ensures { GivesOutcome outcome self.old result out.old out.new self.new }
     {
@@ -314,7 +315,7 @@ fn advance(
     parser: &mut Parser,
     talk: &mut Talk,
     piece: &[u8],
-    out: &mut Octets,
+    out: &mut Output,
 ) -> Result<Option<ConnFault>, Memory>
     ensures ending { OnOk result (parser.new ≡ (reading_from parser.old piece.now).ending) }
     ensures after { OnOk result (talk.new ≡ (feed_said (reading_from parser.old piece.now) talk.old).after) }

@@ -25,6 +25,7 @@ use grpc_conn::{CallEvent, Calls};
 use h2_conn::{Conn, ConnError, ConnFault, Happening};
 use h2_frame::{Body, Frame, FrameFault, Setting, put_frame};
 use h2_wire::{error_code, setting};
+use output_parts::Output;
 use std::alloc::Global;
 use std::marker::Model;
 use std::mem;
@@ -59,7 +60,7 @@ impl Model for Talk {
 
 /// This side's SETTINGS: what a peer may do.
 #[tactic(auto, unfolding(crate::specs::Talks::settings_bytes))]
-fn put_settings(alloc: Global, out: &mut Octets) -> Result<(), Memory>
+fn put_settings(alloc: Global, out: &mut Output) -> Result<(), Memory>
     ensures ok { OnOk result (out.new ≡ out.old ++ settings_bytes) }
     ensures prefix { GainsFront settings_bytes out.old out.new }
 {
@@ -76,7 +77,9 @@ fn put_settings(alloc: Global, out: &mut Octets) -> Result<(), Memory>
         stream: 0,
         body: Body::Settings { pairs },
     };
-    put_frame(out, &frame)
+    let mut bytes = Octets::empty(alloc);
+    put_frame(&mut bytes, &frame)?;
+    out.push_slice(bytes.as_slice())
 }
 
 /// The first of two faults.
@@ -238,7 +241,7 @@ impl Talk {
 
     /// This side's SETTINGS before all else, and then what may be written now.
     #[tactic(auto, unfolding(crate::specs::Talks::written), using(crate::proofs::ItemSequences::greet_front, crate::proofs::ItemSequences::flush_front))]
-    fn write(&mut self, out: &mut Octets) -> Result<(), Memory>
+    fn write(&mut self, out: &mut Output) -> Result<(), Memory>
         ensures after { OnOk result ((fault : Option ConnFault) → self.new ≡ (written fault self.old).after) }
         ensures bytes { OnOk result
             ((fault : Option ConnFault) → out.new ≡ out.old ++ (written fault self.old).bytes) }
@@ -249,7 +252,7 @@ impl Talk {
         self.conn.inner.flush(out)
     }
 
-    fn greet(&mut self, out: &mut Octets) -> Result<(), Memory>
+    fn greet(&mut self, out: &mut Output) -> Result<(), Memory>
         ensures after { OnOk result (self.new ≡ record self.old { greeted = true }) }
         ensures bytes { OnOk result (out.new ≡ out.old ++ greeting self.old.greeted) }
         ensures prefix { GainsFront (greeting self.old.greeted) out.old out.new }
@@ -264,7 +267,7 @@ impl Talk {
 
     /// A frame, and what is written after it.
     #[tactic(auto, unfolding(crate::specs::Talks::frame_said), using(crate::proofs::ItemSequences::written_fault))]
-    fn step(&mut self, frame: Frame, out: &mut Octets) -> Result<Option<ConnFault>, Memory>
+    fn step(&mut self, frame: Frame, out: &mut Output) -> Result<Option<ConnFault>, Memory>
         requires { Fits frame }
         ensures after { OnOk result (self.new ≡ (frame_said frame self.old).after) }
         ensures bytes { OnOk result (out.new ≡ out.old ++ (frame_said frame self.old).bytes) }
@@ -281,7 +284,7 @@ impl Talk {
     pub fn frames(
         &mut self,
         frames: Row<Frame>,
-        out: &mut Octets,
+        out: &mut Output,
     ) -> Result<Option<ConnFault>, Memory>
         requires { AllByRecursion Fits frames }
         ensures after { OnOk result (self.new ≡ (frames_said frames self.old).after) }
@@ -308,7 +311,7 @@ impl Talk {
 
     /// Bytes that aren't frames, and what is written after them.
     #[tactic(auto, unfolding(crate::specs::Talks::break_said), using(crate::proofs::ItemSequences::written_fault))]
-    pub fn fail(&mut self, why: FrameFault, out: &mut Octets) -> Result<Option<ConnFault>, Memory>
+    pub fn fail(&mut self, why: FrameFault, out: &mut Output) -> Result<Option<ConnFault>, Memory>
         requires { why ≡ frame_faults.Memory → ⊥ }
         ensures after { OnOk result (self.new ≡ (break_said why self.old).after) }
         ensures bytes { OnOk result (out.new ≡ out.old ++ (break_said why self.old).bytes) }
@@ -336,7 +339,7 @@ impl Talk {
         &mut self,
         snapshot: &Snapshot,
         index: Option<&Index>,
-        out: &mut Octets,
+        out: &mut Output,
     ) -> Result<(), Memory>
         requires { IfSome index (λ i. i.now ≡ snapshot.now.entries) }
         ensures after { OnOk result (self.new ≡ (turn_said snapshot.now self.old).after) }
@@ -358,7 +361,7 @@ impl Talk {
 
     /// The first unnamed call takes these selectors, or its stream ends and what may be written is.
     #[tactic(auto, unfolding(crate::specs::Sessions::name_said))]
-    pub fn name(&mut self, selectors: Option<Selectors>, out: &mut Octets) -> Result<(), Memory>
+    pub fn name(&mut self, selectors: Option<Selectors>, out: &mut Output) -> Result<(), Memory>
         ensures after { OnOk result (self.new ≡ (name_said selectors self.old).after) }
         ensures bytes { OnOk result (out.new ≡ out.old ++ (name_said selectors self.old).bytes) }
         ensures prefix { GainsFront (name_said selectors self.old).bytes out.old out.new }
@@ -383,7 +386,7 @@ impl Talk {
 
     /// The first ask gets this outcome, and what may be written is.
     #[tactic(auto, unfolding(crate::specs::Sessions::given_said))]
-    pub fn give(&mut self, outcome: JwtOutcome, out: &mut Octets) -> Result<(), Memory>
+    pub fn give(&mut self, outcome: JwtOutcome, out: &mut Output) -> Result<(), Memory>
         ensures after { OnOk result (self.new ≡ (given_said outcome self.old).after) }
         ensures bytes { OnOk result (out.new ≡ out.old ++ (given_said outcome self.old).bytes) }
         ensures prefix { GainsFront (given_said outcome self.old).bytes out.old out.new }

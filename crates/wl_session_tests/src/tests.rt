@@ -16,6 +16,7 @@ use broken::{Broken, FAULTS, LONGEST};
 use callers::{Caller, attested};
 use cases::{ANSWERS, ASKED, Case, FIRST_RESPONSE, HEADS, HEALTH, REQUESTS};
 use frames::{GOAWAY, OPENING};
+use output_parts::Output;
 use publications::{State, following, publication};
 use sequences::{CALLS, Outcome, PUBLICATIONS, Round, Sequence, TOKENS, WINDOWS};
 use std::alloc::{AllocGlobal, Global};
@@ -57,6 +58,14 @@ fn are_parts(bytes: &[u8], parts: &[&[u8]]) -> bool {
     rest.is_empty()
 }
 
+/// Whether what was written is the parts, one after the other.
+fn are_written(out: &Output, parts: &[&[u8]]) -> bool {
+    match out.as_plain() {
+        Some(bytes) => are_parts(bytes, parts),
+        None => false,
+    }
+}
+
 /// A session on which no turn was taken.
 #[tactic(auto, using(wl_session::proofs::TurnPublications::fresh_follows))]
 fn fresh(rt: &impl Abort, alloc: Global) -> Session
@@ -67,7 +76,7 @@ fn fresh(rt: &impl Abort, alloc: Global) -> Session
 
 /// The call that is not named, if there is one, takes its name. There is no other.
 #[tactic(auto, using(wl_session::proofs::TurnPublications::names_follow))]
-fn name(rt: &impl Abort, alloc: Global, session: &mut Session, caller: Caller, out: &mut Octets)
+fn name(rt: &impl Abort, alloc: Global, session: &mut Session, caller: Caller, out: &mut Output)
     ensures keeps { (x : Publication) → MayTurn x session.old → MayTurn x session.new }
     ensures named { unnamed_in session.new ≡ None }
 {
@@ -81,7 +90,7 @@ fn name(rt: &impl Abort, alloc: Global, session: &mut Session, caller: Caller, o
 
 /// Bytes that come one at a time.
 #[tactic(auto, using(wl_session::proofs::TurnPublications::feeds_follow))]
-fn hear_singly(rt: &impl Abort, session: &mut Session, bytes: &[u8], out: &mut Octets)
+fn hear_singly(rt: &impl Abort, session: &mut Session, bytes: &[u8], out: &mut Output)
     ensures keeps { (x : Publication) → MayTurn x session.old → MayTurn x session.new }
 {
     for byte in bytes {
@@ -98,7 +107,7 @@ enum Pieces {
 
 /// Bytes come.
 #[tactic(auto, using(wl_session::proofs::TurnPublications::feeds_follow))]
-fn hear(rt: &impl Abort, session: &mut Session, bytes: &[u8], pieces: Pieces, out: &mut Octets)
+fn hear(rt: &impl Abort, session: &mut Session, bytes: &[u8], pieces: Pieces, out: &mut Output)
     ensures keeps { (x : Publication) → MayTurn x session.old → MayTurn x session.new }
 {
     if matches!(pieces, Pieces::Single) {
@@ -116,7 +125,7 @@ fn feed(
     caller: Caller,
     parts: &[&[u8]],
     pieces: Pieces,
-    out: &mut Octets,
+    out: &mut Output,
 )
     ensures keeps { (x : Publication) → MayTurn x session.old → MayTurn x session.new }
     ensures named { unnamed_in session.new ≡ None }
@@ -132,7 +141,7 @@ fn fed(rt: &impl Abort, alloc: Global, case: &Case, pieces: Pieces) -> Session
     ensures named { unnamed_in result ≡ None }
 {
     let mut session = fresh(rt, alloc);
-    let mut out = Octets::empty(alloc);
+    let mut out = Output::empty(alloc);
     feed(
         rt,
         alloc,
@@ -142,7 +151,7 @@ fn fed(rt: &impl Abort, alloc: Global, case: &Case, pieces: Pieces) -> Session
         pieces,
         &mut out,
     );
-    assert!(rt; are_parts(out.as_slice(), case.wrote), "{}", case.name);
+    assert!(rt; are_written(&out, case.wrote), "{}", case.name);
     session
 }
 
@@ -150,16 +159,12 @@ fn fed(rt: &impl Abort, alloc: Global, case: &Case, pieces: Pieces) -> Session
 #[tactic(auto, using(wl_session::proofs::TurnPublications::turns_again))]
 fn take_turns(rt: &impl Abort, alloc: Global, snapshot: &Snapshot, case: &Case, pieces: Pieces) {
     let mut session = fed(rt, alloc, case, pieces);
-    let mut out = Octets::empty(alloc);
+    let mut out = Output::empty(alloc);
     session.turn(snapshot, &mut out).expect(rt, "a turn");
-    assert!(rt; are_parts(out.as_slice(), case.answered), "{}", case.name);
+    assert!(rt; are_written(&out, case.answered), "{}", case.name);
     assert!(rt; session.unnamed().is_none());
     session.turn(snapshot, &mut out).expect(rt, "a turn");
-    assert!(rt;
-        are_parts(out.as_slice(), case.answered),
-        "{}, again",
-        case.name
-    );
+    assert!(rt; are_written(&out, case.answered), "{}, again", case.name);
 }
 
 /// Asserts that a turn by the index of the entries writes what is due, and one on the same views nothing.
@@ -167,12 +172,12 @@ fn take_turns(rt: &impl Abort, alloc: Global, snapshot: &Snapshot, case: &Case, 
 fn take_turns_by_index(rt: &impl Abort, alloc: Global, snapshot: &Snapshot, case: &Case) {
     let mut session = fed(rt, alloc, case, Pieces::Whole);
     let index = Index::build(alloc, snapshot.entries.part().as_slice()).expect(rt, "memory");
-    let mut out = Octets::empty(alloc);
+    let mut out = Output::empty(alloc);
     session
         .turn_by(snapshot, &index, &mut out)
         .expect(rt, "a turn");
     assert!(rt;
-        are_parts(out.as_slice(), case.answered),
+        are_written(&out, case.answered),
         "{}, by the index",
         case.name
     );
@@ -181,7 +186,7 @@ fn take_turns_by_index(rt: &impl Abort, alloc: Global, snapshot: &Snapshot, case
         .turn_unchanged(snapshot, &index, &mut out)
         .expect(rt, "a turn");
     assert!(rt;
-        are_parts(out.as_slice(), case.answered),
+        are_written(&out, case.answered),
         "{}, by the index again",
         case.name
     );
@@ -224,7 +229,7 @@ fn single_bytes(rt: HostRuntime) {
 }
 
 #[tactic(auto, using(wl_session::proofs::TurnPublications::turns_later))]
-fn turn(rt: &impl Abort, session: &mut Session, snapshot: &Snapshot, out: &mut Octets)
+fn turn(rt: &impl Abort, session: &mut Session, snapshot: &Snapshot, out: &mut Output)
     requires follows { MayTurn snapshot.now session.old }
     requires named { unnamed_in session.old ≡ None }
     ensures later { (x : Publication) → snapshot.now.number < x.number → MayTurn x session.new }
@@ -250,7 +255,7 @@ fn asks(session: &Session) -> bool {
 fn a_token_is_asked_for(rt: HostRuntime) {
     let snapshot = publication(&rt, rt.alloc(), 1, State::Document);
     let mut session = fed(&rt, rt.alloc(), &ASKED, Pieces::Whole);
-    turn(&rt, &mut session, &snapshot, &mut Octets::empty(rt.alloc()));
+    turn(&rt, &mut session, &snapshot, &mut Output::empty(rt.alloc()));
     assert!(rt; asks(&session));
 }
 
@@ -268,7 +273,7 @@ fn jwt_outcome(rt: &impl Abort, alloc: Global, outcome: Outcome) -> JwtOutcome {
 
 /// The ask that waits, if there is one, gets this outcome.
 #[tactic(auto, using(wl_session::proofs::TurnPublications::tokens_follow))]
-fn give(rt: &impl Abort, alloc: Global, session: &mut Session, outcome: Outcome, out: &mut Octets)
+fn give(rt: &impl Abort, alloc: Global, session: &mut Session, outcome: Outcome, out: &mut Output)
     ensures keeps { (x : Publication) → MayTurn x session.old → MayTurn x session.new }
 {
     if session.asks().is_none() {
@@ -292,7 +297,7 @@ fn take_round(
     ensures { (x : Publication) → result < x.number → MayTurn x session.new }
 {
     let snapshot = following(rt, alloc, number, round.state);
-    let mut out = Octets::empty(alloc);
+    let mut out = Output::empty(alloc);
     feed(
         rt,
         alloc,
@@ -304,7 +309,7 @@ fn take_round(
     );
     turn(rt, session, &snapshot, &mut out);
     give(rt, alloc, session, round.outcome, &mut out);
-    assert!(rt; are_parts(out.as_slice(), round.wrote), "{name}");
+    assert!(rt; are_written(&out, round.wrote), "{name}");
     snapshot.number
 }
 
@@ -358,7 +363,7 @@ fn code_of(rt: &impl Abort, answer: Result<(), SessionFault>) -> Option<u32> {
 fn is_fault(rt: &impl Abort, alloc: Global, case: &Broken) {
     let bytes = repeated(rt, alloc, case.fed);
     let mut session = fresh(rt, alloc);
-    let mut out = Octets::empty(alloc);
+    let mut out = Output::empty(alloc);
     let first = session.feed(bytes.as_slice(), &mut out);
     let second = session.feed(b"", &mut out);
     assert!(rt;
@@ -371,7 +376,11 @@ fn is_fault(rt: &impl Abort, alloc: Global, case: &Broken) {
         "{}",
         case.name
     );
-    assert!(rt; out == repeated(rt, alloc, case.wrote), "{}", case.name);
+    assert!(rt;
+        out.as_plain() == Some(repeated(rt, alloc, case.wrote).as_slice()),
+        "{}",
+        case.name
+    );
 }
 
 #[test]
@@ -386,7 +395,7 @@ fn faults(rt: HostRuntime) {
 fn the_longest_message(rt: HostRuntime) {
     let bytes = repeated(&rt, rt.alloc(), LONGEST);
     let mut session = fresh(&rt, rt.alloc());
-    let mut out = Octets::empty(rt.alloc());
+    let mut out = Output::empty(rt.alloc());
     hear(&rt, &mut session, bytes.as_slice(), Pieces::Whole, &mut out);
     assert!(rt; session.unnamed() == Some(1));
 }
@@ -395,7 +404,7 @@ fn the_longest_message(rt: HostRuntime) {
 fn is_done(rt: &impl Abort, alloc: Global, parts: &[&[u8]], done: bool) {
     let bytes = joined(rt, alloc, parts);
     let mut session = fresh(rt, alloc);
-    let mut out = Octets::empty(alloc);
+    let mut out = Output::empty(alloc);
     hear(rt, &mut session, bytes.as_slice(), Pieces::Whole, &mut out);
     assert!(rt; session.begun() == 0 && session.is_done() == done);
 }

@@ -25,3 +25,5 @@ pub mod SeatRounds
 pub mod AllLinks
 pub mod LinkParts
 pub mod SeatPlaces
+mod SentParts
+mod CompleteEnds

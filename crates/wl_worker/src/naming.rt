@@ -4,8 +4,9 @@ ghost use Rattle.std.specs.Prelude.{◌≡◌, None, Ok, OnOk, IsSome};
 ghost use Rattle.wl_session.specs.Sessions.{unnamed_in};
 ghost use Rattle.wl_worker.specs.Stepping.{Asks, Attests, IsNamed};
 
+use output_parts::Output;
 use wl_edge::{Attestor, EdgeFault, Origin};
-use wl_octets::{Memory, Octets};
+use wl_octets::Memory;
 use wl_selector::Selectors;
 use wl_session::Session;
 
@@ -26,7 +27,7 @@ fn attest_one<A: Attestor>(
     origin: &Origin,
     attestor: &mut A,
     session: &mut Session,
-    out: &mut Octets,
+    out: &mut Output,
 ) -> Result<(), Memory>
     requires { IsSome (unnamed_in session.old) }
     ensures attests { Attests origin.now session.old session.new out.old out.new (A.calls attestor.old)
@@ -45,7 +46,7 @@ pub fn attest_all<A: Attestor>(
     origin: &Origin,
     attestor: &mut A,
     session: &mut Session,
-    out: &mut Octets,
+    out: &mut Output,
     attested: &mut bool,
 ) -> Result<(), Memory>
     ensures attests { Attests origin.now session.old session.new out.old out.new (A.calls attestor.old)

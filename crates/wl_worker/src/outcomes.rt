@@ -9,10 +9,11 @@ ghost use Rattle.wl_worker.specs.Stepping.{Gives, IsGiven, OutcomeTells, SignedT
 
 use crate::outside::Caller;
 use ask_mail::{NoAnswer, TokenAsks};
+use output_parts::Output;
 use std::sync::Wait;
 use wl_edge::Clock;
 use wl_entry::{JwtToken, Voucher};
-use wl_octets::{Memory, Octets};
+use wl_octets::Memory;
 use wl_session::{JwtAsk, JwtOutcome, Session};
 
 /// A kept token of the ask that is fresh at this time. Of what a lock guards only its type's facts are
@@ -105,7 +106,7 @@ fn answer_one<T: TokenAsks, C: Clock, R: Wait>(
     asks: &mut T,
     clock: &mut C,
     session: &mut Session,
-    out: &mut Octets,
+    out: &mut Output,
 ) -> Result<bool, Memory>
     requires { IsSome (asks_in session.old) }
     ensures gives { Gives (asker caller.now.connection T.V.token) session.old session.new out.old out.new
@@ -135,7 +136,7 @@ pub fn answer_ready<T: TokenAsks, C: Clock, R: Wait>(
     asks: &mut T,
     clock: &mut C,
     session: &mut Session,
-    out: &mut Octets,
+    out: &mut Output,
 ) -> Result<(), Memory>
     ensures gives { Gives (asker caller.now.connection T.V.token) session.old session.new out.old out.new
         (T.taken asks.old) (T.taken asks.new) (T.faults asks.old) (T.faults asks.new)

@@ -1,6 +1,6 @@
 //! A served connection.
 
-ghost use Rattle.std.specs.Prelude.{◌≡◌, ◌⊎◌, ◌≤◌, [], None, IfOk};
+ghost use Rattle.std.specs.Prelude.{◌≡◌, ◌⊎◌, ◌<◌, ◌≤◌, [], None, IfOk, length};
 ghost use Rattle.wl_edge.specs.Edge.{Rose};
 ghost use Rattle.wl_session.specs.Sessions.{asks_in, fresh_session};
 ghost use Rattle.wl_worker.specs.Sending.{IsDue, Settles, end_of};
@@ -8,23 +8,27 @@ ghost use Rattle.wl_worker.specs.Outcomes.{asker};
 ghost use Rattle.wl_worker.specs.Served.{RoundTells, around, HasSeenLast};
 
 use crate::ended::{Ended, RoundEnd};
-use crate::flush::{Flushed, flush};
+use crate::flush::{Flushed, flush_output};
 use crate::outside::{Caller, Outside};
 use crate::stepping::hear_and_step;
 use ask_mail::TokenAsks;
 use call_counts::CallCounts;
+use output_parts::Output;
 use std::alloc::Global;
 use std::marker::Model;
 use std::mem;
 use std::sync::{Mutex, Wait};
 use wl_desk::Desk;
 use wl_edge::{Attestor, Clock, Gate, Link};
-use wl_octets::{Memory, Octets};
+use wl_octets::Memory;
 use wl_publish::Pass;
 use wl_session::{Session, SessionFault};
 
 /// How many bytes one receive may give.
 const PIECE_LIMIT: usize = 16_384;
+
+/// How many bytes one sending is lent at most.
+const BUFFER_LENGTH: usize = 65_536;
 
 /// How many bytes may have been written at once for their room to be kept: what a peer's first window takes.
 const KEPT_ROOM: usize = 65_536;
@@ -35,7 +39,7 @@ pub struct Served {
     alloc: Global,
     session: Session,
     /// What the last step wrote.
-    written: Octets,
+    written: Output,
     /// How many bytes of it the link took.
     sent: usize,
 }
@@ -51,7 +55,8 @@ impl Model for Served {
     ghost invariant = { λ s. s.sent ≤ length s.written };
 }
 
-/// What a receive is lent. One serves all connections of a seat, since their rounds are taken one after the other.
+/// What a receive is lent, and a sending whose bytes don't lie in one piece. One serves all connections of a seat, since their rounds
+/// are taken one after the other.
 #[derive(Drop)]
 pub struct Buffer {
     bytes: Vec<u8>,
@@ -68,10 +73,10 @@ impl Model for Buffer {
 }
 
 impl Buffer {
-    /// A buffer of 16,384 bytes.
+    /// A buffer of 65,536 bytes. A receive is lent a quarter of it.
     pub fn new(alloc: Global) -> Result<Buffer, Memory> {
         Ok(Buffer {
-            bytes: vec![in alloc; 0; PIECE_LIMIT]?,
+            bytes: vec![in alloc; 0; BUFFER_LENGTH]?,
         })
     }
 }
@@ -96,18 +101,19 @@ impl Served {
         Ok(Served {
             alloc,
             session: Session::start(alloc)?,
-            written: Octets::empty(alloc),
+            written: Output::empty(alloc),
             sent: 0,
         })
     }
 
-    /// How many bytes it holds: what the last step wrote, while some of it is unsent, and what waits in its session.
+    /// How many bytes it holds: what the last step wrote, while some of it is unsent, or what waits in its session, whichever is
+    /// more. What is unsent lends the messages that the session's streams have.
     pub(crate) fn held(&self) -> usize {
         let held = self.session.held();
         if self.sent == self.written.len() {
             return held;
         }
-        held.saturating_add(self.written.len())
+        held.max(self.written.len())
     }
 
     /// What became of its calls since this was asked last.
@@ -126,7 +132,8 @@ impl Served {
 
     /// Sends what is unsent, as far as the link takes it: the end that is due then, or `Later`, or that a
     /// sending failed.
-    fn send_unsent<L: Link>(&mut self, link: &mut L) -> Option<RoundEnd>
+    fn send_unsent<L: Link>(&mut self, link: &mut L, lent: &mut [u8]) -> Option<RoundEnd>
+        requires { 0 < length lent.old }
         ensures settles { Settles self.old self.new (L.told link.old) (L.told link.new) result }
         ensures later { result ≡ Some RoundEnd.Later → Rose (L.stalls link.old) (L.stalls link.new) }
         ensures failed { result ≡ Some (RoundEnd.Ended Ended.WriteFault)
@@ -136,8 +143,8 @@ impl Served {
         ensures receives { L.failed_receives link.new ≡ L.failed_receives link.old }
         ensures origin { L.origin link.new ≡ L.origin link.old }
     {
-        let (count, flushed) = flush(link, self.written.as_slice().split_at(self.sent).1);
-        self.sent += count;
+        let (sent, flushed) = flush_output(link, &self.written, self.sent, lent);
+        self.sent = self.written.let_go(sent);
         match flushed {
             Flushed::Later => Some(RoundEnd::Later),
             Flushed::Failed => Some(RoundEnd::Ended(Ended::WriteFault)),
@@ -152,14 +159,16 @@ impl Served {
     fn give_back(&mut self)
         ensures { self.new ≡ self.old }
     {
-        if self.sent > KEPT_ROOM && self.sent == self.written.len() {
-            self.written = Octets::empty(self.alloc);
+        let is_long = self.sent > KEPT_ROOM || self.written.lends();
+        if is_long && self.sent == self.written.len() {
+            self.written = Output::empty(self.alloc);
             self.sent = 0;
         }
     }
 
     /// Sends what is unsent, as `send_unsent` does, and gives back the room of a long output.
-    fn settle<L: Link>(&mut self, link: &mut L) -> Option<RoundEnd>
+    fn settle<L: Link>(&mut self, link: &mut L, lent: &mut [u8]) -> Option<RoundEnd>
+        requires { 0 < length lent.old }
         ensures settles { Settles self.old self.new (L.told link.old) (L.told link.new) result }
         ensures later { result ≡ Some RoundEnd.Later → Rose (L.stalls link.old) (L.stalls link.new) }
         ensures failed { result ≡ Some (RoundEnd.Ended Ended.WriteFault)
@@ -169,22 +178,19 @@ impl Served {
         ensures receives { L.failed_receives link.new ≡ L.failed_receives link.old }
         ensures origin { L.origin link.new ≡ L.origin link.old }
     {
-        let end = self.send_unsent(link);
+        let end = self.send_unsent(link, lent);
         self.give_back();
         end
     }
 
     /// An output of no byte, in the room of the last one, all of which was sent, so that it takes no fresh memory.
-    fn take_output(&mut self) -> Octets
+    fn take_output(&mut self) -> Output
         ensures empty { result ≡ [] }
         ensures session { self.new.session ≡ self.old.session }
         ensures unsent { self.new.unsent ≡ [] }
     {
         self.sent = 0;
-        let last = mem::replace(&mut self.written, Octets::empty(self.alloc));
-        let mut bytes = last.into_vec();
-        bytes.clear();
-        Octets::from_vec(bytes)
+        mem::replace(&mut self.written, Output::empty(self.alloc)).cleared()
     }
 
     /// One round. First it sends what is unsent, and answers `Later` where the link takes nothing for now,
@@ -232,20 +238,22 @@ impl Served {
         ensures stalls { L.stalls link.old ≤ L.stalls link.new }
         ensures origin { L.origin link.new ≡ L.origin link.old }
     {
-        if let Some(end) = self.settle(link) {
+        let lent = buffer.bytes.as_mut_slice();
+        if let Some(end) = self.settle(link, lent) {
             return end;
         }
         let mut out = self.take_output();
         let caller = Caller::new(rt, self.alloc, desk, connection);
         let mut outside = Outside::new(pass, attestor, asks, clock, gate);
         let session = &mut self.session;
-        let lent = buffer.bytes.as_mut_slice();
-        if let Err(end) = hear_and_step(&caller, &mut outside, link, session, lent, &mut out) {
+        let room = PIECE_LIMIT.min(lent.len());
+        let (piece, _) = lent.split_at_mut(room);
+        if let Err(end) = hear_and_step(&caller, &mut outside, link, session, piece, &mut out) {
             return RoundEnd::Ended(end);
         }
         self.written = out;
         self.sent = 0;
-        end_of(self.settle(link))
+        end_of(self.settle(link, lent))
     }
 }
 

@@ -14,9 +14,10 @@ use crate::naming::attest_all;
 use crate::outcomes::answer_ready;
 use crate::outside::{Caller, Outside};
 use ask_mail::TokenAsks;
+use output_parts::Output;
 use std::sync::Wait;
 use wl_edge::{Attestor, BEFORE_TURN, Clock, Gate, Link, Origin};
-use wl_octets::{Memory, Octets};
+use wl_octets::Memory;
 use wl_publish::PublishedSnapshot;
 use wl_session::{Session, SessionFault};
 
@@ -24,7 +25,7 @@ use wl_session::{Session, SessionFault};
 fn take_turn(
     session: &mut Session,
     published_snapshot: &PublishedSnapshot,
-    out: &mut Octets,
+    out: &mut Output,
 ) -> Result<(), Memory>
     requires follows { MayTurn published_snapshot.now session.old }
     requires named { unnamed_in session.old ≡ None }
@@ -49,7 +50,7 @@ pub fn step<A: Attestor, T: TokenAsks, C: Clock, G: Gate, R: Wait>(
     origin: &Origin,
     piece: &[u8],
     session: &mut Session,
-    out: &mut Octets,
+    out: &mut Output,
     attested: &mut bool,
 ) -> Result<(), Memory>
     requires { HasSeenLast outside.old.pass.now.seen session.old }
@@ -110,7 +111,7 @@ pub fn hear_and_step<L: Link, A: Attestor, T: TokenAsks, C: Clock, G: Gate, R: W
     link: &mut L,
     session: &mut Session,
     buffer: &mut [u8],
-    out: &mut Octets,
+    out: &mut Output,
 ) -> Result<(), Ended>
     requires seen { HasSeenLast outside.old.pass.now.seen session.old }
     requires room { 0 < length buffer.old }

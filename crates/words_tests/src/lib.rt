@@ -16,6 +16,8 @@ mod jws_text_tests;
 #[cfg(test)]
 mod kernel_table_tests;
 #[cfg(test)]
+mod output_parts_tests;
+#[cfg(test)]
 mod pb_wire_tests;
 #[cfg(test)]
 mod pem_text_tests;

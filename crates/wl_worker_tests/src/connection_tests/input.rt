@@ -3,6 +3,7 @@
 use super::frames::{EMPTY, HEAD, OPENING, SERVER_SETTINGS};
 use super::outside::{joined, plan};
 use super::serve_well;
+use output_parts::Output;
 use std::alloc::{AllocGlobal, Global};
 use std::process::Abort;
 use std::sync::Wait;
@@ -30,13 +31,13 @@ fn cut_input_closes(rt: HostRuntime) {
 /// frame came.
 fn talked(rt: &impl Abort, alloc: Global, bytes: &[u8]) -> Octets {
     let mut session = Session::start(alloc).expect(rt, "memory");
-    let mut out = Octets::empty(alloc);
+    let mut out = Output::empty(alloc);
     let fed = session.feed(bytes, &mut out);
     assert!(rt; !matches!(fed, Err(SessionFault::Memory)));
     if out.len() == 0 {
         out.push_slice(SERVER_SETTINGS).expect(rt, "memory");
     }
-    out
+    out.into_octets(alloc).expect(rt, "memory")
 }
 
 /// Asserts that a link that gives these bytes takes what a session writes.

@@ -9,9 +9,9 @@ use std::sync::Wait;
 use wl_edge::MemoryReady;
 use wl_worker::SeatEnd;
 
-/// How many bytes links may hold together here: more than the messages of two calls, and fewer than one response that is
+/// How many bytes links may hold together here: more than the messages of two calls, and fewer than these and one response that is
 /// unsent.
-const BUDGET: u64 = 200;
+const BUDGET: u64 = 150;
 
 /// For each link how many of its first sendings are put off, and, as they were finished, whether it took its whole talk,
 /// else nothing, and how many sendings were put off.

@@ -1,6 +1,9 @@
-use Rattle.std.proofs.Common.{arith, refl, ◌∙◌}
+use Rattle.std.proofs.Common.{arith, refl, ap, ◌∙◌}
 use Rattle.wl_worker.specs.Outcomes.{asker}
 use Rattle.wl_worker.proofs.ConnectionRounds.{serving_none, fresh_seen, never_served, serving_still, ends_serving}
+use Rattle.wl_worker.specs.declared.ended.Ended.{Ended}
+use Rattle.wl_worker.specs.declared.ended.RoundEnd.TheVariants as ends
+use Rattle.wl_worker.proofs.CompleteEnds.{complete, rose_since}
 use Rattle.wl_worker.proofs.connection.serve_connection.Goals as goal
 
 pub returns-in-Err-clause-tells : goal.returns-in-Err-clause-tells
@@ -29,3 +32,8 @@ rounds-preserved g c = record {
 
 pub returns-in-Ended-clause-tells : goal.returns-in-Ended-clause-tells
 returns-in-Ended-clause-tells g c = ends_serving g.T.V.Voucher.signed (asker c.args.connection g.T.V.Voucher.token) (g.L.Link.origin c.args.link.now) c.in-Ended.end c.rounds.invariant.serving (rw c.rounds.invariant.origin at c.in-Ended.ensures.tells)
+
+pub returns-in-Ended-clause-completeness : goal.returns-in-Ended-clause-completeness
+returns-in-Ended-clause-completeness g c = complete _ _ _ _ _ _ _ _ c.in-Ended.end
+    (λ is. rose_since _ _ _ c.rounds.invariant.receives (c.in-Ended.ensures.read_fault (ap (λ (e : Ended). ends.Ended e) is)))
+    (λ is. rose_since _ _ _ c.rounds.invariant.sends (c.in-Ended.ensures.write_fault (ap (λ (e : Ended). ends.Ended e) is)))

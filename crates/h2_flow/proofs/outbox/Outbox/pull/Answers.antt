@@ -13,7 +13,7 @@ pub returns-in_err-take_rounds-clause-prefix : goal.returns-in_err-take_rounds-c
 unfolding pull_of
 returns-in_err-take_rounds-clause-prefix c =
     let due = rw c.as_mut_slice.ensures.value at c.in_err-take_rounds.ensures.0 in
-    rw (← c.self.view_is) (gains_after _ _ _ _ _ (c.in_ok-push_slice.ensures.ok ∙ (ap (λ xs. xs ++ c.as_slice-2.result.now) c.make_room.ensures ∙ ap (λ xs. c.args.out.now ++ xs) c.as_slice-2.ensures.value)) due)
+    rw (← c.self.view_is) (gains_after _ _ _ _ _ (c.in_ok-push_slice.ensures.ok ∙ ap (λ xs. c.args.out.now ++ xs) c.as_slice.ensures.value) due)
 
 pub invariant_of-self-2 : goal.invariant_of-self-2
 invariant_of-self-2 c = (c.self.invariant.0, rises_lent 0 _ _ _ _ c.as_mut_slice.ensures.len c.as_mut_slice.ensures.value (ap (map (λ (s : Stream). s.number)) c.in_ok-take_rounds.ensures.3 ∙ numbers_all _ _) c.self.invariant.1)

@@ -1,0 +1,18 @@
+use Rattle.std.proofs.Common.{◌≡◌, ◌≤◌, ◌<◌, ◌-◌, [], length, take, drop}
+use Rattle.wl_worker.specs.Served.{LinkGains}
+use Rattle.wl_worker.proofs.flush.flush_parts.Given as goal
+
+abbrev pub invariant-sends : goal.invariant-sends
+invariant-sends g l = record {
+  room : 0 < length l.lent;
+  from : l.start ≤ l.sent;
+  within : l.sent ≤ length l.output;
+  took : LinkGains (g.L.Link.told l.fn.link) (g.L.Link.told l.link) [] (take (l.sent - l.start) (drop l.start l.output));
+  sends : g.L.Link.failed_sends l.fn.link ≤ g.L.Link.failed_sends l.link;
+  stalls : g.L.Link.stalls l.fn.link ≤ g.L.Link.stalls l.link;
+  origin : g.L.Link.origin l.link ≡ g.L.Link.origin l.fn.link;
+  receives : g.L.Link.failed_receives l.link ≡ g.L.Link.failed_receives l.fn.link;
+}
+
+abbrev pub decreases-sends : goal.decreases-sends
+decreases-sends g l = length l.output - l.sent
