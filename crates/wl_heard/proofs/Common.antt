@@ -63,8 +63,7 @@ pub use Rattle.wl_octets.specs.declared.header.Header.{Header}
 pub use Rattle.wl_responses.proofs.MoveSteps.{steps_fit}
 pub use Rattle.wl_responses.specs.Moves.{Move, bytes_after, steps_of}
 pub use Rattle.wl_responses.specs.Statuses.{GoesOn, IsAnswered, IsRefused}
-pub use Rattle.wl_responses.specs.Steps.{AllFit, BytesBroke, CallAttested, FitsStep, FrameCame, OutcomeCame, Step, TurnTaken, frames_due, step_said, talk_after, unwritten}
-unfoldable pub use Rattle.wl_responses.specs.Steps.{frames_of}
+pub use Rattle.wl_responses.specs.Steps.{AllFit, BytesBroke, CallAttested, FitsStep, FrameCame, OutcomeCame, Step, TurnTaken, frames_due, frames_of, step_said, talk_after, unwritten}
 pub use Rattle.wl_session.proofs.Attestations.{first_of_none}
 pub use Rattle.wl_session.proofs.PeerAnswers.{live_below}
 pub use Rattle.wl_session.proofs.PhaseWalk.{Lasts, l_gives, l_names, l_refusal, l_turns}

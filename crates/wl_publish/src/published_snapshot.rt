@@ -28,7 +28,7 @@ impl Model for Parts {
 
 /// A publication with the index of its entries. A contract sees the publication.
 ///
-/// Both are shared with every published snapshot of that publication. How many owners an published snapshot has is counted apart for each that
+/// Both are shared with every published snapshot of that publication. How many owners a published snapshot has is counted apart for each that
 /// `new` and `copy` make, so threads with copies of their own do not write to one count.
 #[derive(Drop)]
 pub struct PublishedSnapshot {
@@ -82,7 +82,7 @@ impl PublishedSnapshot {
         })
     }
 
-    /// An published snapshot of the same publication and index, whose owners are counted apart.
+    /// A published snapshot of the same publication and index, whose owners are counted apart.
     pub fn copy(&self, alloc: Global) -> Result<PublishedSnapshot, Memory>
         ensures { IfOk result (λ e. e ≡ self.now) }
     {
