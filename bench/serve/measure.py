@@ -155,4 +155,5 @@ def main():
         spread(folder, load)
 
 
-main()
+if __name__ == "__main__":
+    main()
