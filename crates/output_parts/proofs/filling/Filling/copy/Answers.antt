@@ -1,6 +1,4 @@
-use Rattle.std.proofs.Common.{◌≡◌, ℕ, ◌+◌, ◌-◌, List, ◌++◌, length, take, drop, sym, ap, ◌∙◌, arith}
-use Rattle.std.proofs.Math.Seq.{take-append-add}
-use Rattle.output_parts.proofs.Copies.{passed_over, after_front}
+use Rattle.output_parts.proofs.Copies.{after_front}
 use Rattle.output_parts.proofs.filling.Filling.copy.Goals as goal
 
 pub returns-clause-prefix : goal.returns-clause-prefix

@@ -1,4 +1,4 @@
-use Rattle.std.proofs.Common.{length, take, List, ℕ}
+use Rattle.std.proofs.Common.{length, take}
 use Rattle.std.specs.List.{flat_map}
 use Rattle.output_parts.specs.Outputs.{piece_bytes}
 use Rattle.output_parts.proofs.Copies.{Copied}

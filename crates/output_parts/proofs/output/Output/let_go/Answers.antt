@@ -1,7 +1,6 @@
-use Rattle.std.proofs.Common.{◌≡◌, ◌≤◌, ◌<◌, ◌-◌, ◌+◌, drop, slice_get, option_map, Some, length, sym, ap, ◌∙◌, arith, length-append}
-use Rattle.std.specs.List.{flat_map}
+use Rattle.std.proofs.Common.{◌≤◌, ◌<◌, ◌-◌, ◌+◌, drop, option_map, length, sym, ap, ◌∙◌, arith, length-append}
 use Rattle.output_parts.specs.Outputs.{piece_bytes, joined}
-use Rattle.output_parts.proofs.Fronts.{FrontOf, front_of, passes_front}
+use Rattle.output_parts.proofs.Fronts.{front_of, passes_front}
 use Rattle.output_parts.proofs.output.Output.let_go.Goals as goal
 
 pub overflow_sub-self : goal.overflow_sub-self

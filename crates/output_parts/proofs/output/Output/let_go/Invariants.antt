@@ -1,4 +1,4 @@
-use Rattle.std.proofs.Common.{◌≡◌, ◌≤◌, ◌<◌, ◌^◌, ◌-◌, ◌+◌, length, drop}
+use Rattle.std.proofs.Common.{◌≡◌, ◌≤◌, ◌<◌, ◌^◌, ◌-◌, length, drop}
 use Rattle.std.specs.List.{flat_map}
 use Rattle.output_parts.specs.Outputs.{piece_bytes, joined}
 use Rattle.output_parts.proofs.output.Output.let_go.Given as goal
