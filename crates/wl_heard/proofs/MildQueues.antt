@@ -2,7 +2,7 @@
 use Rattle.std.proofs.Common.{◌≡◌, ◌⊎◌, inl, inr, ℕ, ◌+◌, ◌≤◌, ◌<◌, ◌^◌, ◌==◌, cond, not, Bool, true, false, List, [], ◌∷◌, map, Option, Some, None, refl, arith, eqb-true, eq-eqb}
 use Rattle.std.specs.List.{AllByRecursion}
 use Rattle.std.proofs.lemmas.Bool.{cases_Bool}
-use Rattle.wl_heard.proofs.Common.{block_bytes, Reset, FrameFault, Frame, Stream, is_number, update_stream, with_offer, with_head, with_trailers, with_message, without_waiting, without_stream, with_control, numbers, pull_of, Happening, Phase, Open, Failed, OutOfMemory, State, is_live, Outcome, goes, fails, with_control_frame, without_live_stream, peer, Sound, SoundPhase, takes, result_of, frame_result, after_frame_fault, with_head_on, with_trailers_on, with_message_on, without_waiting_on, after_reset, on_open, peer_sound, CallEvent, verdict, standing_of_head, standing_at, event_at, calls_after, with_call, response_fields, trailer_fields, refused_fields, Talking, after_event, after_body, after_happening, after_happenings, after_frame, live_below, call_stream, Step, FrameCame, BytesBroke, CallAttested, TurnTaken, OutcomeCame, FitsStep, unwritten, IsOfOneCall, Lasts, l_refusal, l_turns, l_names, l_gives}
+use Rattle.wl_heard.proofs.Common.{block_bytes, Reset, FrameFault, Frame, Stream, is_number, update_stream, with_offer, with_head, with_trailers, with_message, without_waiting, without_stream, with_control, numbers, Happening, Phase, Open, Failed, OutOfMemory, State, is_live, Outcome, goes, fails, with_control_frame, without_live_stream, peer, Sound, SoundPhase, takes, result_of, frame_result, after_frame_fault, with_head_on, with_trailers_on, with_message_on, without_waiting_on, after_reset, on_open, peer_sound, CallEvent, verdict, standing_of_head, standing_at, event_at, calls_after, with_call, response_fields, trailer_fields, refused_fields, Talking, after_event, after_body, after_happening, after_happenings, after_frame, live_below, call_stream, Step, FrameCame, BytesBroke, CallAttested, TurnTaken, OutcomeCame, FitsStep, unwritten, IsOfOneCall, Lasts, l_refusal, l_turns, l_names, l_gives}
 use Rattle.h2_conn.specs.declared.happening.Happening.TheVariants as happening
 use Rattle.h2_conn.specs.Kinds.{Fits}
 use Rattle.h2_conn.specs.Naming.{NamesTold}

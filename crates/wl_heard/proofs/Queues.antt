@@ -5,7 +5,6 @@ use Rattle.h2_wire.specs.declared.error_code.TheConstants.{REFUSED_STREAM}
 use Rattle.h2_wire.specs.declared.setting.TheConstants as setting
 use Rattle.wl_heard.proofs.Common.{HpackFault, Body, Bytes, Headers, Priority, Reset, Settings, SettingsAck, PushPromise, Ping, GoAway, WindowUpdate, Continuation, Unknown, Frame, frame_encoding, Out, without_stream, with_control, State, OpenBlock, is_local_closed, with_remote_closed, Outcome, goes, fails, with_control_frame, without_live_stream, request_ends, peer, FitsBody, Sound, at_cond, Rows, Windows, walk, IsControl}
 use Rattle.hpack.specs.declared.fault.HpackFault.TheVariants as hpack
-use Rattle.h2_frame.specs.declared.frame.Setting.{Setting}
 use Rattle.h2_flow.specs.declared.overflow.Overflow.{Overflow}
 use Rattle.h2_flow.specs.Outboxes.{with_stream, with_size_update, credit_of, with_step, with_connection_step, with_stream_step, first_over, with_initial, set_initial_window}
 use Rattle.h2_flow.specs.Windows.{window_of}

@@ -1,5 +1,5 @@
 -- Where a frame of the peer has the call's stream reset, no stream is there any more.
-use Rattle.std.proofs.Common.{◌≡◌, ◌⊎◌, inl, inr, ℕ, ◌+◌, ◌<◌, ◌≤◌, ◌^◌, ◌==◌, true, false, not, nat_lt, List, [], ◌∷◌, filter, Option, Some, None, Result, Ok, sym, subst, ◌∙◌, ◌++◌, arith, eqb-true, eq-eqb}
+use Rattle.std.proofs.Common.{◌≡◌, ◌⊎◌, inl, inr, ℕ, ◌<◌, ◌≤◌, ◌^◌, ◌==◌, true, false, not, nat_lt, List, [], ◌∷◌, filter, Option, Some, None, Result, Ok, sym, subst, ◌∙◌, ◌++◌, arith, eqb-true, eq-eqb}
 use Rattle.std.proofs.lemmas.Bool.{cases_Bool, ltb-true}
 use Rattle.list_laws.proofs.Results.{ok_is, err_is_no_ok}
 use Rattle.h2_wire.specs.declared.error_code.TheConstants.{REFUSED_STREAM}
