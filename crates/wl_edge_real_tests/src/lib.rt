@@ -3,6 +3,7 @@
 
 #[cfg(test)]
 mod changing_tests;
+#[cfg(test)]
 mod file_tests;
 #[cfg(test)]
 mod late_tests;
@@ -10,7 +11,6 @@ mod late_tests;
 mod loopback_tests;
 #[cfg(test)]
 mod many_tests;
-#[cfg(test)]
 #[cfg(test)]
 mod slow_tests;
 #[cfg(test)]
