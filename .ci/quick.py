@@ -21,8 +21,6 @@ STRUCK = r"\b(?:is told|are told|want of memory|lives through|as fit|but for|of 
 STRUCK_IN_PAGES = STRUCK + r"|\b(?:that|which) (?:is|are) none\b|(?<!there )\b(?:is|are) none of\b|\b(?:was|were|be|been) told\b(?! (?:apart|to))|\btold of\b|\bfor want of\b|\blived through\b"
 PAGES = {".md", ".1", ".5"}
 COMMENT = r"^\s*(?://[/!]?|--)(.*)$"
-# pages that list what was said in their time
-OLD_PAGES = {"CHANGELOG.md"}
 # statements of lemmas, of so many letters at least, that stand in more than one place: no more than so many are left
 STATEMENT_LETTERS = 60
 REPEATED = 12
@@ -146,9 +144,8 @@ def check_pages(files):
         for link in re.findall(r"\]\(([^)#\s]+)[^)]*\)", text):
             if "://" not in link and not (path.parent / link).exists():
                 fault(f"{path.relative_to(TOP)}: its link {link} leads nowhere")
-        if str(path.relative_to(TOP)) not in OLD_PAGES:
-            for word in re.findall(STRUCK_IN_PAGES, text, flags=re.I):
-                fault(f"{path.relative_to(TOP)}: plain English has no {word!r}")
+        for word in re.findall(STRUCK_IN_PAGES, text, flags=re.I):
+            fault(f"{path.relative_to(TOP)}: plain English has no {word!r}")
 
 
 def check_proof_names(files):
