@@ -17,6 +17,8 @@ pub struct SharingUpstream<U> {
     identities: Option<SharedIdentities>,
     /// The document whose identities were shared last.
     last: Octets,
+    /// Whether it is the one that was pulled last, or none are shared.
+    is_shared: bool,
 }
 
 impl<U: Upstream> SharingUpstream<U> {
@@ -34,28 +36,29 @@ impl<U: Upstream> SharingUpstream<U> {
             alloc,
             identities,
             last: Octets::empty(alloc),
+            is_shared: false,
         }
     }
 
-    /// Shares the identities of a document, where it isn't the last one.
-    fn share(&mut self, document: &[u8]) -> Result<(), Memory>
+    /// Shares the identities of a document, where it isn't the last one. False where a signer looks at that moment.
+    fn share(&mut self, document: &[u8]) -> Result<bool, Memory>
         ensures { self.new.inner ≡ self.old.inner }
     {
         let Some(identities) = &self.identities else {
-            return Ok(());
+            return Ok(true);
         };
         if self.last.as_slice() == document {
-            return Ok(());
+            return Ok(true);
         }
         let copy = Octets::from_slice(self.alloc, document)?;
         if let Some(read) = Identities::read(self.alloc, document)? {
             let Some(mut held) = identities.try_write() else {
-                return Ok(());
+                return Ok(false);
             };
             *held = Some(read);
         }
         self.last = copy;
-        Ok(())
+        Ok(true)
     }
 }
 
@@ -67,8 +70,13 @@ impl<U: Upstream> Upstream for SharingUpstream<U> {
     fn pull(&mut self, into: &mut Octets) -> Result<(), EdgeFault> {
         let before = into.len();
         self.inner.pull(into)?;
-        let _ = self.share(into.as_slice().split_at(before).1);
+        let shared = self.share(into.as_slice().split_at(before).1);
+        self.is_shared = shared == Ok(true);
         Ok(())
+    }
+
+    fn is_unchanged(&self) -> bool {
+        self.is_shared && self.inner.is_unchanged()
     }
 
     fn note_taken(&self, publication: u64) {

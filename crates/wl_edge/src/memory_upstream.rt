@@ -1,6 +1,6 @@
 //! An upstream in memory.
 
-ghost use Rattle.std.specs.Prelude.{◌≡◌, ◌≤◌, ◌++◌, [], Some, None, IfSome, IfOk, length, take, option_map};
+ghost use Rattle.std.specs.Prelude.{◌≡◌, ◌≤◌, ◌++◌, [], false, Some, None, IfSome, IfOk, length, take, option_map};
 ghost use Rattle.wl_edge.specs.Upstreams.{Pulls, FollowsPull};
 ghost use Rattle.wl_edge.specs.Scripts.{due_answer};
 ghost use Rattle.wl_edge.specs.declared.upstream.TheConstants.{MAX_PULLED};
@@ -17,6 +17,8 @@ pub struct MemoryUpstream {
     alloc: Global,
     /// What its pulls append.
     pub documents: Script<Octets>,
+    /// Whether it says that nothing has changed since its last pull. It doesn't at first.
+    pub rests: bool,
     pub(crate) calls: Row<PullCall>,
     pub(crate) number: u64,
     pub(crate) faults: u64,
@@ -86,12 +88,14 @@ impl MemoryUpstream {
     /// An upstream that was not called yet.
     pub fn start(alloc: Global, documents: Script<Octets>) -> MemoryUpstream
         ensures documents { result.documents ≡ documents }
+        ensures changing { result.rests ≡ false }
         ensures empty { ⟦<MemoryUpstream as Upstream>⟧.told result ≡ Some (record { calls = []; number = 0 }) }
         ensures fresh { ⟦<MemoryUpstream as Upstream>⟧.faults result ≡ 0 }
     {
         MemoryUpstream {
             alloc,
             documents,
+            rests: false,
             calls: Row::empty(alloc),
             number: 0,
             faults: 0,
@@ -140,5 +144,11 @@ impl Upstream for MemoryUpstream {
                 Err(EdgeFault::Failed)
             }
         }
+    }
+
+    fn is_unchanged(&self) -> bool
+        ensures { result ≡ self.now.rests }
+    {
+        self.rests
     }
 }

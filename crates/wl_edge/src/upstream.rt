@@ -28,6 +28,12 @@ pub trait Upstream {
     fn pull(&mut self, into: &mut Octets) -> Result<(), EdgeFault>
         ensures { Pulls (told self.old) (told self.new) (faults self.old) (faults self.new) into.old into.new result };
 
+    /// Whether it knows, at next to no cost, that a pull now would give what the last pull gave, which ended well. Where it does, this
+    /// counts as that pull. Ask it only where the document of the last pull was taken.
+    fn is_unchanged(&self) -> bool {
+        false
+    }
+
     /// Notes that the document of the last pull was taken, and is shown by the publication of this number. Nothing hangs
     /// on it.
     fn note_taken(&self, _publication: u64) {}

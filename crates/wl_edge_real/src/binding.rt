@@ -5,7 +5,7 @@ ghost use Rattle.std.specs.Prelude.{◌≡◌, IfOk, string_bytes};
 use crate::hidden::Hidden;
 use mio::net::UnixStream;
 use std::alloc::Global;
-use std::fs::{Files, Permissions};
+use std::fs::{Files, Metadata, Permissions};
 use std::io::ErrorKind;
 use std::net::Net;
 use std::os::fd::{AsFd, AsRawFd, OwnedFd};
@@ -98,11 +98,15 @@ pub struct FileId {
 impl FileId {
     /// The file that stands at this path. A link there is a file of its own.
     pub fn at(rt: &impl Files, path: &str) -> io::Result<FileId> {
-        let found = fs::symlink_metadata(rt, path)?;
-        Ok(FileId {
+        Ok(FileId::of(&fs::symlink_metadata(rt, path)?))
+    }
+
+    /// The file of which the system says this.
+    pub(crate) fn of(found: &Metadata) -> FileId {
+        FileId {
             device: found.dev(),
             inode: found.ino(),
-        })
+        }
     }
 
     /// Whether this file stands at this path.

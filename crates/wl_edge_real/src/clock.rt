@@ -23,7 +23,7 @@ impl<R: std::rt::Clock + Drop> RealClock<R> {
 }
 
 /// The seconds since 1970, if the system gives them.
-fn seconds(rt: &impl std::rt::Clock) -> Option<u64> {
+pub(crate) fn seconds(rt: &impl std::rt::Clock) -> Option<u64> {
     let now = SystemTime::now(rt).ok()?;
     Some(now.duration_since(UNIX_EPOCH).ok()?.as_secs())
 }

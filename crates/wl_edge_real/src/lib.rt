@@ -20,6 +20,7 @@ mod limits;
 mod link;
 mod listener;
 mod loopback;
+mod mark;
 mod missed;
 mod open_links;
 mod output;

@@ -135,19 +135,21 @@ impl<F: FaultLines + Drop> DocumentJudge<F> {
     }
 
     /// Notes a document, and says where it is refused: of a first document whoever ends then says it. That one is taken is said by
-    /// [`Outlook::note_taken`], once the store has it.
-    pub fn note_document(&mut self, document: &[u8]) {
+    /// [`Outlook::note_taken`], once the store has it. True where this one is taken, and false where memory ran out.
+    pub fn note_document(&mut self, document: &[u8]) -> bool {
         if !self.is_last(document) && self.judge(document).is_err() {
-            return;
+            return false;
         }
         match &self.verdict {
-            Verdict::Nothing => {}
+            Verdict::Nothing => false,
             Verdict::Taken => {
                 self.outlook.note_pull(DocumentResult::Taken);
+                true
             }
             Verdict::Refused(_) => {
                 self.outlook.note_pull(DocumentResult::Refused);
                 self.say_refused();
+                false
             }
         }
     }

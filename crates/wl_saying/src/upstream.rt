@@ -83,6 +83,8 @@ pub struct SayingUpstream<U, F> {
     inner: U,
     said: PullsSaid,
     judge: DocumentJudge<F>,
+    /// Whether the last pull gave a document that was judged, and that is taken.
+    is_good: bool,
 }
 
 impl<U: Upstream + PullFailures + Drop, F: FaultLines + Drop> SayingUpstream<U, F> {
@@ -103,6 +105,7 @@ impl<U: Upstream + PullFailures + Drop, F: FaultLines + Drop> SayingUpstream<U, 
             inner,
             said: PullsSaid::start(outlook),
             judge: DocumentJudge::start(alloc, other, lines),
+            is_good: false,
         })
     }
 }
@@ -116,10 +119,19 @@ impl<U: Upstream + PullFailures + Drop, F: FaultLines + Drop> Upstream for Sayin
         let before = into.len();
         let pulled = self.inner.pull(into);
         self.said.note(&pulled, self.inner.cause());
-        if let (Ok(()), Some(document)) = (&pulled, into.as_slice().get(before..)) {
-            self.judge.note_document(document);
-        }
+        self.is_good = match (&pulled, into.as_slice().get(before..)) {
+            (Ok(()), Some(document)) => self.judge.note_document(document),
+            _ => false,
+        };
         pulled
+    }
+
+    fn is_unchanged(&self) -> bool {
+        let is_unchanged = self.is_good && self.inner.is_unchanged();
+        if is_unchanged {
+            self.said.outlook.note_pull(DocumentResult::Taken);
+        }
+        is_unchanged
     }
 
     fn note_taken(&self, publication: u64) {
