@@ -67,6 +67,7 @@ class Outside:
         bundle = {"trust_domain": DOMAIN, "x509": base64.b64encode(bytes(600)).decode()}
         document = {"version": 2, "trust_domain": DOMAIN, "bundles": [bundle], "entries": [entry(it) for it in range(entries)]}
         self.document = json.dumps(document).encode()
+        (folder / "node.json").write_bytes(self.document)
         for name, work in (("authority", self.give), ("signer", self.sign)):
             threading.Thread(target=self.accept, args=(listening(folder / f"{name}.sock"), work), daemon=True).start()
 
@@ -101,10 +102,10 @@ def processor_seconds(process):
     return (int(fields[11]) + int(fields[12])) / os.sysconf("SC_CLK_TCK")
 
 
-def serve(folder, poll):
+def serve(folder, source, poll):
     sockets = [{"path": str(folder / "web.sock"), "workers": SERVED, "selectors": ["socket:web"]}]
-    config = {"version": 1, "upstream": str(folder / "authority.sock"), "signer": str(folder / "signer.sock"),
-              "poll_seconds": poll, "sockets": sockets}
+    place = {"upstream": str(folder / "authority.sock")} if source == "socket" else {"document": str(folder / "node.json")}
+    config = {"version": 1, **place, "signer": str(folder / "signer.sock"), "poll_seconds": poll, "sockets": sockets}
     (folder / "agent.json").write_text(json.dumps(config))
     process = subprocess.Popen([AGENTD, "serve", "agent.json"], cwd=folder, stdin=subprocess.DEVNULL)
     while not (folder / "web.sock").is_socket():
@@ -112,10 +113,10 @@ def serve(folder, poll):
     return process
 
 
-def measure(folder, load, entries, poll, seconds):
+def measure(folder, load, entries, source, poll, seconds):
     outside = Outside(folder, entries)
     begin = time.monotonic()
-    agentd = serve(folder, poll)
+    agentd = serve(folder, source, poll)
     held = None
     try:
         before = -1
@@ -137,7 +138,7 @@ def measure(folder, load, entries, poll, seconds):
         time.sleep(seconds)
         idle = (processor_seconds(agentd) - at_rest) / seconds * 100
         live = outside.identities + len(outside.document)
-        print(f"| {entries} | {poll} | {ready:.1f} | {signed:.2f} | {float(calls.stdout.split()[1]):.0f} | {spent / CALLS * 1e6:.0f} | {grown / 1e6:.1f} "
+        print(f"| {entries} | {source} | {poll} | {ready:.1f} | {signed:.2f} | {float(calls.stdout.split()[1]):.0f} | {spent / CALLS * 1e6:.0f} | {grown / 1e6:.1f} "
               f"| {idle:.2f} | {live / 1e6:.1f} | {resident(agentd) / 1e6:.1f} |", flush=True)
     finally:
         if held:
@@ -149,16 +150,16 @@ def measure(folder, load, entries, poll, seconds):
 def main():
     entries = int(sys.argv[1]) if len(sys.argv) > 1 else 10_000
     seconds = int(sys.argv[2]) if len(sys.argv) > 2 else 20
-    print("| entries | poll_seconds | all signed after, s | processor till then, s | calls a second | microseconds of processor a call "
+    print("| entries | document from a | poll_seconds | all signed after, s | processor till then, s | calls a second | microseconds of processor a call "
           "| grown by, MB | idle, % | document and identities, MB | resident, MB |")
-    print("|---|---|---|---|---|---|---|---|---|---|")
+    print("|---|---|---|---|---|---|---|---|---|---|---|")
     with tempfile.TemporaryDirectory(prefix="many-") as folder:
         load = f"{folder}/load"
         subprocess.run(["go", "build", "-o", load, str(HERE / "load.go")], check=True, env={**GO, "GOCACHE": f"{folder}/go"})
-        for count, poll in ((10, 3600), (entries, 3600), (entries, 1)):
-            place = pathlib.Path(folder) / f"{count}-{poll}"
+        for count, source, poll in ((10, "socket", 3600), (entries, "socket", 3600), (entries, "socket", 1), (entries, "file", 1)):
+            place = pathlib.Path(folder) / f"{count}-{source}-{poll}"
             place.mkdir()
-            measure(place, load, count, poll, seconds)
+            measure(place, load, count, source, poll, seconds)
 
 
 if __name__ == "__main__":

@@ -82,6 +82,16 @@ impl<R: Net + Files + Clock + Drop> Upstream for AgentUpstream<R> {
         }
         pulled
     }
+
+    fn is_unchanged(&self) -> bool {
+        if !self.next.is_empty() {
+            return false;
+        }
+        match &self.source {
+            Source::Socket(upstream) => upstream.is_unchanged(),
+            Source::File(upstream) => upstream.is_unchanged(),
+        }
+    }
 }
 
 impl<R: Net + Files + Clock + Drop> PullFailures for AgentUpstream<R> {

@@ -32,6 +32,14 @@ impl<R: Drop> NextSource<R> {
         }
     }
 
+    /// Whether it is known to come from the same place as before.
+    pub(crate) fn is_empty(&self) -> bool {
+        match self.waiting.try_lock() {
+            Some(waiting) => waiting.is_none(),
+            None => false,
+        }
+    }
+
     /// Where it is to come from, once.
     pub(crate) fn take(&self) -> Option<Source<R>> {
         self.waiting.try_lock()?.take()

@@ -1,5 +1,5 @@
 -- Upkeep: what taking a document and asking for identities come to (own rules).
-use Rattle.std.specs.Prelude.{◌≡◌, ⊤, ℕ, ◌-◌, ◌/◌, ◌<◌, ◌≤◌, max, if◌then◌else◌, List, [], ◌++◌, Option, Some, None, IfSome, Err, IsOkAnd}
+use Rattle.std.specs.Prelude.{◌≡◌, ◌⊎◌, ⊤, Bool, true, ℕ, ◌-◌, ◌/◌, ◌<◌, ◌≤◌, max, if◌then◌else◌, List, [], ◌++◌, Option, Some, None, IfSome, Err, IsOkAnd}
 use Rattle.std.specs.List.{Contains, AllByRecursion}
 use Rattle.wl_entry.specs.declared.asks.Ask.{Ask}
 use Rattle.wl_entry.specs.declared.signing.Signed.{Signed}
@@ -87,6 +87,14 @@ pub record Syncs {V : Type 0} (old new : Option UpstreamLog) (before now : ℕ) 
   pub gives : SyncGives old new before now last last_now answer
   pub pulled : PulledOnce old new
   pub later : before ≤ now
+
+-- The upstream was not asked, and the document that was taken last stays.
+abbrev pub Rests : {V : Type 0} → Option UpstreamLog → Option UpstreamLog → ℕ → ℕ → Option (List ℕ) → Option (List ℕ) → Synced V → Type 0
+Rests {V} old new before now last last_now answer = (new ≡ old) × (now ≡ before) × (last_now ≡ last) × (answer ≡ synced.Same)
+
+-- One sync; where the document that came last is in use it may rest.
+abbrev pub SyncsUnlessAtRest : {V : Type 0} → Bool → Option UpstreamLog → Option UpstreamLog → ℕ → ℕ → Option (List ℕ) → Option (List ℕ) → Synced V → Type 0
+SyncsUnlessAtRest {V} is_in_use old new before now last last_now answer = ((is_in_use ≡ true) × Rests old new before now last last_now answer) ⊎ Syncs old new before now last last_now answer
 
 -- ---- identities
 

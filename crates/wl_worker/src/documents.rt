@@ -3,7 +3,7 @@
 ghost use Rattle.std.specs.Prelude.{◌≡◌, true, Some};
 ghost use Rattle.wl_document.specs.Checks.{Gives};
 ghost use Rattle.wl_document.specs.Documents.{document_state};
-ghost use Rattle.wl_worker.specs.Upkeep.{Syncs, TakeGives, NewGives};
+ghost use Rattle.wl_worker.specs.Upkeep.{Syncs, SyncsUnlessAtRest, TakeGives, NewGives};
 
 use spiffe_id::TrustDomain;
 use std::alloc::Global;
@@ -30,6 +30,13 @@ pub enum Synced<V: Voucher> {
     Memory,
 }
 
+impl<V: Voucher> Synced<V> {
+    /// Whether the document that came is in use.
+    pub(crate) fn is_in_use(&self) -> bool {
+        matches!(self, Synced::Done(_) | Synced::Same)
+    }
+}
+
 /// Pulls once, and takes the document that came, unless it is `last`, the one that was taken last; a note is made under
 /// the same lock. The document's own domain has to be that of the publications so far. So an authority that has nothing
 /// new costs a comparison of bytes, and the desk isn't locked for it; nor is it while a document is read.
@@ -49,6 +56,25 @@ pub fn sync_once<V: Voucher, U: Upstream, R: Wait>(
         Err(EdgeFault::Failed) => Synced::Failed,
         Err(EdgeFault::Memory) => Synced::Memory,
     }
+}
+
+/// The same; but where the document that came last is in use, and the upstream says that nothing has changed since, it is not asked.
+/// So a document at rest costs no look at its bytes.
+pub(crate) fn sync_if_changed<V: Voucher, U: Upstream, R: Wait>(
+    rt: &R,
+    alloc: Global,
+    desk: &Mutex<Desk<V>>,
+    upstream: &mut U,
+    last: &mut Option<Octets>,
+    is_in_use: bool,
+) -> Synced<V>
+    ensures { SyncsUnlessAtRest is_in_use (U.told upstream.old) (U.told upstream.new)
+        (U.faults upstream.old) (U.faults upstream.new) last.old last.new result }
+{
+    if is_in_use && upstream.is_unchanged() {
+        return Synced::Same;
+    }
+    sync_once(rt, alloc, desk, upstream, last)
 }
 
 /// Whether the document is the one that was taken last.

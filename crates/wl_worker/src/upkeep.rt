@@ -4,7 +4,7 @@
 ghost use Rattle.std.specs.Prelude.{◌≡◌, ◌≤◌};
 ghost use Rattle.wl_worker.specs.Upkeep.{AskedOn, PulledAgain};
 
-use crate::documents::{Synced, sync_once};
+use crate::documents::{Synced, sync_if_changed};
 use crate::keeper::{Kept, keep_once};
 use crate::queue::{QueuedTicket, TicketQueue, Work};
 use crate::signing::{Asked, sign_once};
@@ -47,7 +47,8 @@ pub fn keep_time<V: Voucher, C: Clock, G: Gate, B: Bell, R: Wait>(
 
 /// Takes the present document, round for round, at least once, until no seat serves. What a document makes due is put
 /// into the queue at once. Point 2 of the gate is passed before each round. Bells ring after a new publication. Faults
-/// and out of memory end nothing: the next round tries again.
+/// and out of memory end nothing: the next round tries again. A document that is in use is not pulled again where the
+/// upstream says that nothing has changed.
 pub fn pull_documents<V: Voucher, U: Upstream, C: Clock, G: Gate, B: Bell, R: Wait>(
     rt: &R,
     alloc: Global,
@@ -63,9 +64,11 @@ pub fn pull_documents<V: Voucher, U: Upstream, C: Clock, G: Gate, B: Bell, R: Wa
 {
     let mut rung = None;
     let mut last = None;
+    let mut is_in_use = false;
     for _ in rt.forever() {
         gate.pass(BEFORE_UPKEEP);
-        let synced = sync_once(rt, alloc, desk, upstream, &mut last);
+        let synced = sync_if_changed(rt, alloc, desk, upstream, &mut last, is_in_use);
+        is_in_use = synced.is_in_use();
         note_taken(upstream, &synced);
         rung = ring_synced(bells, rung, synced);
         rung = keep_round(rt, alloc, desk, queue, clock, bells, rung);
