@@ -143,8 +143,9 @@ impl Served {
         ensures receives { L.failed_receives link.new ≡ L.failed_receives link.old }
         ensures origin { L.origin link.new ≡ L.origin link.old }
     {
-        let (sent, flushed) = flush_output(link, &self.written, self.sent, lent);
-        self.sent = self.written.let_go(sent);
+        let start = self.sent;
+        let (sent, flushed) = flush_output(link, &mut self.written, start, lent);
+        self.sent = sent;
         match flushed {
             Flushed::Later => Some(RoundEnd::Later),
             Flushed::Failed => Some(RoundEnd::Ended(Ended::WriteFault)),

@@ -1,11 +1,12 @@
-use Rattle.std.proofs.Common.{length, ◌-◌, ◌≡◌, ◌≤◌, [], take}
-use Rattle.wl_worker.specs.Served.{LinkGains}
-use Rattle.wl_worker.proofs.flush.flush.Given as goal
+use Rattle.std.proofs.Common.{◌≡◌, ◌≤◌, ◌<◌, ◌-◌, length, drop}
+use Rattle.wl_worker.specs.Sending.{Passes}
+use Rattle.wl_worker.proofs.flush.flush_output.Given as goal
 
 abbrev pub invariant-sends : goal.invariant-sends
 invariant-sends g l = record {
-  within : l.sent ≤ length l.bytes;
-  took : LinkGains (g.L.Link.told l.fn.link) (g.L.Link.told l.link) [] (take l.sent l.bytes);
+  room : 0 < length l.lent;
+  within : l.sent ≤ length l.output;
+  passes : Passes (g.L.Link.told l.fn.link) (g.L.Link.told l.link) (drop l.start l.fn.output) (drop l.sent l.output);
   sends : g.L.Link.failed_sends l.fn.link ≤ g.L.Link.failed_sends l.link;
   stalls : g.L.Link.stalls l.fn.link ≤ g.L.Link.stalls l.link;
   origin : g.L.Link.origin l.link ≡ g.L.Link.origin l.fn.link;
@@ -13,4 +14,4 @@ invariant-sends g l = record {
 }
 
 abbrev pub decreases-sends : goal.decreases-sends
-decreases-sends g l = length l.bytes - l.sent
+decreases-sends g l = length l.output - l.sent
