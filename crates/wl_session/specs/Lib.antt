@@ -2,6 +2,7 @@ pub mod Queues
 pub mod Kinds
 pub mod Answering
 pub mod Making
+pub mod Sharing
 pub mod Tokens
 pub mod Talks
 pub mod Sessions

@@ -1,4 +1,4 @@
--- The messages that a turn made.
+-- The message of a streaming call.
 use Rattle.std.specs.Prelude.{◌≡◌, ℕ, List}
 use Rattle.wl_snapshot.specs.Views.{ViewModel}
 use Rattle.wl_snapshot.specs.Answers.{answer_of, with_prefix}
@@ -8,12 +8,3 @@ use Rattle.wl_snapshot.specs.declared.answers.Method3.{Method3}
 -- a streaming call of this method with this view is answered this message, which stands after its gRPC prefix
 abbrev pub IsMessageOf : Method3 → ViewModel → List ℕ → Type 0
 IsMessageOf method v message = with_prefix (answer_of method v) ≡ Message message
-
--- a message, and what it was made of
-pub record Made : Type 0 where
-  pub method : Method3
-  pub view : ViewModel
-  pub message : List ℕ
-
-abbrev pub IsMade : Made → Type 0
-IsMade m = IsMessageOf m.method m.view m.message

@@ -9,12 +9,12 @@ mod asks;
 mod counted;
 mod giving;
 mod laws;
-mod making;
 mod naming;
 mod queue;
 mod replies;
 mod served;
 mod session;
+mod shared_views;
 mod talk;
 mod turn;
 
@@ -24,3 +24,4 @@ pub use laws::{
     turns_may_follow,
 };
 pub use session::Session;
+pub use shared_views::SharedViews;

@@ -1,9 +1,6 @@
 //! Ready calls.
 
-ghost use Rattle.std.specs.Prelude.{◌≡◌, ◌<◌, true, ◌∷◌, ◌++◌, [], nat_lt, length, take, drop, insert, position, IfOk, IfSome};
-ghost use Rattle.wl_snapshot.specs.Snapshots.{Publication};
-ghost use Rattle.wl_snapshot.specs.Views.{view_in};
-ghost use Rattle.wl_session.specs.Agreeing.{HasSeen, HaveSeen};
+ghost use Rattle.std.specs.Prelude.{◌≡◌, ◌<◌, ◌∷◌, ◌++◌, [], nat_lt, length, take, drop, insert, position, IfOk};
 ghost use Rattle.wl_session.specs.Answering.{kept_of};
 ghost use Rattle.wl_session.specs.Talks.{with_served, others};
 ghost use Rattle.wl_session.specs.Kinds.{kind_of, plain_kind};
@@ -92,45 +89,6 @@ pub enum Stage {
 pub struct ServedCall {
     pub stream: u32,
     pub stage: Stage,
-}
-
-#[tactic(auto, using(list_laws::proofs::Equality::texts_are))]
-fn same_selectors(one: &Selectors, other: &Selectors) -> bool
-    ensures { result ≡ true → one.now ≡ other.now }
-{
-    one == other
-}
-
-/// The view that answered a call last, where its selectors are these.
-#[tactic(auto, using(crate::proofs::Views::seen_alike))]
-fn seen_by<'a>(call: &'a ServedCall, selectors: &Selectors) -> Option<&'a Shared<View>>
-    ensures { IfSome result (λ v. (x : Publication)
-        → HasSeen x call.now.stage → v.now ≡ view_in x selectors.now) }
-{
-    match &call.stage {
-        Stage::Ready {
-            selectors: own,
-            seen: Some(view),
-            ..
-        } if same_selectors(own, selectors) => Some(view),
-        _ => None,
-    }
-}
-
-/// The view that answered a call with these selectors last, where there is one.
-pub fn seen_with(
-    served: &[ServedCall],
-    selectors: &Selectors,
-) -> Result<Option<Shared<View>>, Memory>
-    ensures { IfOk result (λ found. IfSome found (λ v. (x : Publication)
-        → HaveSeen x served.now → v ≡ view_in x selectors.now)) }
-{
-    for call in served {
-        if let Some(view) = seen_by(call, selectors) {
-            return Ok(Some(view.share()?));
-        }
-    }
-    Ok(None)
 }
 
 /// The place of the first call on a higher stream.

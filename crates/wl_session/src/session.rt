@@ -6,8 +6,10 @@ ghost use Rattle.h2_frame.specs.declared.fault.FrameFault.TheVariants as frame_f
 ghost use Rattle.h2_frame.specs.Reading.{reading_from};
 ghost use Rattle.wl_session.specs.Sessions.{fresh_session, Feeds, Turns, Names, GivesOutcome, unnamed_in, asks_in, is_done_in, failure_in, Began, fault_in, feed_said};
 ghost use Rattle.wl_session.specs.Settled.{MayTurn, IsShown, is_number};
+ghost use Rattle.wl_session.specs.Sharing.{MayShare, SharesOf};
 
 use crate::asks::{JwtAsk, JwtOutcome, SessionFault};
+use crate::shared_views::SharedViews;
 use crate::talk::{Talk, first_of};
 use call_counts::CallCounts;
 use h2_conn::ConnFault;
@@ -124,7 +126,7 @@ impl Session {
         requires named { unnamed_in self.old ≡ None }
         ensures { Turns snapshot.now self.old result out.old out.new self.new }
     {
-        self.turn_over(snapshot, None, out)
+        self.turn_over(&mut SharedViews::new(self.alloc), snapshot, None, out)
     }
 
     /// The same, by the index of the publication's entries: it looks at no entry but those of its callers.
@@ -139,7 +141,31 @@ impl Session {
         requires index { index.now ≡ snapshot.now.entries }
         ensures { Turns snapshot.now self.old result out.old out.new self.new }
     {
-        self.turn_over(snapshot, Some(index), out)
+        self.turn_over(
+            &mut SharedViews::new(self.alloc),
+            snapshot,
+            Some(index),
+            out,
+        )
+    }
+
+    /// The same, with views and messages that connections share: what was made for a caller of equal selectors in this
+    /// publication is not made again, and what is made here is kept for the others.
+    pub fn turn_with(
+        &mut self,
+        views: &mut SharedViews,
+        snapshot: &Snapshot,
+        index: &Index,
+        out: &mut Output,
+    ) -> Result<(), SessionFault>
+        requires follows { MayTurn snapshot.now self.old }
+        requires named { unnamed_in self.old ≡ None }
+        requires index { index.now ≡ snapshot.now.entries }
+        requires shares { MayShare snapshot.now views.old }
+        ensures turns { Turns snapshot.now self.old result out.old out.new self.new }
+        ensures shares { SharesOf snapshot.now views.old views.new }
+    {
+        self.turn_over(views, snapshot, Some(index), out)
     }
 
     /// The same on a publication that shows no call that was answered another view than answered it last: where no call is
@@ -161,7 +187,12 @@ impl Session {
             return Err(fault);
         }
         if self.talk.has_new() {
-            return self.turn_over(snapshot, Some(index), out);
+            return self.turn_over(
+                &mut SharedViews::new(self.alloc),
+                snapshot,
+                Some(index),
+                out,
+            );
         }
         self.number = Some(snapshot.number);
         self.shown = Some(snapshot::Snapshot::of(snapshot));
@@ -171,13 +202,16 @@ impl Session {
     #[tactic(auto, using(crate::proofs::SessionFacts::settled_turn, crate::proofs::SessionFacts::stays_on))]
     fn turn_over(
         &mut self,
+        views: &mut SharedViews,
         snapshot: &Snapshot,
         index: Option<&Index>,
         out: &mut Output,
     ) -> Result<(), SessionFault>
         requires follows { MayTurn snapshot.now self.old }
         requires index { IfSome index (λ i. i.now ≡ snapshot.now.entries) }
-        ensures { Turns snapshot.now self.old result out.old out.new self.new }
+        requires shares { MayShare snapshot.now views.old }
+        ensures turns { Turns snapshot.now self.old result out.old out.new self.new }
+        ensures shares { SharesOf snapshot.now views.old views.new }
     {
         if let Some(fault) = self.failed {
             return Err(fault);
@@ -185,7 +219,7 @@ impl Session {
         if is_number(self.number, snapshot.number) && !self.talk.has_new() {
             return Ok(());
         }
-        match self.talk.turn(snapshot, index, out) {
+        match self.talk.turn(views, snapshot, index, out) {
             Ok(()) => {
                 self.number = Some(snapshot.number);
                 self.shown = Some(snapshot::Snapshot::of(snapshot));
@@ -270,7 +304,7 @@ impl Session {
 }
 
 /// Whether the last turn's publication had this number.
-fn is_number(last: Option<u64>, number: u64) -> bool
+pub fn is_number(last: Option<u64>, number: u64) -> bool
     ensures { result ≡ is_number last number }
 {
     match last {

@@ -9,6 +9,7 @@ ghost use Rattle.h2_conn.specs.Conns.{frame_result, is_going, live_on, begun_on,
 ghost use Rattle.h2_conn.specs.Kinds.{Fits};
 ghost use Rattle.wl_session.specs.Settled.{is_new, is_new_view};
 ghost use Rattle.wl_session.specs.Answering.{calls_turn};
+ghost use Rattle.wl_session.specs.Sharing.{MayShare};
 ghost use Rattle.wl_session.specs.Sessions.{with_turned, turn_said, name_said, given_said};
 ghost use Rattle.wl_session.specs.Talks.{fresh_talk, after_event, after_body, after_happening, after_happenings, after_frame, with_served, others, settings_bytes, greeting, written, first_of, frame_said, frames_said, break_said};
 ghost use Rattle.wl_session.specs.Tokens.{first_unnamed, first_ask, name_first, give_first};
@@ -19,6 +20,7 @@ use crate::giving::{first_ask, give_first};
 use crate::naming::{name_first, unnamed_stream};
 use crate::replies::refuse;
 use crate::served::{CallKind, ServedCall, Stage, others, with_served};
+use crate::shared_views::SharedViews;
 use crate::turn::turn_all;
 use call_counts::{CallCounts, CallTally};
 use grpc_conn::{CallEvent, Calls};
@@ -323,13 +325,20 @@ impl Talk {
         Ok(Some(fault))
     }
 
-    fn take_turn(&mut self, snapshot: &Snapshot, index: Option<&Index>) -> Result<(), Memory>
-        requires { IfSome index (λ i. i.now ≡ snapshot.now.entries) }
-        ensures { OnOk result
+    fn take_turn(
+        &mut self,
+        views: &mut SharedViews,
+        snapshot: &Snapshot,
+        index: Option<&Index>,
+    ) -> Result<(), Memory>
+        requires index { IfSome index (λ i. i.now ≡ snapshot.now.entries) }
+        requires shares { MayShare snapshot.now views.old }
+        ensures turned { OnOk result
             (self.new ≡ with_turned self.old (calls_turn snapshot.now self.old.served self.old.phase)) }
+        ensures shown { views.new ≡ Some snapshot.now }
     {
         let served = mem::replace(&mut self.served, Row::empty(self.alloc));
-        self.served = turn_all(self.alloc, &mut self.conn, served, snapshot, index)?;
+        self.served = turn_all(self.alloc, &mut self.conn, served, views, snapshot, index)?;
         Ok(())
     }
 
@@ -337,16 +346,19 @@ impl Talk {
     #[tactic(auto, unfolding(crate::specs::Sessions::turn_said))]
     pub fn turn(
         &mut self,
+        views: &mut SharedViews,
         snapshot: &Snapshot,
         index: Option<&Index>,
         out: &mut Output,
     ) -> Result<(), Memory>
-        requires { IfSome index (λ i. i.now ≡ snapshot.now.entries) }
+        requires index { IfSome index (λ i. i.now ≡ snapshot.now.entries) }
+        requires shares { MayShare snapshot.now views.old }
+        ensures shown { views.new ≡ Some snapshot.now }
         ensures after { OnOk result (self.new ≡ (turn_said snapshot.now self.old).after) }
         ensures bytes { OnOk result (out.new ≡ out.old ++ (turn_said snapshot.now self.old).bytes) }
         ensures prefix { GainsFront (turn_said snapshot.now self.old).bytes out.old out.new }
     {
-        self.take_turn(snapshot, index)?;
+        self.take_turn(views, snapshot, index)?;
         self.write(out)
     }
 

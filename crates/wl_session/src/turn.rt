@@ -1,70 +1,26 @@
 //! A turn: each ready call is answered on its view of one publication.
 
-ghost use Rattle.std.specs.Prelude.{◌≡◌, ◌≤◌, ◌++◌, IfSome, IfOk, OnOk};
+ghost use Rattle.std.specs.Prelude.{◌≡◌, ◌≤◌, ◌++◌, Some, IfSome, IfOk, OnOk};
 ghost use Rattle.wl_health.specs.declared.health.TheConstants.{SERVING, SERVICE_UNKNOWN};
 ghost use Rattle.wl_snapshot.specs.Answers.{answer_of};
-ghost use Rattle.wl_snapshot.specs.Views.{view_in};
 ghost use Rattle.wl_session.specs.Answering.{Gives, kept_of, call_answer, calls_turn, stage_turn, stream_answer, token_answer, check_answer, watch_answer, health_of};
 ghost use Rattle.wl_session.specs.Kinds.{was_seen};
-ghost use Rattle.wl_session.specs.Agreeing.{HaveSeen};
 ghost use Rattle.wl_session.specs.Making.{IsMessageOf};
+ghost use Rattle.wl_session.specs.Sharing.{SeesIn, MayShare};
 
 use crate::asks::JwtAsk;
 use crate::counted::CountedConn;
-use crate::making::{MadeMessage, find_message, keep_message};
 use crate::queue::Queue;
 use crate::replies::{framed_message, last_message, message, refuse};
-use crate::served::{CallKind, ServedCall, Stage, seen_with};
+use crate::served::{CallKind, ServedCall, Stage};
+use crate::shared_views::SharedViews;
 use grpc_wire::Refusal;
 use std::alloc::Global;
 use wl_health::{SERVICE_UNKNOWN, encode_health, state};
 use wl_match::Index;
 use wl_octets::{Memory, Octets, Row, Shared};
 use wl_selector::Selectors;
-use wl_snapshot::{
-    Answer, Method3, Snapshot, View, Wanted, framed_answer, jwt_asks, same_view, view, view_of,
-};
-
-/// A caller's view of a publication, by the index of its entries where there is one.
-#[tactic(auto, using(crate::proofs::Views::by_places))]
-fn make_view(
-    alloc: Global,
-    snapshot: &Snapshot,
-    index: Option<&Index>,
-    selectors: &Selectors,
-) -> Result<View, Memory>
-    requires { IfSome index (λ i. i.now ≡ snapshot.now.entries) }
-    ensures { IfOk result (λ v. v ≡ view_in snapshot.now selectors.now) }
-{
-    match index {
-        None => view(alloc, snapshot, selectors),
-        Some(index) => {
-            let places = index.entitled(alloc, selectors)?;
-            view_of(alloc, snapshot, places.as_slice())
-        }
-    }
-}
-
-/// A caller's view of a publication: that of a call before it with equal selectors, or else a new one.
-fn view_for(
-    alloc: Global,
-    snapshot: &Snapshot,
-    index: Option<&Index>,
-    kept: &[ServedCall],
-    selectors: &Selectors,
-) -> Result<Shared<View>, Memory>
-    requires index { IfSome index (λ i. i.now ≡ snapshot.now.entries) }
-    requires seen { HaveSeen snapshot.now kept.now }
-    ensures { IfOk result (λ v. v ≡ view_in snapshot.now selectors.now) }
-{
-    if let Some(view) = seen_with(kept, selectors)? {
-        return Ok(view);
-    }
-    match Shared::new(alloc, make_view(alloc, snapshot, index, selectors)?) {
-        Ok(view) => Ok(view),
-        Err((_, memory)) => Err(memory),
-    }
-}
+use wl_snapshot::{Answer, Method3, Snapshot, View, Wanted, framed_answer, jwt_asks, same_view};
 
 /// Whether the view is the one that answered last.
 fn was_seen(seen: &Option<Shared<View>>, view: &View) -> bool
@@ -101,21 +57,24 @@ fn answer_message(
     }))
 }
 
-/// A streaming call of the Workload API is answered on a view. A message that the turn made before is not made again.
+/// A streaming call of the Workload API is answered on a view. A message that was made for an equal caller is not made again.
+#[tactic(auto, using(crate::proofs::KeptViews::message_on_view, crate::proofs::KeptViews::message_of_view))]
 fn answer_stream(
     alloc: Global,
     conn: &mut CountedConn,
-    made: &mut Row<MadeMessage>,
+    views: &mut SharedViews,
     stream: u32,
     method: Method3,
     selectors: Selectors,
     headed: bool,
     view: Shared<View>,
 ) -> Result<Option<Stage>, Memory>
-    ensures { Gives result stream conn.new
+    requires { SeesIn views.old selectors view }
+    ensures gives { Gives result stream conn.new
         (stream_answer stream method selectors view headed (answer_of method view) conn.old) }
+    ensures stays { views.new ≡ views.old }
 {
-    if let Some(message) = find_message(made.as_slice(), method, view.part())? {
+    if let Some(message) = views.message_for(method, &selectors)? {
         return answer_message(
             alloc, conn, stream, method, selectors, headed, view, message,
         );
@@ -139,7 +98,7 @@ fn answer_stream(
             }))
         }
         Answer::Message(message) => {
-            let message = keep_message(alloc, made, method, &view, message)?;
+            let message = views.keep_message(method, &selectors, message)?;
             answer_message(
                 alloc, conn, stream, method, selectors, headed, view, message,
             )
@@ -234,18 +193,20 @@ fn answer_watch(
 fn answer_call(
     alloc: Global,
     conn: &mut CountedConn,
-    made: &mut Row<MadeMessage>,
+    views: &mut SharedViews,
     stream: u32,
     kind: CallKind,
     selectors: Selectors,
     headed: bool,
     view: Shared<View>,
 ) -> Result<Option<Stage>, Memory>
-    ensures { Gives result stream conn.new (call_answer stream kind selectors headed view conn.old) }
+    requires { SeesIn views.old selectors view }
+    ensures gives { Gives result stream conn.new (call_answer stream kind selectors headed view conn.old) }
+    ensures stays { views.new ≡ views.old }
 {
     match kind {
         CallKind::Stream(method) => {
-            answer_stream(alloc, conn, made, stream, method, selectors, headed, view)
+            answer_stream(alloc, conn, views, stream, method, selectors, headed, view)
         }
         CallKind::Tokens { audience, id } => {
             let wanted = jwt_asks(alloc, view.part(), id.as_ref())?;
@@ -265,16 +226,16 @@ fn answer_call(
 fn turn_stage(
     alloc: Global,
     conn: &mut CountedConn,
-    made: &mut Row<MadeMessage>,
-    kept: &[ServedCall],
+    views: &mut SharedViews,
     stream: u32,
     stage: Stage,
     snapshot: &Snapshot,
     index: Option<&Index>,
 ) -> Result<Option<Stage>, Memory>
     requires index { IfSome index (λ i. i.now ≡ snapshot.now.entries) }
-    requires seen { HaveSeen snapshot.now kept.now }
-    ensures { Gives result stream conn.new (stage_turn snapshot.now stream stage conn.old) }
+    requires shown { views.old ≡ Some snapshot.now }
+    ensures gives { Gives result stream conn.new (stage_turn snapshot.now stream stage conn.old) }
+    ensures stays { views.new ≡ views.old }
 {
     match stage {
         Stage::Ready {
@@ -283,7 +244,7 @@ fn turn_stage(
             seen,
             headed,
         } => {
-            let view = view_for(alloc, snapshot, index, kept, &selectors)?;
+            let view = views.view_for(snapshot, index, &selectors)?;
             if was_seen(&seen, view.part()) {
                 return Ok(Some(Stage::Ready {
                     kind,
@@ -292,7 +253,7 @@ fn turn_stage(
                     headed,
                 }));
             }
-            answer_call(alloc, conn, made, stream, kind, selectors, headed, view)
+            answer_call(alloc, conn, views, stream, kind, selectors, headed, view)
         }
         other => Ok(Some(other)),
     }
@@ -313,27 +274,21 @@ pub fn turn_all(
     alloc: Global,
     conn: &mut CountedConn,
     served: Row<ServedCall>,
+    views: &mut SharedViews,
     snapshot: &Snapshot,
     index: Option<&Index>,
 ) -> Result<Row<ServedCall>, Memory>
-    requires { IfSome index (λ i. i.now ≡ snapshot.now.entries) }
-    ensures { IfOk result
+    requires index { IfSome index (λ i. i.now ≡ snapshot.now.entries) }
+    requires shares { MayShare snapshot.now views.old }
+    ensures turned { IfOk result
         (λ kept. calls_turn snapshot.now served conn.old ≡ record { phase = conn.new; kept = kept }) }
+    ensures shown { views.new ≡ Some snapshot.now }
 {
+    views.show(snapshot);
     let mut kept = Row::empty(alloc);
-    let mut made = Row::empty(alloc);
     for call in served.into_vec() {
         let stream = call.stream;
-        let stage = turn_stage(
-            alloc,
-            conn,
-            &mut made,
-            kept.as_slice(),
-            stream,
-            call.stage,
-            snapshot,
-            index,
-        )?;
+        let stage = turn_stage(alloc, conn, views, stream, call.stage, snapshot, index)?;
         add_kept(&mut kept, stream, stage)?;
     }
     Ok(kept)

@@ -6,4 +6,4 @@ use Rattle.wl_session.proofs.talk.Talk.turn.Goals as goal
 
 pub returns-clause-prefix : goal.returns-clause-prefix
 unfolding turn_said
-returns-clause-prefix c = subst (λ (t : Talking). GainsFront (written None t).bytes c.args.out.now c.write.new.out) c.in_ok-take_turn.ensures (c.write.ensures.prefix None)
+returns-clause-prefix c = subst (λ (t : Talking). GainsFront (written None t).bytes c.args.out.now c.write.new.out) c.in_ok-take_turn.ensures.turned (c.write.ensures.prefix None)
