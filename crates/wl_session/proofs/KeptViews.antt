@@ -1,5 +1,5 @@
 -- Views and messages that connections share.
-use Rattle.std.proofs.Common.{◌≡◌, ℕ, ◌==◌, true, List, [], ◌∷◌, ◌++◌, Option, Some, None, option_map, sym, ap, subst, ◌∙◌}
+use Rattle.std.proofs.Common.{◌≡◌, ℕ, true, List, [], ◌∷◌, ◌++◌, Option, Some, None, option_map, sym, ap, subst, ◌∙◌}
 use Rattle.list_laws.proofs.Elements.{all_append}
 use Rattle.list_laws.proofs.Equality.{numbers_are}
 use Rattle.wl_session.proofs.Common.{Publication, ViewModel, view_in, Method3}

@@ -1,14 +1,17 @@
 -- What a pass has seen, and the publication of a session's last turn.
-use Rattle.std.proofs.Common.{◌≡◌, ℕ, ◌+◌, ◌≤◌, inl, inr, List, [], ◌∷◌, ◌++◌, length, Option, Some, None, refl, sym, ap, subst, ◌∙◌, append_assoc, arith}
-use Rattle.std.specs.Prelude.{IfSome}
+use Rattle.std.proofs.Common.{◌≡◌, ◌⊎◌, ℕ, ◌+◌, ◌≤◌, inl, inr, Result, Ok, Err, List, [], ◌∷◌, ◌++◌, length, Option, Some, None, refl, sym, ap, subst, ◌∙◌, append_assoc, arith}
+use Rattle.std.specs.Prelude.{IfSome, MatchResult}
 use Rattle.std.specs.List.{AllByRecursion}
 use Rattle.std.proofs.lemmas.List.{append-nil}
 use Rattle.list_laws.proofs.Elements.{all_append}
 use mathlib.Core.List.{IsPrefix}
 use Rattle.wl_worker.proofs.Common.{Ask, Signed, Publication, IsLast, Passing, SessionState, Running, Fallen, OutOfMemory, Round, IsIn, AreKnown, number_of, ReadIn, last_shown, HasSeenLast}
-use Rattle.wl_publish.specs.Lists.{NumberedFrom, NonFallingFrom}
-use Rattle.wl_publish.specs.Reading.{Reads}
+use Rattle.wl_octets.specs.declared.memory.Memory.{Memory}
+use Rattle.wl_publish.specs.Lists.{Numbered, NumberedFrom, NonFallingFrom}
+use Rattle.wl_publish.specs.Reading.{Reads, ReadsAfter}
 use Rattle.wl_session.specs.Settled.{MayTurn}
+use Rattle.wl_session.specs.Sharing.{MayShare, SharesOf}
+use Rattle.wl_worker.specs.Served.{IsAmong}
 use Rattle.wl_publish.proofs.Numbers.{last_of, falls_more}
 use Rattle.wl_worker.specs.Rounds.{IsKnown, numbers}
 use Rattle.wl_worker.specs.Stepping.{KeepsLast}
@@ -86,12 +89,29 @@ pub keeps_seen : (seen : List Publication) (a b : SessionState) → KeepsLast a 
 keeps_seen seen a b (inl same) has = subst (λ (o : Option Publication). IfSome o (λ p. IsIn p seen)) (sym same) has
 keeps_seen seen a b (inr none) has = subst (λ (o : Option Publication). IfSome o (λ p. IsIn p seen)) (sym none) tt
 
+-- a publication that is among those that were seen is among more, too
+pub among_longer : (seen list : List Publication) (shown : Option Publication) → IsPrefix seen list → IsAmong seen shown → IsAmong list shown
+among_longer seen list None pre known = tt
+among_longer seen list (Some p) pre known = known_longer p seen list pre known
+
 pub seen_longer : (seen list : List Publication) (s : SessionState) → IsPrefix seen list → HasSeenLast seen s → HasSeenLast list s
-seen_longer seen list s pre has = seen_by (last_shown s) has
-  where
-    seen_by : (o : Option Publication) → IfSome o (λ p. IsIn p seen) → IfSome o (λ p. IsIn p list)
-    seen_by None known = tt
-    seen_by (Some p) known = known_longer p seen list pre known
+seen_longer seen list s pre has = among_longer seen list (last_shown s) pre has
+
+-- ---- the publication of the views that connections share
+
+pub read_among : (valid : Ask → Signed → Type 0) (v w : Passing) (r : Result Publication Memory) (shown : Option Publication)
+    → MatchResult r (λ s. ReadsAfter valid v s w) (λ _. (w ≡ v) ⊎ ((s : Publication) × Reads valid v s w)) → IsAmong v.seen shown → IsAmong w.seen shown
+read_among valid v w (Ok s) shown is among = among_longer v.seen w.seen shown is.0.seen among
+read_among valid v w (Err m) shown (inl same) among = subst (λ (k : Passing). IsAmong k.seen shown) (sym same) among
+read_among valid v w (Err m) shown (inr reads) among = among_longer v.seen w.seen shown reads.1.seen among
+
+pub may_share : (list : List Publication) (p : Publication) (shown : Option Publication) → Numbered list → IsLast list p → IsAmong list shown → MayShare p shown
+may_share list p None numbered last is = tt
+may_share list p (Some x) numbered last is = (below_last list p x numbered last is).1
+
+pub shares_among : (list : List Publication) (p : Publication) (old new : Option Publication) → SharesOf p old new → IsLast list p → IsAmong list old → IsAmong list new
+shares_among list p old new (inl same) last is = subst (λ (o : Option Publication). IsAmong list o) (sym same) is
+shares_among list p old new (inr now) last is = subst (λ (o : Option Publication). IsAmong list o) (sym now) (last_in p list last)
 
 -- ---- rounds, as more is seen
 

@@ -166,6 +166,10 @@ last_shown (Running e t shown) = shown
 last_shown (Fallen fault begun) = None
 last_shown OutOfMemory = None
 
+-- a publication is among those that were seen, if there is one
+abbrev pub IsAmong : List Publication → Option Publication → Type 0
+IsAmong seen shown = IfSome shown (λ p. IsIn p seen)
+
 -- it is among those that were seen
 abbrev pub HasSeenLast : List Publication → SessionState → Type 0
 HasSeenLast seen s = IfSome (last_shown s) (λ p. IsIn p seen)

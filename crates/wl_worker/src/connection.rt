@@ -8,6 +8,7 @@ ghost use Rattle.wl_worker.specs.Completeness.{Completes, link_faults};
 ghost use Rattle.wl_worker.specs.Connections.{ConnectionTells};
 
 use crate::ended::{Ended, RoundEnd};
+use crate::seat_pass::SeatPass;
 use crate::served::{Buffer, Served};
 use ask_mail::TokenAsks;
 use std::alloc::Global;
@@ -15,7 +16,6 @@ use std::sync::{Mutex, Wait};
 use wl_desk::Desk;
 use wl_edge::{Attestor, Clock, Gate, Link};
 use wl_octets::Memory;
-use wl_publish::Pass;
 
 /// Serves a link until a round of it ends. A link that takes nothing for now is tried again at once: a
 /// caller that has others to serve takes the rounds of a [`Served`] itself.
@@ -28,7 +28,7 @@ pub fn serve_connection<L: Link, A: Attestor, T: TokenAsks, C: Clock, G: Gate, R
     rt: &R,
     alloc: Global,
     desk: &Mutex<Desk<T::V>>,
-    pass: &mut Pass<T::V>,
+    pass: &mut SeatPass<T::V>,
     link: &mut L,
     attestor: &mut A,
     connection: u64,

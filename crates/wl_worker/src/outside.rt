@@ -2,12 +2,12 @@
 
 ghost use Rattle.std.specs.Prelude.{◌≡◌};
 
+use crate::seat_pass::SeatPass;
 use ask_mail::TokenAsks;
 use std::alloc::Global;
 use std::sync::Mutex;
 use wl_desk::Desk;
 use wl_entry::Voucher;
-use wl_publish::Pass;
 
 /// A connection, by its number, and the desk whose tokens it gets.
 #[derive(Drop)]
@@ -40,7 +40,7 @@ impl<'a, V: Voucher, R> Caller<'a, V, R> {
 /// What stands around a round beside its link: the pass, and the outside. Of a gate contracts see nothing.
 #[derive(Drop)]
 pub struct Outside<'a, A, T: TokenAsks, C, G> {
-    pub pass: &'a mut Pass<T::V>,
+    pub pass: &'a mut SeatPass<T::V>,
     pub attestor: &'a mut A,
     pub asks: &'a mut T,
     pub clock: &'a mut C,
@@ -50,7 +50,7 @@ pub struct Outside<'a, A, T: TokenAsks, C, G> {
 impl<'a, A, T: TokenAsks, C, G> Outside<'a, A, T, C, G> {
     /// Lends these on together: each field is the reference that was handed in.
     pub fn new(
-        pass: &'a mut Pass<T::V>,
+        pass: &'a mut SeatPass<T::V>,
         attestor: &'a mut A,
         asks: &'a mut T,
         clock: &'a mut C,

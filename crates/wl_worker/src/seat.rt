@@ -8,6 +8,7 @@ ghost use Rattle.wl_publish.specs.Listings.{Passing};
 ghost use Rattle.wl_worker.specs.Served.{around};
 ghost use Rattle.wl_worker.specs.Tended.{ListenedTo, Tends, seat_world};
 
+use crate::seat_pass::SeatPass;
 use crate::seating::serve_links;
 use ask_mail::TokenAsks;
 use std::alloc::Global;
@@ -98,11 +99,11 @@ pub fn serve_seat<
         (C.answers seat.new.clock) q)) }
 {
     let mut pass = match seat.pass.take() {
-        Some(pass) => pass,
+        Some(pass) => SeatPass::new(alloc, pass),
         None => unreachable!(),
     };
     let end = serve_links(rt, alloc, desk, seat, &mut pass, gate);
-    seat.pass = Some(pass);
+    seat.pass = Some(pass.into_pass());
     desk.lock(rt).seat_ended();
     end
 }

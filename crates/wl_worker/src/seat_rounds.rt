@@ -15,13 +15,14 @@ ghost use Rattle.wl_worker.specs.declared.step.Step.TheVariants.{On};
 use crate::ended::{Ended, RoundEnd, starved_after};
 use crate::places::{Connection, Places, end_link, greatest, note_calls, note_last_calls, release};
 use crate::seat::Seat;
+use crate::seat_pass::SeatPass;
 use ask_mail::TokenAsks;
 use std::alloc::Global;
 use std::sync::{Mutex, Wait};
 use wl_desk::Desk;
 use wl_edge::{Attestor, Clock, EdgeFault, Gate, Link, Listener, Ready};
+use wl_entry::Voucher;
 use wl_octets::Row;
-use wl_publish::Pass;
 
 /// What contracts see of a seat, with the pass that was taken out of it.
 pub(crate) trait SeatShown {
@@ -51,7 +52,7 @@ fn serve_one<L: Listener, T: TokenAsks, A: Attestor, C: Clock, P: Ready<L::L>, G
     rt: &R,
     desk: &Mutex<Desk<T::V>>,
     seat: &mut Seat<L, T, A, C, P>,
-    pass: &mut Pass<T::V>,
+    pass: &mut SeatPass<T::V>,
     places: &mut Places<L::L>,
     connection: Connection<L::L>,
     gate: &G,
@@ -116,7 +117,7 @@ fn serve_number<L: Listener, T: TokenAsks, A: Attestor, C: Clock, P: Ready<L::L>
     rt: &R,
     desk: &Mutex<Desk<T::V>>,
     seat: &mut Seat<L, T, A, C, P>,
-    pass: &mut Pass<T::V>,
+    pass: &mut SeatPass<T::V>,
     places: &mut Places<L::L>,
     number: usize,
     gate: &G,
@@ -209,7 +210,7 @@ fn serve_listed<L: Listener, T: TokenAsks, A: Attestor, C: Clock, P: Ready<L::L>
     rt: &R,
     desk: &Mutex<Desk<T::V>>,
     seat: &mut Seat<L, T, A, C, P>,
-    pass: &mut Pass<T::V>,
+    pass: &mut SeatPass<T::V>,
     places: &mut Places<L::L>,
     listed: &[u32],
     gate: &G,
@@ -232,6 +233,15 @@ fn serve_listed<L: Listener, T: TokenAsks, A: Attestor, C: Clock, P: Ready<L::L>
     }
 }
 
+/// Lets go of what the connections of a seat share, where there is none.
+fn let_go<L: Link, V: Voucher>(pass: &mut SeatPass<V>, places: &Places<L>)
+    ensures { pass.new ≡ pass.old }
+{
+    if places.links.is_empty() {
+        pass.clear();
+    }
+}
+
 /// Waits until links may be ready, and serves a round of each that is listed. A wait that lists nobody serves nobody.
 pub(crate) fn serve_turn<
     L: Listener,
@@ -246,7 +256,7 @@ pub(crate) fn serve_turn<
     alloc: Global,
     desk: &Mutex<Desk<T::V>>,
     seat: &mut Seat<L, T, A, C, P>,
-    pass: &mut Pass<T::V>,
+    pass: &mut SeatPass<T::V>,
     places: &mut Places<L::L>,
     gate: &G,
 ) -> Result<(), EdgeFault>
@@ -268,5 +278,6 @@ pub(crate) fn serve_turn<
         return Err(fault);
     }
     serve_listed(rt, desk, seat, pass, places, listed.as_slice(), gate);
+    let_go(pass, places);
     Ok(())
 }

@@ -12,6 +12,7 @@ ghost use Rattle.wl_worker.specs.Tended.{Tends};
 use crate::ended::{Ended, starved_after};
 use crate::places::{Connection, Places, note_last_calls, release};
 use crate::seat::{Seat, SeatEnd};
+use crate::seat_pass::SeatPass;
 use crate::seat_rounds::{LinkShown, SeatShown, serve_turn};
 use crate::served::Served;
 use crate::step::Step;
@@ -22,7 +23,6 @@ use std::sync::{Mutex, Wait};
 use wl_desk::Desk;
 use wl_edge::{Accepted, Attestor, Clock, EdgeFault, Gate, Listener, Ready};
 use wl_octets::Memory;
-use wl_publish::Pass;
 
 /// The end of a seat whose watcher had no answer.
 fn end_of(fault: EdgeFault) -> SeatEnd
@@ -132,7 +132,7 @@ fn go_on<L: Listener, T: TokenAsks, A: Attestor, C: Clock, P: Ready<L::L>, G: Ga
     alloc: Global,
     desk: &Mutex<Desk<T::V>>,
     seat: &mut Seat<L, T, A, C, P>,
-    pass: &mut Pass<T::V>,
+    pass: &mut SeatPass<T::V>,
     places: &mut Places<L::L>,
     gate: &G,
 ) -> Step
@@ -164,7 +164,7 @@ fn serve_rest<L: Listener, T: TokenAsks, A: Attestor, C: Clock, P: Ready<L::L>, 
     alloc: Global,
     desk: &Mutex<Desk<T::V>>,
     seat: &mut Seat<L, T, A, C, P>,
-    pass: &mut Pass<T::V>,
+    pass: &mut SeatPass<T::V>,
     places: &mut Places<L::L>,
     gate: &G,
 ) -> SeatEnd
@@ -197,7 +197,7 @@ fn serve_all<L: Listener, T: TokenAsks, A: Attestor, C: Clock, P: Ready<L::L>, G
     alloc: Global,
     desk: &Mutex<Desk<T::V>>,
     seat: &mut Seat<L, T, A, C, P>,
-    pass: &mut Pass<T::V>,
+    pass: &mut SeatPass<T::V>,
     places: &mut Places<L::L>,
     gate: &G,
 ) -> SeatEnd
@@ -298,7 +298,7 @@ pub(crate) fn serve_links<
     alloc: Global,
     desk: &Mutex<Desk<T::V>>,
     seat: &mut Seat<L, T, A, C, P>,
-    pass: &mut Pass<T::V>,
+    pass: &mut SeatPass<T::V>,
     gate: &G,
 ) -> SeatEnd
     requires { HasOpen (L.told seat.old.listener) 0 }

@@ -10,6 +10,7 @@ ghost use Rattle.wl_worker.specs.Served.{RoundTells, around, HasSeenLast};
 use crate::ended::{Ended, RoundEnd};
 use crate::flush::{Flushed, flush_output};
 use crate::outside::{Caller, Outside};
+use crate::seat_pass::SeatPass;
 use crate::stepping::hear_and_step;
 use ask_mail::TokenAsks;
 use call_counts::CallCounts;
@@ -21,7 +22,6 @@ use std::sync::{Mutex, Wait};
 use wl_desk::Desk;
 use wl_edge::{Attestor, Clock, Gate, Link};
 use wl_octets::Memory;
-use wl_publish::Pass;
 use wl_session::{Session, SessionFault};
 
 /// How many bytes one receive may give.
@@ -207,7 +207,7 @@ impl Served {
         &mut self,
         rt: &R,
         desk: &Mutex<Desk<T::V>>,
-        pass: &mut Pass<T::V>,
+        pass: &mut SeatPass<T::V>,
         link: &mut L,
         attestor: &mut A,
         connection: u64,

@@ -2,6 +2,7 @@
 
 ghost use Rattle.std.specs.Prelude.{◌≡◌, ◌⊎◌, ◌<◌, ◌≤◌, None, Err, OnOk, length};
 ghost use Rattle.wl_edge.specs.Edge.{Rose};
+ghost use Rattle.wl_publish.specs.Lists.{IsLast, Numbered};
 ghost use Rattle.wl_session.specs.Sessions.{asks_in, unnamed_in};
 ghost use Rattle.wl_session.specs.Settled.{MayTurn};
 ghost use Rattle.wl_worker.specs.Outcomes.{asker};
@@ -13,29 +14,31 @@ use crate::hearing::hear;
 use crate::naming::attest_all;
 use crate::outcomes::answer_ready;
 use crate::outside::{Caller, Outside};
+use crate::seat_pass::SeatPass;
 use ask_mail::TokenAsks;
 use output_parts::Output;
 use std::sync::Wait;
 use wl_edge::{Attestor, BEFORE_TURN, Clock, Gate, Link, Origin};
+use wl_entry::Voucher;
 use wl_octets::Memory;
 use wl_publish::PublishedSnapshot;
 use wl_session::{Session, SessionFault};
 
-/// A turn on the publication that was read, by the index of its entries.
-fn take_turn(
+/// A turn on the publication that was read.
+fn take_turn<V: Voucher>(
+    pass: &mut SeatPass<V>,
     session: &mut Session,
     published_snapshot: &PublishedSnapshot,
     out: &mut Output,
 ) -> Result<(), Memory>
+    requires last { IsLast pass.old.seen published_snapshot.now }
+    requires numbered { Numbered pass.old.seen }
     requires follows { MayTurn published_snapshot.now session.old }
     requires named { unnamed_in session.old ≡ None }
-    ensures { TurnTells published_snapshot.now session.old session.new out.old out.new result }
+    ensures tells { TurnTells published_snapshot.now session.old session.new out.old out.new result }
+    ensures stays { pass.new ≡ pass.old }
 {
-    match session.turn_by(
-        published_snapshot.snapshot(),
-        published_snapshot.index(),
-        out,
-    ) {
+    match pass.take_turn(session, published_snapshot, out) {
         Ok(()) => Ok(()),
         Err(_) => Err(Memory),
     }
@@ -78,7 +81,7 @@ pub fn step<A: Attestor, T: TokenAsks, C: Clock, G: Gate, R: Wait>(
     attest_all(origin, outside.attestor, session, out, attested)?;
     outside.gate.pass(BEFORE_TURN);
     let published_snapshot = outside.pass.read()?;
-    take_turn(session, &published_snapshot, out)?;
+    take_turn(outside.pass, session, &published_snapshot, out)?;
     answer_ready(
         caller,
         origin.socket,

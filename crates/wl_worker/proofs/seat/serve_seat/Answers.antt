@@ -1,4 +1,5 @@
-use Rattle.std.proofs.Common.{refl, sym, ◌∙◌}
+use Rattle.std.proofs.Common.{Some, sym, ap, ◌∙◌}
+use Rattle.wl_worker.proofs.Common.{Passing}
 use Rattle.wl_worker.proofs.SeatParts.{listen_rose, wait_rose, listened}
 use Rattle.wl_worker.proofs.LinkParts.{of_passes}
 use Rattle.wl_worker.proofs.seat.serve_seat.Goals as goal
@@ -25,4 +26,4 @@ pub returns-clause-finishes : goal.returns-clause-finishes
 returns-clause-finishes g c = listened _ _ _ c.serve_links-end.ensures.goes
 
 pub returns-clause-tends : goal.returns-clause-tends
-returns-clause-tends g c = λ t. of_passes _ _ _ _ _ (sym c.take.ensures.value ∙ c.in-Some.is) refl (c.serve_links-end.ensures.tends t)
+returns-clause-tends g c = λ t. of_passes _ _ _ _ _ (sym c.take.ensures.value ∙ (c.in-Some.is ∙ ap (λ (p : Passing). Some p) (sym c.new-pass.ensures))) (ap (λ (p : Passing). Some p) c.into_pass.ensures) (c.serve_links-end.ensures.tends t)

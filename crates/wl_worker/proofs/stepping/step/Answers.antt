@@ -35,19 +35,19 @@ pub returns-in_err-take_turn-clause-tells : goal.returns-in_err-take_turn-clause
 returns-in_err-take_turn-clause-tells g c =
     let p = err_from_is_err_and c.from_residual-in_err-take_turn.result c.from_residual-in_err-take_turn.ensures.1 in
     let reads = c.in_ok-published_snapshot.ensures.0 in
-    rw p.1 (step_unturned g.T.V.Voucher.signed (asker c.args.caller.now.connection g.T.V.Voucher.token) c.args.origin.now _ _ _ p.0 c.take_turn.new.session c.take_turn.new.out
-    (attested_by (fed_ok _ _ _ _ _ c.in-Ok.ensures) c.in_ok-attest_all.ensures.attests c.in_ok-attest_all.ensures.all) reads (λ _. turned_seen reads c.in_err-take_turn.ensures))
+    rw p.1 (rw c.in_err-take_turn.ensures.stays (step_unturned g.T.V.Voucher.signed (asker c.args.caller.now.connection g.T.V.Voucher.token) c.args.origin.now _ _ _ p.0 c.take_turn.new.session c.take_turn.new.out
+    (attested_by (fed_ok _ _ _ _ _ c.in-Ok.ensures) c.in_ok-attest_all.ensures.attests c.in_ok-attest_all.ensures.all) reads (λ _. turned_seen reads c.in_err-take_turn.ensures.tells)))
 
 pub returns-in_err-answer_ready-clause-tells : goal.returns-in_err-answer_ready-clause-tells
 returns-in_err-answer_ready-clause-tells g c =
     let p = err_from_is_err_and c.from_residual-in_err-answer_ready.result c.from_residual-in_err-answer_ready.ensures.1 in
-    rw p.1 (step_answered g.T.V.Voucher.signed (asker c.args.caller.now.connection g.T.V.Voucher.token) c.args.origin.now
-    (attested_by (fed_ok _ _ _ _ _ c.in-Ok.ensures) c.in_ok-attest_all.ensures.attests c.in_ok-attest_all.ensures.all) c.in_ok-published_snapshot.ensures.0 c.in_ok-take_turn.ensures c.in_err-answer_ready.ensures.gives)
+    rw p.1 (rw c.in_ok-take_turn.ensures.stays (step_answered g.T.V.Voucher.signed (asker c.args.caller.now.connection g.T.V.Voucher.token) c.args.origin.now
+    (attested_by (fed_ok _ _ _ _ _ c.in-Ok.ensures) c.in_ok-attest_all.ensures.attests c.in_ok-attest_all.ensures.all) c.in_ok-published_snapshot.ensures.0 c.in_ok-take_turn.ensures.tells c.in_err-answer_ready.ensures.gives))
 
 pub returns-clause-tells : goal.returns-clause-tells
 returns-clause-tells g c =
-    step_answered g.T.V.Voucher.signed (asker c.args.caller.now.connection g.T.V.Voucher.token) c.args.origin.now
-    (attested_by (fed_ok _ _ _ _ _ c.in-Ok.ensures) c.in_ok-attest_all.ensures.attests c.in_ok-attest_all.ensures.all) c.in_ok-published_snapshot.ensures.0 c.in_ok-take_turn.ensures c.in_ok-answer_ready.ensures.gives
+    rw c.in_ok-take_turn.ensures.stays (step_answered g.T.V.Voucher.signed (asker c.args.caller.now.connection g.T.V.Voucher.token) c.args.origin.now
+    (attested_by (fed_ok _ _ _ _ _ c.in-Ok.ensures) c.in_ok-attest_all.ensures.attests c.in_ok-attest_all.ensures.all) c.in_ok-published_snapshot.ensures.0 c.in_ok-take_turn.ensures.tells c.in_ok-answer_ready.ensures.gives)
 
 pub returns-in-Err-Protocol-clause-waits : goal.returns-in-Err-Protocol-clause-waits
 returns-in-Err-Protocol-clause-waits g c =
