@@ -1,5 +1,5 @@
 -- Views and messages that connections share.
-use Rattle.std.proofs.Common.{◌≡◌, ℕ, true, List, [], ◌∷◌, ◌++◌, Option, Some, None, option_map, sym, ap, subst, ◌∙◌}
+use Rattle.std.proofs.Common.{◌≡◌, inl, inr, ℕ, true, List, [], ◌∷◌, ◌++◌, Option, Some, None, option_map, sym, ap, subst, ◌∙◌}
 use Rattle.list_laws.proofs.Elements.{all_append}
 use Rattle.list_laws.proofs.Equality.{numbers_are}
 use Rattle.wl_session.proofs.Common.{Publication, ViewModel, view_in, Method3}
@@ -7,7 +7,7 @@ use Rattle.wl_session.specs.declared.shared_views.KeptView.{KeptView}
 use Rattle.wl_session.specs.declared.shared_views.KeptMessage.{KeptMessage}
 use Rattle.wl_session.specs.Settled.{is_number}
 use Rattle.wl_session.specs.Making.{IsMessageOf}
-use Rattle.wl_session.specs.Sharing.{SeesIn, IsMessageIn, MayShare, AreViewsIn, AreMessagesIn, AreKept}
+use Rattle.wl_session.specs.Sharing.{SeesIn, IsMessageIn, MayShare, SharesOf, AreViewsIn, AreMessagesIn, AreKept}
 
 -- where the publication has the number of the one that is shown, it is that one
 pub shown_here : (x : Publication) (shown : Option Publication) (number : Option ℕ) → number ≡ option_map (λ y. y.number) shown → is_number number x.number ≡ true → MayShare x shown → shown ≡ Some x
@@ -36,3 +36,14 @@ none_kept x y n is number = record { numbered = ap (λ (m : ℕ). Some m) (numbe
 pub found_here : (x : Publication) (shown : Option Publication) (self : Option Publication) (kept : List KeptView) (sel : List (List ℕ)) (v : ViewModel)
     → shown ≡ self → self ≡ Some x → AreViewsIn shown kept → ((s : Option Publication) → AreViewsIn s kept → SeesIn s sel v) → v ≡ view_in x sel
 found_here x shown self kept sel v is there all found = subst (λ (s : Option Publication). SeesIn s sel v) (is ∙ there) (found shown all)
+
+-- ---- which publications may share
+
+-- on views of none, any
+pub none_may_share : (x : Publication) (shared : Option Publication) → shared ≡ None → MayShare x shared
+none_may_share x shared none = subst (MayShare x) (sym none) tt
+
+-- on those of a publication, itself and each of another number
+pub others_may_share : (x y : Publication) (old new : Option Publication) → SharesOf x old new → (y.number ≡ x.number → x ≡ y) → MayShare y old → MayShare y new
+others_may_share x y old new (inl same) one may = subst (MayShare y) (sym same) may
+others_may_share x y old new (inr now) one may = subst (MayShare y) (sym now) (λ is. one (sym is))

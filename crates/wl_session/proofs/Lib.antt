@@ -8,7 +8,7 @@ pub mod PhaseWalk
 pub mod SessionFacts
 pub mod ViewFacts
 mod Views
-mod KeptViews
+pub mod KeptViews
 pub mod Sizes
 mod FramedMessages
 mod FedBytes

@@ -11,6 +11,7 @@ ghost use Rattle.std.specs.Prelude.{◌≡◌, ◌<◌, None};
 ghost use Rattle.wl_snapshot.specs.Snapshots.{Publication};
 ghost use Rattle.wl_session.specs.Sessions.{unnamed_in};
 ghost use Rattle.wl_session.specs.Settled.{MayTurn};
+ghost use Rattle.wl_session.specs.Sharing.{MayShare, SharesOf};
 
 use broken::{Broken, FAULTS, LONGEST};
 use callers::{Caller, attested};
@@ -24,7 +25,7 @@ use std::process::Abort;
 use wl_entry::JwtToken;
 use wl_match::Index;
 use wl_octets::Octets;
-use wl_session::{JwtOutcome, Session, SessionFault};
+use wl_session::{JwtOutcome, Session, SessionFault, SharedViews};
 use wl_snapshot::Snapshot;
 
 /// Parts, each so many times.
@@ -192,6 +193,54 @@ fn take_turns_by_index(rt: &impl Abort, alloc: Global, snapshot: &Snapshot, case
     );
 }
 
+/// What a turn with these views writes.
+fn write_with(
+    rt: &impl Abort,
+    alloc: Global,
+    views: &mut SharedViews,
+    snapshot: &Snapshot,
+    case: &Case,
+) -> Output
+    requires { MayShare snapshot.now views.old }
+    ensures { SharesOf snapshot.now views.old views.new }
+{
+    let mut session = fed(rt, alloc, case, Pieces::Whole);
+    let index = Index::build(alloc, snapshot.entries.part().as_slice()).expect(rt, "memory");
+    let mut out = Output::empty(alloc);
+    session
+        .turn_with(views, snapshot, &index, &mut out)
+        .expect(rt, "a turn");
+    out
+}
+
+/// Asserts that a turn writes what is due, also with the views of another publication, and with views that a turn before it
+/// shared.
+#[tactic(auto, using(wl_session::proofs::KeptViews::none_may_share, wl_session::proofs::KeptViews::others_may_share))]
+fn take_turns_sharing(
+    rt: &impl Abort,
+    alloc: Global,
+    first: &Snapshot,
+    other: &Snapshot,
+    case: &Case,
+)
+    requires { first.now.number < other.now.number }
+{
+    let mut views = SharedViews::new(alloc);
+    drop(write_with(rt, alloc, &mut views, other, case));
+    let out = write_with(rt, alloc, &mut views, first, case);
+    assert!(rt;
+        are_written(&out, case.answered),
+        "{}, of another publication",
+        case.name
+    );
+    let out = write_with(rt, alloc, &mut views, first, case);
+    assert!(rt;
+        are_written(&out, case.answered),
+        "{}, by shared views",
+        case.name
+    );
+}
+
 /// Asserts what each case writes, on the publication of the worked document.
 fn talk_all(rt: &impl Abort, alloc: Global, cases: &[Case]) {
     let snapshot = publication(rt, alloc, 1, State::Document);
@@ -219,6 +268,17 @@ fn calls_are_answered(rt: HostRuntime) {
 #[test]
 fn health_is_told(rt: HostRuntime) {
     talk_all(&rt, rt.alloc(), &HEALTH);
+}
+
+/// What connections share is of one publication.
+#[test]
+fn views_are_shared(rt: HostRuntime) {
+    let (rt, alloc) = (&rt, rt.alloc());
+    let first = publication(rt, alloc, 1, State::Document);
+    let other = publication(rt, alloc, 2, State::Renewed);
+    for case in &ANSWERS {
+        take_turns_sharing(rt, alloc, &first, &other, case);
+    }
 }
 
 /// A first response is as due where its request comes byte by byte.

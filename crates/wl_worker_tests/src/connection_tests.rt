@@ -16,7 +16,7 @@ use std::alloc::Global;
 use std::process::Abort;
 use std::sync::Wait;
 use wl_edge::{Gate, LinkPlan, MemoryLink, OpenGate};
-use wl_worker::{Ended, serve_connection};
+use wl_worker::{Ended, SeatPass, serve_connection};
 
 /// Serves a link that follows this plan, on a desk of its own: its end, and the link.
 fn serve<G: Gate, R: Wait + Abort>(
@@ -27,7 +27,8 @@ fn serve<G: Gate, R: Wait + Abort>(
     gate: &G,
 ) -> (Ended, MemoryLink) {
     let mut link = MemoryLink::start(alloc, plan).expect(rt, "memory");
-    let (desk, mut pass) = open(rt, alloc, 1).expect(rt, "a desk");
+    let (desk, pass) = open(rt, alloc, 1).expect(rt, "a desk");
+    let mut pass = SeatPass::new(alloc, pass);
     let end = serve_connection(
         rt,
         alloc,

@@ -11,8 +11,7 @@ use std::thread::{Threads, join};
 use wl_desk::Desk;
 use wl_edge::{BEFORE_TURN, Gate, MemoryLink};
 use wl_entry::Free;
-use wl_publish::Pass;
-use wl_worker::{Ended, serve_connection};
+use wl_worker::{Ended, SeatPass, serve_connection};
 
 /// A gate that meets another thread when the second turn is due, and again before it is let go on.
 #[derive(Drop)]
@@ -50,7 +49,7 @@ fn serve_beside<R: Wait>(
     alloc: Global,
     desk: &Mutex<Desk<Free>>,
     barrier: &Barrier,
-    pass: &mut Pass<Free>,
+    pass: &mut SeatPass<Free>,
     link: &mut MemoryLink,
     outside: &mut Outside,
 ) -> Ended {
@@ -80,7 +79,8 @@ fn rotate<R: Threads + Wait + Sync + Abort>(
     link: &mut MemoryLink,
 ) -> (bool, Ended) {
     let mut outside = memory_outside(alloc, 150, &[], &[]).expect(rt, "an outside");
-    let (desk, mut pass) = open(rt, alloc, 1).expect(rt, "a desk");
+    let (desk, pass) = open(rt, alloc, 1).expect(rt, "a desk");
+    let mut pass = SeatPass::new(alloc, pass);
     let barrier = Barrier::new(2);
     let both = join(
         rt,

@@ -19,7 +19,7 @@ use wl_edge::{
 use wl_entry::{Ask, Free, JwtToken, Signed};
 use wl_octets::{Octets, Row};
 use wl_publish::Pass;
-use wl_worker::{AskHub, Buffer, RoundEnd, SeatAsks, Served, TicketQueue, sign_next};
+use wl_worker::{AskHub, Buffer, RoundEnd, SeatAsks, SeatPass, Served, TicketQueue, sign_next};
 
 /// A PING, and its answer.
 pub const PING: &[u8] = b"\x00\x00\x08\x06\x00\x00\x00\x00\x00pingping";
@@ -40,7 +40,7 @@ struct Caller {
     link: MemoryLink,
     served: Served,
     buffer: Buffer,
-    pass: Pass<Free>,
+    pass: SeatPass<Free>,
 }
 
 impl Model for Caller {
@@ -215,7 +215,7 @@ fn start_caller(
         link: MemoryLink::start(alloc, plan).expect(rt, "memory"),
         served: Served::start(alloc).expect(rt, "memory"),
         buffer: Buffer::new(alloc).expect(rt, "memory"),
-        pass: pass.expect(rt, "a pass"),
+        pass: SeatPass::new(alloc, pass.expect(rt, "a pass")),
     }
 }
 
