@@ -12,6 +12,8 @@ mod loopback_tests;
 #[cfg(test)]
 mod many_tests;
 #[cfg(test)]
+mod rest_tests;
+#[cfg(test)]
 mod slow_tests;
 #[cfg(test)]
 mod tests;
