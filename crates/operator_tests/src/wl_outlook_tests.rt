@@ -77,8 +77,8 @@ fn is_shared<T: Send + Sync>(_value: &T) -> bool {
 fn judge_four(rt: &(impl AllocGlobal + Abort), outlook: &Arc<Outlook>) {
     let owner = Arc::try_clone(outlook).expect(rt, "owner");
     let mut judge = DocumentJudge::start(rt.alloc(), owner, OneName);
-    for document in [GOOD, GOOD, BAD, BAD] {
-        judge.note_document(document);
+    for (document, is_good) in [(GOOD, true), (GOOD, true), (BAD, false), (BAD, false)] {
+        assert_eq!(rt; judge.note_document(document), is_good);
     }
 }
 

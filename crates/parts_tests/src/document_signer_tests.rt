@@ -79,3 +79,22 @@ fn documents_give_identities(rt: HostRuntime) -> Result<(), Fail> {
     }
     Ok(())
 }
+
+/// An upstream may rest once the identities of its document are shared: not before the first pull, nor where a signer looked when a
+/// new document came.
+#[test]
+fn shared_documents_rest(rt: HostRuntime) -> Result<(), Fail> {
+    let alloc = rt.alloc();
+    let identities = share_identities(alloc)?;
+    let mut inner = upstream_of(alloc, &[(FIRST, [None; 2]), (SECOND, [None; 2])])?;
+    inner.rests = true;
+    let mut upstream = SharingUpstream::start(inner, alloc, Some(identities.clone()?));
+    assert!(rt; !upstream.is_unchanged());
+    let mut pulled = Octets::empty(alloc);
+    assert!(rt; upstream.pull(&mut pulled).is_ok() && upstream.is_unchanged());
+    let looking = identities.try_read();
+    assert!(rt; upstream.pull(&mut pulled).is_ok() && !upstream.is_unchanged());
+    drop(looking);
+    assert!(rt; upstream.pull(&mut pulled).is_ok() && upstream.is_unchanged());
+    Ok(())
+}

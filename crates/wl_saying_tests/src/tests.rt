@@ -210,6 +210,41 @@ fn failed_pulls_are_said_once(rt: HostRuntime) {
     drop(ours);
 }
 
+/// Whether an upstream of this document that has nothing new is unchanged before its first pull, and after it.
+fn rests(
+    rt: &(impl AllocGlobal + Abort),
+    outlook: &Arc<Outlook>,
+    document: &'static [u8],
+) -> [bool; 2] {
+    let alloc = rt.alloc();
+    let documents = row_of(
+        rt,
+        Octets::from_slice(alloc, document).expect(rt, "document"),
+    );
+    let mut inner = MemoryUpstream::start(alloc, Script::start(documents, Row::empty(alloc)));
+    inner.rests = true;
+    let noted = one_more(rt, outlook);
+    let mut saying = SayingUpstream::start(alloc, inner, noted, OneName).expect(rt, "upstream");
+    let before = saying.is_unchanged();
+    let mut into = Octets::empty(alloc);
+    saying.pull(&mut into).expect(rt, "document");
+    [before, saying.is_unchanged()]
+}
+
+/// A document at rest counts as one that was pulled and taken, which it was once. One that was refused doesn't rest.
+#[test]
+fn a_document_at_rest_is_counted(rt: HostRuntime) {
+    let (outlook, ours, theirs) = watched(&rt, &rt);
+    assert_eq!(rt; rests(&rt, &outlook, GOOD), [false, true]);
+    assert_eq!(rt; rests(&rt, &outlook, b"{}"), [false, false]);
+    let figures = outlook.figures().expect(&rt, "figures");
+    let (documents, age) = (figures.documents, figures.document_age);
+    drop(figures);
+    assert_eq!(rt; (documents.taken, documents.refused, age), (2, 1, Some(0)));
+    drop(ours);
+    drop(theirs);
+}
+
 /// Whether two asks for an identity fail, the third gives one, and one for a token fails.
 fn asks_twice_in_vain<S: Signer>(rt: &(impl AllocGlobal + Abort), signer: &mut S) -> bool {
     let ask = ask(rt);

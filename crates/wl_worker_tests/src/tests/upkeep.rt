@@ -1,17 +1,19 @@
 //! Documents, identities, and the loops of upkeep.
 
+ghost use Rattle.std.specs.Prelude.{◌≡◌};
+
 use super::documents::{DOC, FOREIGN, TWO};
 use super::gates::{Closing, Starved};
 use std::alloc::{AllocGlobal, Global};
 use std::process::Abort;
 use std::rt::Clock;
-use std::sync::atomic::Ordering;
+use std::sync::atomic::{AtomicU64, Ordering};
 use std::sync::{Arc, Mutex, Wait};
 use std::thread::{Threads, join_mut};
 use wl_desk::{Desk, last_snapshot};
 use wl_edge::{
-    BEFORE_KEEPING, BEFORE_UPKEEP, MemoryBell, MemoryClock, MemorySigner, MemoryUpstream, OpenGate,
-    Script, Signer, SignerCall,
+    BEFORE_KEEPING, BEFORE_UPKEEP, EdgeFault, MemoryBell, MemoryClock, MemorySigner,
+    MemoryUpstream, OpenGate, Script, Signer, SignerCall, Upstream,
 };
 use wl_entry::{Free, Signed};
 use wl_manager::Manager;
@@ -399,33 +401,80 @@ fn an_identity_that_is_due_at_once_rests(rt: HostRuntime) {
     were_asked(&rt, &signer, &[b"e1", b"e2", b"e2", b"e1"]);
 }
 
-/// Pulls beside so many seats, until there is none or the third round: how many pulls there were.
-fn pull<R: Wait + Abort>(rt: &R, alloc: Global, desk: &Mutex<Desk<Free>>) -> u64 {
-    let mut upstream = upstream(rt, alloc, &[DOC, TWO], 9);
+/// Pulls beside the seats of a desk, until there is none or the third round.
+fn pull<R: Wait + Abort, U: Upstream>(
+    rt: &R,
+    alloc: Global,
+    desk: &Mutex<Desk<Free>>,
+    upstream: &mut U,
+) {
     let mut clock = clock(rt, alloc, &[100]);
     let queue = TicketQueue::start(alloc, AskHub::start(alloc, 2, 2, 1).expect(rt, "memory"));
     let gate = Closing::start(rt, desk, BEFORE_UPKEEP, 3);
     let bells = [MemoryBell::start(), MemoryBell::start()];
-    pull_documents(
-        rt,
-        alloc,
-        desk,
-        &queue,
-        &mut upstream,
-        &mut clock,
-        &gate,
-        &bells,
-    );
+    pull_documents(rt, alloc, desk, &queue, upstream, &mut clock, &gate, &bells);
     drop(gate);
     queue.end();
-    upstream.number()
 }
 
 #[test]
 fn documents_are_pulled_until_no_seat_serves(rt: HostRuntime) {
+    let alloc = rt.alloc();
     for (seats, pulls) in [(0, 1), (1, 3)] {
-        let desk = open(&rt, rt.alloc(), DOC, seats);
-        assert_eq!(rt; pull(&rt, rt.alloc(), &desk), pulls);
+        let desk = open(&rt, alloc, DOC, seats);
+        let mut upstream = upstream(&rt, alloc, &[DOC, TWO], 9);
+        pull(&rt, alloc, &desk, &mut upstream);
+        assert_eq!(rt; upstream.number(), pulls);
         desk.into_inner().end(&rt);
     }
+}
+
+/// An upstream says in three rounds that nothing has changed. A document that is in use is pulled once; one that was refused, and one
+/// that did not come, are pulled again.
+#[test]
+fn a_document_at_rest_is_pulled_once(rt: HostRuntime) {
+    let alloc = rt.alloc();
+    for (document, failing, pulls) in [(DOC, 9, 1), (FOREIGN, 9, 3), (DOC, 0, 2)] {
+        let desk = open(&rt, alloc, DOC, 1);
+        let mut upstream = upstream(&rt, alloc, &[document], failing);
+        upstream.rests = true;
+        pull(&rt, alloc, &desk, &mut upstream);
+        assert_eq!(rt; upstream.number(), pulls);
+        desk.into_inner().end(&rt);
+    }
+}
+
+/// An upstream that says once that nothing has changed.
+#[derive(Drop)]
+struct Changing {
+    inner: MemoryUpstream,
+    asked: AtomicU64,
+}
+
+impl Upstream for Changing {
+    ghost told = { λ u. ⟦<MemoryUpstream as Upstream>⟧.told u.inner };
+
+    ghost faults = { λ u. ⟦<MemoryUpstream as Upstream>⟧.faults u.inner };
+
+    fn pull(&mut self, into: &mut Octets) -> Result<(), EdgeFault> {
+        self.inner.pull(into)
+    }
+
+    fn is_unchanged(&self) -> bool {
+        self.asked.fetch_add(1, Ordering::SeqCst) == 0
+    }
+}
+
+/// The first round pulls, the second rests, and the third pulls again.
+#[test]
+fn a_changed_document_is_pulled_again(rt: HostRuntime) {
+    let alloc = rt.alloc();
+    let desk = open(&rt, alloc, DOC, 1);
+    let mut upstream = Changing {
+        inner: upstream(&rt, alloc, &[DOC, TWO], 9),
+        asked: AtomicU64::new(0),
+    };
+    pull(&rt, alloc, &desk, &mut upstream);
+    assert_eq!(rt; upstream.inner.number(), 2);
+    desk.into_inner().end(&rt);
 }
