@@ -20,6 +20,8 @@ AGENTD = os.environ.get("AGENTD", str(HERE.parent.parent / "crates" / "agentd" /
 GO = {**os.environ, "GOPATH": "/usr/share/gocode", "GO111MODULE": "off"}
 DOMAIN = "example.org"
 SERVED, WAITING = 32, 68
+# how long a client waits for what comes
+SECONDS = 60
 # on four connections, each call of five frames or more of the client
 CALLS = 200_000
 SPKI = bytes.fromhex("3059301306072a8648ce3d020106082a8648ce3d030107034200") + bytes([4]) + bytes(range(64))
@@ -102,12 +104,12 @@ def processor_seconds(process):
     return (int(fields[11]) + int(fields[12])) / os.sysconf("SC_CLK_TCK")
 
 
-def serve(folder, source, poll):
+def serve(folder, source, poll, more={}):
     sockets = [{"path": str(folder / "web.sock"), "workers": SERVED, "selectors": ["socket:web"]}]
     place = {"upstream": str(folder / "authority.sock")} if source == "socket" else {"document": str(folder / "node.json")}
-    config = {"version": 1, **place, "signer": str(folder / "signer.sock"), "poll_seconds": poll, "sockets": sockets}
+    config = {"version": 1, **place, "signer": str(folder / "signer.sock"), "poll_seconds": poll, "sockets": sockets, **more}
     (folder / "agent.json").write_text(json.dumps(config))
-    process = subprocess.Popen([AGENTD, "serve", "agent.json"], cwd=folder, stdin=subprocess.DEVNULL)
+    process = subprocess.Popen([AGENTD, "serve", "agent.json"], cwd=folder, stdin=subprocess.DEVNULL, stderr=subprocess.DEVNULL)
     while not (folder / "web.sock").is_socket():
         time.sleep(0.01)
     return process
