@@ -43,12 +43,13 @@ class SlowOutside(many.Outside):
                 ask = json.loads(line)
                 if ask["kind"] == "jwt":
                     threading.Event().wait()
-                time.sleep(ASK_SECONDS)
-                begin = int(time.time())
+                came, begin = time.monotonic(), int(time.time())
                 end = begin + ask["ttl"]
                 chain, key = many.certificate(ask["spiffe_id"], begin, end), bytes(138)
+                answer = self.reply(ask, chain, key, begin, end)
+                time.sleep(max(0, came + ASK_SECONDS - time.monotonic()))
                 self.given += 1
-                peer.sendall(self.reply(ask, chain, key, begin, end))
+                peer.sendall(answer)
 
     def reply(self, ask, chain, key, begin, end):
         said = {"chain": base64.b64encode(chain).decode(), "key": base64.b64encode(key).decode(), "not_before": begin, "not_after": end}
